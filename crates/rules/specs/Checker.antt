@@ -1,0 +1,83 @@
+-- The check of a book and of a sheet, for a question read without fault.
+use mathlib.Core.Bool.{Bool, true, false, not, cond, _&&_, _||_}
+use mathlib.Core.List.{List, [], _∷_, _++_}
+use mathlib.Core.Option.{Option, none, some}
+use Prim.Native.Nat.{ℕ, zero, suc, _/_}
+use lib.Dec.{eqb}
+use lib.ListN.{length, getElem?, take, drop}
+use Rattle.types.specs.declared.answers.Checked.{Checked}
+use Rattle.types.specs.declared.answers.Checked.the-variants.{Accepted, Fails}
+use Rattle.types.specs.Limits as limit
+use Rattle.rules.specs.Lists.{any, same}
+use Rattle.rules.specs.Bytes.{fieldAt}
+use Rattle.rules.specs.Problem.{Clause, Problem}
+use Rattle.rules.specs.Meaning.{Assignment, clauseHolds}
+use Rattle.rules.specs.Lines.{Line, Variable, rational, boolean, positively, negatively, noConstraint, isEmpty}
+use Rattle.rules.specs.Resolve.{resolve}
+use Rattle.rules.specs.Steps.{Step, resolved, stepBytes}
+use Rattle.rules.specs.Elimination.{overflows, loadableOf}
+
+-- ---- a book
+-- "by a mark at most one parent has a condition"
+unfoldable pub pairable : Variable → Line → Line → Bool
+pairable (rational f) u l = true
+pairable (boolean i) u l = noConstraint (u .constraint) || noConstraint (l .constraint)
+
+-- "the result of two earlier lines, neither wide nor dropped by tidying, first parent positive"
+unfoldable pub derived : Variable → Option Line → Option Line → Option Line
+derived v none l = none
+derived v (some u) none = none
+derived v (some u) (some l) =
+    elim (positively v u && negatively v l && pairable v u l) [
+      | true ↦ elim (resolve v u l) [ none ↦ none | some m ↦ cond (overflows m) none (some m) ]
+      | false ↦ none
+    ]
+
+-- the figure or mark that 64 bytes name, and their parents' numbers
+unfoldable pub variableNamed : ℕ → ℕ → Option Variable
+variableNamed how which = cond (eqb how 1) (some (rational which)) (cond (eqb how 2) (some (boolean which)) none)
+
+-- the step that these bytes can only be if they are a result: its line is computed from its parents
+unfoldable pub resultNamed : List Line → List ℕ → Option Step
+resultNamed earlier bytes =
+    let first = fieldAt 2 2 bytes in
+    let second = fieldAt 4 2 bytes in
+    elim (variableNamed (fieldAt 0 1 bytes) (fieldAt 1 1 bytes)) [
+      | none ↦ none
+      | some v ↦ elim (derived v (getElem? earlier first) (getElem? earlier second)) [
+        | none ↦ none
+        | some l ↦ some (record { origin = resolved v first second; line = l })
+      ]
+    ]
+
+-- the first of these steps whose 64 bytes they are
+unfoldable pub lineAmong : List Step → List ℕ → Option Line
+lineAmong [] bytes = none
+lineAmong (s ∷ ss) bytes = elim (same eqb (stepBytes s) bytes) [ true ↦ some (s .line) | false ↦ lineAmong ss bytes ]
+
+-- "A book's line follows if all 64 bytes are a loaded piece, or the result of two earlier lines": the line that they state
+unfoldable pub follows : List Step → List Line → List ℕ → Option Line
+follows parts earlier bytes =
+    elim (lineAmong parts bytes) [
+      | some l ↦ some l
+      | none ↦ elim (resultNamed earlier bytes) [ none ↦ none | some s ↦ lineAmong (s ∷ []) bytes ]
+    ]
+
+-- k lines are left, `earlier` follow, and `ends` says whether the last of those is empty:
+-- "accepted, or the first failing line, the line count if only the empty end is missing"
+unfoldable pub checkSteps : List Step → ℕ → List Line → Bool → List ℕ → Checked
+checkSteps parts zero earlier ends bytes = cond ends Accepted (Fails (length earlier))
+checkSteps parts (suc k) earlier ends bytes =
+    elim (follows parts earlier (take limit.stepBytes bytes)) [
+      | none ↦ Fails (length earlier)
+      | some l ↦ checkSteps parts k (earlier ++ (l ∷ [])) (isEmpty l) (drop limit.stepBytes bytes)
+    ]
+
+unfoldable pub checkProof : Problem → List ℕ → Checked
+checkProof p bytes = checkSteps (loadableOf p) (length bytes / limit.stepBytes) [] false bytes
+
+-- ---- a sheet
+-- "accepted, or the first clause that fails", from clause k on
+unfoldable pub checkClauses : Assignment → ℕ → List Clause → Checked
+checkClauses χ k [] = Accepted
+checkClauses χ k (c ∷ cs) = elim (clauseHolds χ c) [ true ↦ checkClauses χ (suc k) cs | false ↦ Fails k ]

@@ -1,0 +1,99 @@
+-- A line's content, its figures and marks, and when it holds: of one type for loaded pieces, results and what a book states.
+use mathlib.Core.Bool.{Bool, true, false, not, _&&_, _||_, Bool·beq}
+use mathlib.Core.List.{List, [], _∷_}
+use mathlib.Core.Option.{Option, none, some}
+use Prim.Native.Nat.{ℕ, zero, suc}
+use lib.IntN.{ℤ, pos}
+use lib.ListN.{getD, replicate, set}
+use Rattle.rules.specs.Lists.{any, same}
+use Rattle.rules.specs.Arithmetic.{isPositive, isNegative, equal}
+use Rattle.rules.specs.Problem.{Constraint}
+use Rattle.rules.specs.Meaning.{Assignment, constraintHolds}
+
+-- a set of marks, the question's and the links: mark i is a member if place i says so. There are 32 places.
+abbrev pub Booleans : Type 0
+Booleans = List Bool
+
+unfoldable pub noBooleans : Booleans
+noBooleans = replicate 32 false
+
+unfoldable pub including : ℕ → Booleans → Booleans
+including i s = set s i true
+
+unfoldable pub excluding : ℕ → Booleans → Booleans
+excluding i s = set s i false
+
+unfoldable pub union : Booleans → Booleans → Booleans
+union [] t = t
+union (a ∷ s) [] = a ∷ s
+union (a ∷ s) (b ∷ t) = (a || b) ∷ union s t
+
+-- some mark is a member of both
+unfoldable pub meet : Booleans → Booleans → Bool
+meet [] t = false
+meet (a ∷ s) [] = false
+meet (a ∷ s) (b ∷ t) = a && b || meet s t
+
+-- positive marks, negative marks, and at most one condition
+pub record Line : Type 0 where
+  pub positive : Booleans
+  pub negative : Booleans
+  pub constraint : Option Constraint
+
+-- ---- when it holds
+-- some member is yes under the choice
+unfoldable pub someYes : Booleans → (ℕ → Bool) → Bool
+someYes [] choice = false
+someYes (a ∷ s) choice = a && choice 0 || someYes s (λ i. choice (suc i))
+
+unfoldable pub aLiteralHolds : Assignment → Line → Bool
+aLiteralHolds χ l = someYes (l .positive) (χ .booleans) || someYes (l .negative) (λ i. not (χ .booleans i))
+
+unfoldable pub theConstraintHolds : Assignment → Option Constraint → Bool
+theConstraintHolds χ none = false
+theConstraintHolds χ (some c) = constraintHolds χ c
+
+unfoldable pub lineHolds : Assignment → Line → Bool
+lineHolds χ l = aLiteralHolds χ l || theConstraintHolds χ (l .constraint)
+
+-- ---- its variables
+-- a figure or a mark, by its number
+pub data Variable : Type 0 where
+  rational : ℕ → Variable
+  boolean : ℕ → Variable
+
+-- a figure's coefficient, 0 without a condition
+unfoldable pub coefficient : ℕ → Option Constraint → ℤ
+coefficient f none = pos 0
+coefficient f (some c) = getD (c .coefficients) f (pos 0)
+
+-- the line has it positive (a figure: an upper bound), negative, or either
+unfoldable pub positively : Variable → Line → Bool
+positively (rational f) l = isPositive (coefficient f (l .constraint))
+positively (boolean i) l = getD (l .positive) i false
+
+unfoldable pub negatively : Variable → Line → Bool
+negatively (rational f) l = isNegative (coefficient f (l .constraint))
+negatively (boolean i) l = getD (l .negative) i false
+
+unfoldable pub contains : Variable → Line → Bool
+contains v l = positively v l || negatively v l
+
+-- ---- its form
+-- "A line is empty if it has no literal and no condition."
+unfoldable pub noConstraint : Option Constraint → Bool
+noConstraint none = true
+noConstraint (some c) = false
+
+unfoldable pub isEmpty : Line → Bool
+isEmpty l = not (any (λ a. a) (l .positive)) && not (any (λ a. a) (l .negative)) && noConstraint (l .constraint)
+
+-- "equals an earlier line in relation, marks, coefficients and bound"
+unfoldable pub sameConstraint : Option Constraint → Option Constraint → Bool
+sameConstraint none none = true
+sameConstraint none (some d) = false
+sameConstraint (some c) none = false
+sameConstraint (some c) (some d) = equal (c .bound) (d .bound) && Bool·beq (c .strict) (d .strict) && same equal (c .coefficients) (d .coefficients)
+
+unfoldable pub sameLine : Line → Line → Bool
+sameLine l m = sameConstraint (l .constraint) (m .constraint) && same Bool·beq (l .positive) (m .positive) && same Bool·beq (l .negative) (m .negative)

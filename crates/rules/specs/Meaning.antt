@@ -1,0 +1,33 @@
+-- The question's meaning: when a choice of marks and of rational figures satisfies it.
+use mathlib.Core.Bool.{Bool, true, false, not, cond, _||_}
+use mathlib.Core.List.{List}
+use Prim.Native.Nat.{ℕ, _≤_}
+use lib.IntN.{ℤ, pos, _*ℤ_}
+use lib.Dec.{T}
+use Rattle.rules.specs.Lists.{any, all}
+use Rattle.rules.specs.Arithmetic.{sum, related}
+use Rattle.rules.specs.Problem.{Literal, Constraint, Clause, Problem}
+
+-- a choice: a yes or no for each mark, a whole numerator for each figure, and one whole denominator, of any size; what stands
+-- beyond a question's marks and figures is never looked at
+pub record Assignment : Type 0 where
+  pub booleans : ℕ → Bool
+  pub numerators : ℕ → ℤ
+  pub denominator : ℕ
+
+-- "a literal holds if its mark is yes, a negated one if it is no"
+unfoldable pub literalHolds : Assignment → Literal → Bool
+literalHolds χ l = cond (l .negated) (not (χ .booleans (l .boolean))) (χ .booleans (l .boolean))
+
+-- "a condition then compares the sum of coefficient × numerator with bound × denominator"
+unfoldable pub constraintHolds : Assignment → Constraint → Bool
+constraintHolds χ c = related (c .strict) (sum (c .coefficients) (χ .numerators)) (c .bound *ℤ pos (χ .denominator))
+
+-- "A clause holds if one literal or condition holds"
+unfoldable pub clauseHolds : Assignment → Clause → Bool
+clauseHolds χ c = any (literalHolds χ) (c .literals) || any (constraintHolds χ) (c .constraints)
+
+-- "one whole denominator of at least 1"; "a choice satisfies the question if every clause holds"
+pub record Satisfies (χ : Assignment) (p : Problem) : Type 0 where
+  pub denominator : 1 ≤ χ .denominator
+  pub clauses : T (all (clauseHolds χ) (p .clauses))

@@ -1,0 +1,28 @@
+-- Questions written clause by clause, as the examples do, to their bytes.
+use mathlib.Core.List.{List, [], _∷_, _++_}
+use Prim.Native.Nat.{ℕ}
+use lib.IntN.{ℤ}
+use lib.ListN.{length}
+use Rattle.rules.specs.Bytes.{toBytes, amountBytes}
+
+abbrev pub concat : List (List ℕ) → List ℕ
+concat [] = []
+concat (x ∷ xs) = x ++ concat xs
+
+-- a condition: relation byte, coefficients, bound
+abbrev pub atMost : List ℤ → ℤ → List ℕ
+atMost cs k = 1 ∷ amountBytes cs ++ amountBytes (k ∷ [])
+
+abbrev pub below : List ℤ → ℤ → List ℕ
+below cs k = 2 ∷ amountBytes cs ++ amountBytes (k ∷ [])
+
+-- a clause of literal bytes and conditions; of one condition alone
+abbrev pub clauseOf : List ℕ → List (List ℕ) → List ℕ
+clauseOf literals conditions = length literals ∷ literals ++ (length conditions ∷ concat conditions)
+
+abbrev pub alone : List ℕ → List ℕ
+alone condition = clauseOf [] (condition ∷ [])
+
+-- b, r, and the clauses after their count
+abbrev pub question : ℕ → ℕ → List (List ℕ) → List ℕ
+question b r clauses = b ∷ r ∷ toBytes 2 (length clauses) ++ concat clauses

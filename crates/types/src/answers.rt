@@ -1,0 +1,54 @@
+// The answers of document 01's calls. Each case has a number, stated in specs/Answers.antt, by which C is told.
+
+// A refusal of document 01's table, 1 to 17.
+pub enum Refusal {
+    ShortProof,
+    ShortModel,
+    LongProblem,
+    Truncated,
+    Booleans,
+    Rationals,
+    Clauses,
+    Literal,
+    Constraints,
+    Relation,
+    Amount,
+    Trailing,
+    Splits,
+    Overflow,
+    OutOfSteps,
+    ProofLength,
+    BadModel,
+}
+
+// What solving found: agrees, cannot agree, unwritten.
+pub enum Verdict {
+    Satisfiable,
+    Unsatisfiable,
+    Unwritten,
+}
+
+// A verdict with the steps of the proof, or a refusal with its place.
+pub enum Answer {
+    Decided(Verdict, usize),
+    Refused(Refusal, usize),
+}
+
+// What solving returns: its answer, and the pairs tried.
+pub struct Solved {
+    pub answer: Answer,
+    pub pairs: u64,
+}
+
+// What a check returns: accepted, the first step or clause that fails, or a refusal with its place.
+pub enum Checked {
+    Accepted,
+    Fails(usize),
+    Refused(Refusal, usize),
+}
+
+// What is handed back: the first so many bytes of the lent proof or of the lent model.
+pub enum Part {
+    OfProof(usize),
+    OfModel(usize),
+}

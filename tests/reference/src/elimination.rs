@@ -1,0 +1,261 @@
+//! The elimination: loading, then one round for every figure and every mark, each pairing the
+//! lines with it positive and the lines with it negative, after the published rules of Davis and
+//! Putnam and of Fourier and Motzkin. 01's "The book" and "The course".
+
+use crate::normalize::{normalize, split, Body};
+use crate::problem::{Constraint, Literals, Problem, Relation, MAX_AMOUNT};
+
+pub const MAX_STEPS: usize = 1_024;
+pub const STEP_LENGTH: usize = 64;
+pub const PROOF_LENGTH: usize = MAX_STEPS * STEP_LENGTH;
+pub const ROUNDS: usize = 40;
+
+/// What a round removes: a figure, or a mark or link.
+#[derive(Clone, Copy, Debug, PartialEq, Eq)]
+pub enum Variable {
+    Rational(usize),
+    Boolean(usize),
+}
+
+/// Where a line comes from: 01's how, which, first and second.
+#[derive(Clone, Copy, Debug, PartialEq, Eq)]
+pub enum Origin {
+    Loaded {
+        clause: u16,
+        part: u16,
+    },
+    Resolved {
+        variable: Variable,
+        first: u16,
+        second: u16,
+    },
+}
+
+/// 01's line of the book.
+#[derive(Clone, Copy, Debug)]
+pub struct Step {
+    pub origin: Origin,
+    pub body: Body,
+}
+
+/// How a course ends; all but the first are left early.
+#[derive(Clone, Copy, Debug, PartialEq, Eq)]
+pub enum End {
+    Saturated,
+    Empty,
+    Overflow,
+    OutOfSteps,
+}
+
+/// A course that has ended: the lines it holds and the pairs it has tried.
+pub struct Elimination {
+    pub steps: Vec<Step>,
+    pub pairs: u64,
+    pub end: End,
+}
+
+/// The figure or mark of a turn; none from turn 40 on.
+pub fn round_variable(round: usize) -> Option<Variable> {
+    match round {
+        0..=7 => Some(Variable::Rational(round)),
+        8..=39 => Some(Variable::Boolean(round - 8)),
+        _ => None,
+    }
+}
+
+impl Body {
+    /// A line without literal and condition.
+    pub fn is_empty(&self) -> bool {
+        self.literals == Literals::default() && self.constraint.is_none()
+    }
+
+    /// 01's wide: some amount is beyond the limit.
+    pub fn overflows(&self) -> bool {
+        self.constraint.is_some_and(|constraint| {
+            let mut amounts = constraint.coefficients.iter().chain([&constraint.bound]);
+            amounts.any(|amount| amount.abs() > MAX_AMOUNT)
+        })
+    }
+
+    /// 1 if the line contains the variable positively, -1 if negatively, 0 if not at all.
+    pub fn sign(&self, variable: Variable) -> i64 {
+        match variable {
+            Variable::Rational(i) => self
+                .constraint
+                .map_or(0, |constraint| constraint.coefficients[i].signum()),
+            Variable::Boolean(i) if self.literals.positive >> i & 1 == 1 => 1,
+            Variable::Boolean(i) if self.literals.negative >> i & 1 == 1 => -1,
+            Variable::Boolean(_) => 0,
+        }
+    }
+
+    /// The turn the line belongs to: the earliest whose variable it contains. An empty line
+    /// belongs to none.
+    pub fn round(&self) -> Option<usize> {
+        (0..ROUNDS)
+            .find(|&round| round_variable(round).is_some_and(|variable| self.sign(variable) != 0))
+    }
+}
+
+/// The tidied result of a pair, `upper` with the variable positive and `lower` with it negative.
+/// None if tidying drops it, or if by a mark both lines have a condition.
+pub fn resolve(variable: Variable, upper: &Body, lower: &Body) -> Option<Body> {
+    let mut literals = Literals {
+        positive: upper.literals.positive | lower.literals.positive,
+        negative: upper.literals.negative | lower.literals.negative,
+    };
+    let constraint = match variable {
+        Variable::Rational(i) => Some(combine(i, &upper.constraint?, &lower.constraint?)),
+        Variable::Boolean(i) => {
+            literals.positive &= !(1 << i);
+            literals.negative &= !(1 << i);
+            match (upper.constraint, lower.constraint) {
+                (Some(_), Some(_)) => return None,
+                (one, other) => one.or(other),
+            }
+        }
+    };
+    let normal = normalize(literals, constraint.as_slice())?;
+    Some(Body {
+        literals: normal.literals,
+        constraint: normal.constraints.first().copied(),
+    })
+}
+
+/// c × upper + a × lower. Amounts of lines are at most 10^9 in size, so this fits 64 bits.
+fn combine(variable: usize, upper: &Constraint, lower: &Constraint) -> Constraint {
+    let a = upper.coefficients[variable];
+    let c = lower.coefficients[variable].abs();
+    let strict = upper.relation == Relation::Below || lower.relation == Relation::Below;
+    Constraint {
+        relation: match strict {
+            true => Relation::Below,
+            false => Relation::AtMost,
+        },
+        coefficients: std::array::from_fn(|i| {
+            c * upper.coefficients[i] + a * lower.coefficients[i]
+        }),
+        bound: c * upper.bound + a * lower.bound,
+    }
+}
+
+impl Step {
+    /// The line's 64 bytes.
+    pub fn encode(&self) -> [u8; STEP_LENGTH] {
+        let (how, which, first, second) = match self.origin {
+            Origin::Loaded { clause, part } => (0, 0, clause, part),
+            Origin::Resolved {
+                variable,
+                first,
+                second,
+            } => match variable {
+                Variable::Rational(i) => (1, i as u8, first, second),
+                Variable::Boolean(i) => (2, i as u8, first, second),
+            },
+        };
+        let mut bytes = [0; STEP_LENGTH];
+        bytes[0] = how;
+        bytes[1] = which;
+        bytes[2..4].copy_from_slice(&first.to_le_bytes());
+        bytes[4..6].copy_from_slice(&second.to_le_bytes());
+        bytes[8..12].copy_from_slice(&self.body.literals.positive.to_le_bytes());
+        bytes[12..16].copy_from_slice(&self.body.literals.negative.to_le_bytes());
+        if let Some(constraint) = self.body.constraint {
+            bytes[6] = match constraint.relation {
+                Relation::AtMost => 1,
+                Relation::Below => 2,
+            };
+            let amounts = constraint.coefficients.iter().chain([&constraint.bound]);
+            for (field, &amount) in bytes[16..52].chunks_exact_mut(4).zip(amounts) {
+                field.copy_from_slice(&(amount as i32).to_le_bytes());
+            }
+        }
+        bytes
+    }
+}
+
+/// Runs the course of a problem to its end.
+pub fn eliminate(problem: &Problem) -> Elimination {
+    let mut elimination = Elimination {
+        steps: Vec::new(),
+        pairs: 0,
+        end: End::Saturated,
+    };
+    if let Err(end) = elimination.run(problem) {
+        elimination.end = end;
+    }
+    elimination
+}
+
+impl Elimination {
+    fn run(&mut self, problem: &Problem) -> Result<(), End> {
+        for part in split(problem) {
+            let origin = Origin::Loaded {
+                clause: part.clause,
+                part: part.part,
+            };
+            self.add(origin, part.body)?;
+        }
+        (0..ROUNDS).try_for_each(|round| self.round(round))
+    }
+
+    /// Pairs the turn's lines; no result belongs to the turn, so these are known at its start.
+    fn round(&mut self, round: usize) -> Result<(), End> {
+        let Some(variable) = round_variable(round) else {
+            return Ok(());
+        };
+        let uppers = self.members(round, variable, 1);
+        let lowers = self.members(round, variable, -1);
+        for &first in &uppers {
+            for &second in &lowers {
+                self.pair(variable, first, second)?;
+            }
+        }
+        Ok(())
+    }
+
+    /// The numbers of the turn's lines with its variable in this sign.
+    fn members(&self, round: usize, variable: Variable, sign: i64) -> Vec<usize> {
+        let belongs = |body: &Body| body.round() == Some(round) && body.sign(variable) == sign;
+        (0..self.steps.len())
+            .filter(|&number| belongs(&self.steps[number].body))
+            .collect()
+    }
+
+    fn pair(&mut self, variable: Variable, first: usize, second: usize) -> Result<(), End> {
+        self.pairs += 1;
+        let (upper, lower) = (&self.steps[first].body, &self.steps[second].body);
+        let Some(body) = resolve(variable, upper, lower) else {
+            return Ok(());
+        };
+        let origin = Origin::Resolved {
+            variable,
+            first: first as u16,
+            second: second as u16,
+        };
+        self.add(origin, body)
+    }
+
+    /// Adds a tidied line, unless it ends the course or equals an earlier one.
+    fn add(&mut self, origin: Origin, body: Body) -> Result<(), End> {
+        if body.overflows() {
+            return Err(End::Overflow);
+        }
+        if self.has_equal(&body) {
+            return Ok(());
+        }
+        if self.steps.len() == MAX_STEPS {
+            return Err(End::OutOfSteps);
+        }
+        self.steps.push(Step { origin, body });
+        match body.is_empty() {
+            true => Err(End::Empty),
+            false => Ok(()),
+        }
+    }
+
+    /// A plain search through all lines.
+    fn has_equal(&self, body: &Body) -> bool {
+        self.steps.iter().any(|step| step.body == *body)
+    }
+}

@@ -1,0 +1,103 @@
+//! The second solver: document 01 written once more, in plain Rust and from its text alone, to
+//! judge the proved one from outside. Every call here takes any bytes and buffers of any length.
+
+pub mod big;
+mod checker;
+mod elimination;
+mod evidence;
+mod fraction;
+mod model;
+mod normalize;
+mod print;
+mod problem;
+
+pub use checker::{check_book, check_sheet, Checked};
+pub use evidence::{hand_back, Part};
+pub use print::print;
+pub use problem::{read, Fault, Problem};
+
+use elimination::{eliminate, Elimination, End, Step, PROOF_LENGTH, STEP_LENGTH};
+use model::{model, MODEL_LENGTH};
+
+/// 01's verdicts: satisfiable, unsatisfiable, and satisfiable without a sheet.
+#[derive(Clone, Copy, Debug, PartialEq, Eq)]
+pub enum Verdict {
+    Agrees,
+    Cannot,
+    Unwritten,
+}
+
+/// What solving returns: a verdict, or a refusal by 01's table.
+#[derive(Clone, Copy, Debug, PartialEq, Eq)]
+pub enum Answer {
+    Verdict {
+        verdict: Verdict,
+        lines: usize,
+        pairs: u64,
+    },
+    Refused {
+        number: u8,
+        place: usize,
+        pairs: u64,
+    },
+}
+
+/// Solves a question; book and sheet are left as 01's "What each call says" has them.
+pub fn solve(question: &[u8], book: &mut [u8], sheet: &mut [u8]) -> Answer {
+    let refused = |number, place| Answer::Refused {
+        number,
+        place,
+        pairs: 0,
+    };
+    if book.len() < PROOF_LENGTH {
+        return refused(1, 0);
+    }
+    if sheet.len() < MODEL_LENGTH {
+        return refused(2, 0);
+    }
+    match read(question) {
+        Ok(problem) => answer(&problem, &eliminate(&problem), book, sheet),
+        Err(Fault { number, place }) => refused(number, place),
+    }
+}
+
+/// The answer after the course, written into full-size buffers.
+fn answer(problem: &Problem, course: &Elimination, book: &mut [u8], sheet: &mut [u8]) -> Answer {
+    let found = match course.end {
+        End::Saturated => model(problem, &course.steps),
+        End::Empty => None,
+        End::Overflow => return refuse(14, course, book),
+        End::OutOfSteps => return refuse(15, course, book),
+    };
+    let verdict = match (course.end, found) {
+        (End::Empty, _) => Verdict::Cannot,
+        (_, Some(_)) => Verdict::Agrees,
+        (_, None) => Verdict::Unwritten,
+    };
+    write_proof(&course.steps, book);
+    sheet[..MODEL_LENGTH].copy_from_slice(&found.unwrap_or([0; MODEL_LENGTH]));
+    Answer::Verdict {
+        verdict,
+        lines: course.steps.len(),
+        pairs: course.pairs,
+    }
+}
+
+/// A refused course: the book's lines are zeroed, the sheet is left.
+fn refuse(number: u8, course: &Elimination, book: &mut [u8]) -> Answer {
+    write_proof(&[], book);
+    Answer::Refused {
+        number,
+        place: course.steps.len(),
+        pairs: course.pairs,
+    }
+}
+
+/// Writes the used lines and zeroes the unused ones.
+fn write_proof(steps: &[Step], book: &mut [u8]) {
+    let (used, unused) = book[..PROOF_LENGTH].split_at_mut(steps.len() * STEP_LENGTH);
+    for (line, step) in used.chunks_exact_mut(STEP_LENGTH).zip(steps) {
+        line.copy_from_slice(&step.encode());
+    }
+    unused.fill(0);
+}

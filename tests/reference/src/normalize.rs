@@ -1,0 +1,124 @@
+//! Tidying a clause and splitting it into pieces by links: 01's "Tidying a clause". The same
+//! tidying is applied to every result of the course.
+
+use crate::problem::{Constraint, Literals, Problem, Relation};
+
+/// A tidied clause; a dropped one is no clause at all.
+pub struct Normal {
+    pub literals: Literals,
+    pub constraints: Vec<Constraint>,
+}
+
+/// What a line says: literals and at most one condition. Two lines are equal if these are.
+#[derive(Clone, Copy, Debug, PartialEq, Eq)]
+pub struct Body {
+    pub literals: Literals,
+    pub constraint: Option<Constraint>,
+}
+
+/// 01's piece of a tidied clause, with the numbers of both.
+pub struct ClausePart {
+    pub clause: u16,
+    pub part: u16,
+    pub body: Body,
+}
+
+/// A tidied condition: a constant that is true or false, or one divided by the greatest common
+/// divisor of its amounts.
+enum NormalConstraint {
+    Always,
+    Never,
+    Sometimes(Constraint),
+}
+
+/// Tidies a clause; none if it is dropped.
+pub fn normalize(literals: Literals, constraints: &[Constraint]) -> Option<Normal> {
+    if literals.positive & literals.negative != 0 {
+        return None;
+    }
+    let mut kept = Vec::with_capacity(constraints.len());
+    for constraint in constraints {
+        match normalize_constraint(constraint) {
+            NormalConstraint::Always => return None,
+            NormalConstraint::Never => {}
+            NormalConstraint::Sometimes(constraint) => kept.push(constraint),
+        }
+    }
+    Some(Normal {
+        literals,
+        constraints: kept,
+    })
+}
+
+fn normalize_constraint(constraint: &Constraint) -> NormalConstraint {
+    let divisor = constraint.coefficients.iter().copied().fold(0, gcd);
+    if divisor == 0 {
+        let holds = match constraint.relation {
+            Relation::AtMost => 0 <= constraint.bound,
+            Relation::Below => 0 < constraint.bound,
+        };
+        return match holds {
+            true => NormalConstraint::Always,
+            false => NormalConstraint::Never,
+        };
+    }
+    let divisor = gcd(divisor, constraint.bound);
+    NormalConstraint::Sometimes(Constraint {
+        relation: constraint.relation,
+        coefficients: constraint.coefficients.map(|amount| amount / divisor),
+        bound: constraint.bound / divisor,
+    })
+}
+
+/// The greatest common divisor, never negative; that of 0 and 0 is 0.
+fn gcd(a: i64, b: i64) -> i64 {
+    let (mut a, mut b) = (a.abs(), b.abs());
+    while b != 0 {
+        (a, b) = (b, a % b);
+    }
+    a
+}
+
+/// The pieces of all tidied clauses, in the order in which they load. Links are numbered from b
+/// upward; a problem read without fault has at most 32 marks and links together.
+pub fn split(problem: &Problem) -> Vec<ClausePart> {
+    let mut parts = Vec::new();
+    let mut link = usize::from(problem.booleans);
+    for (clause, written) in (0..).zip(&problem.clauses) {
+        let Some(normal) = normalize(written.literals, &written.constraints) else {
+            continue;
+        };
+        for (part, body) in (0..).zip(split_clause(&normal, link)) {
+            parts.push(ClausePart { clause, part, body });
+        }
+        link += normal.constraints.len().saturating_sub(1);
+    }
+    parts
+}
+
+/// The pieces of one clause; its links are numbered from `link` upward.
+fn split_clause(normal: &Normal, link: usize) -> Vec<Body> {
+    let Some(last) = normal.constraints.len().checked_sub(1) else {
+        return vec![Body {
+            literals: normal.literals,
+            constraint: None,
+        }];
+    };
+    let piece = |(i, constraint): (usize, &Constraint)| {
+        let mut literals = match i {
+            0 => normal.literals,
+            _ => Literals {
+                positive: 0,
+                negative: 1 << (link + i - 1),
+            },
+        };
+        if i < last {
+            literals.positive |= 1 << (link + i);
+        }
+        Body {
+            literals,
+            constraint: Some(*constraint),
+        }
+    };
+    normal.constraints.iter().enumerate().map(piece).collect()
+}

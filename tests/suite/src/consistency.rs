@@ -1,0 +1,102 @@
+//! Random problems: every verdict is judged without the elimination. A sheet must satisfy the
+//! problem by the suite's own arithmetic; after "cannot agree" a search of a grid of assignments
+//! must find none. The checks must accept what solving wrote.
+
+use crate::buffers::{read_sheet, solve_filled, Solved};
+use crate::problem::{Assignment, Problem};
+use crate::random::Random;
+use crate::report::{demand, equal, Group, Outcome, Sums};
+use reference::{check_book, check_sheet, Answer, Checked, Verdict};
+
+const CASES: usize = 20_000;
+const SEED: u64 = 1;
+
+/// How often each answer came: agrees, cannot agree, unwritten, refused.
+type Tally = [usize; 4];
+
+pub fn run(sums: &mut Sums) {
+    let mut group = Group::new("random questions");
+    let mut random = Random::new(SEED);
+    let mut tally = Tally::default();
+    for number in 0..CASES {
+        let problem = random.problem();
+        let name = format!("number {number}");
+        group.case(&name, || check_problem(&problem, &mut tally));
+    }
+    group.case("each answer comes often", || {
+        let often = tally.iter().all(|&count| count >= 50);
+        demand(often, &format!("answers came {tally:?} times"))
+    });
+    group.finish(sums);
+}
+
+fn check_problem(problem: &Problem, tally: &mut Tally) -> Outcome {
+    let question = problem.encode();
+    let solved = solve_filled(&question);
+    solved.check_buffers()?;
+    match solved.answer {
+        Answer::Verdict {
+            verdict,
+            lines,
+            pairs,
+        } => {
+            demand(
+                lines <= 1_024 && pairs <= 262_144,
+                "too many lines or pairs",
+            )?;
+            tally[verdict as usize] += 1;
+            match verdict {
+                Verdict::Agrees => check_agrees(problem, &question, &solved),
+                Verdict::Cannot => check_cannot(problem, &question, &solved),
+                Verdict::Unwritten => Ok(()),
+            }
+        }
+        Answer::Refused { number, .. } => {
+            tally[3] += 1;
+            demand((13..=15).contains(&number), "an unexpected fault")
+        }
+    }
+}
+
+fn check_agrees(problem: &Problem, question: &[u8], solved: &Solved) -> Outcome {
+    let model = read_sheet(problem.booleans, problem.rationals, solved.sheet())
+        .map_err(|place| format!("the sheet is bad at byte {place}"))?;
+    let assignment = Assignment {
+        booleans: model.booleans,
+        denominator: model.denominator,
+        numerators: &model.numerators,
+    };
+    equal("failing clause", &None, &problem.first_failing(&assignment))?;
+    let checked = check_sheet(question, solved.sheet());
+    equal("check of the sheet", &Checked::Accepted, &checked)
+}
+
+fn check_cannot(problem: &Problem, question: &[u8], solved: &Solved) -> Outcome {
+    demand(!satisfied_on_grid(problem), "an assignment satisfies it")?;
+    let checked = check_book(question, solved.used());
+    equal("check of the book", &Checked::Accepted, &checked)
+}
+
+/// Searches all marks, with every figure from -6 to 6 or half of such a number.
+fn satisfied_on_grid(problem: &Problem) -> bool {
+    let halves: Vec<i64> = (-12..=12i64)
+        .filter(|n| n % 2 == 0 || n.abs() <= 6)
+        .collect();
+    let rationals = u32::from(problem.rationals);
+    let mut numerators = vec![0; rationals as usize];
+    (0..halves.len().pow(rationals)).any(|point| {
+        let mut rest = point;
+        for numerator in &mut numerators {
+            *numerator = halves[rest % halves.len()];
+            rest /= halves.len();
+        }
+        (0..1 << problem.booleans).any(|booleans| {
+            let assignment = Assignment {
+                booleans,
+                denominator: 2,
+                numerators: &numerators,
+            };
+            problem.first_failing(&assignment).is_none()
+        })
+    })
+}

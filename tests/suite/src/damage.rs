@@ -1,0 +1,162 @@
+//! Damaged books, sheets and questions: the checks must never panic, never accept a book for a
+//! problem that has a model, and name the line or clause that fails.
+
+use crate::buffers::{read_sheet, solve_filled, Solved, LINE_LENGTH, SHEET_LENGTH};
+use crate::problem::{Assignment, Problem};
+use crate::random::Random;
+use crate::report::{demand, equal, Group, Outcome, Sums};
+use reference::{check_book, check_sheet, Answer, Checked, Verdict};
+
+const SEED: u64 = 3;
+/// So many problems of either verdict, each with at most so many lines.
+const PROBLEMS: usize = 200;
+const MAX_LINES: usize = 24;
+
+pub fn run(sums: &mut Sums) {
+    let mut group = Group::new("damaged books and sheets");
+    let mut random = Random::new(SEED);
+    let refuted = problems(Verdict::Cannot, &mut random);
+    let satisfied = problems(Verdict::Agrees, &mut random);
+    for (i, (problem, solved)) in refuted.iter().enumerate() {
+        let question = problem.encode();
+        let book = solved.used();
+        group.case(&format!("book {i}"), || damaged_book(&question, book));
+        group.case(&format!("question of book {i}"), || {
+            damaged_question(&question, book)
+        });
+    }
+    for (i, (problem, solved)) in satisfied.iter().enumerate() {
+        let book = solved.used();
+        group.case(&format!("forged end {i}"), || {
+            forged_end(&problem.encode(), book)
+        });
+        group.case(&format!("sheet {i}"), || {
+            damaged_sheet(problem, solved.sheet())
+        });
+    }
+    group.finish(sums);
+}
+
+/// Random problems with this verdict and a short book of some lines.
+fn problems(wanted: Verdict, random: &mut Random) -> Vec<(Problem, Solved)> {
+    let solved = std::iter::repeat_with(|| random.problem()).map(|problem| {
+        let solved = solve_filled(&problem.encode());
+        (problem, solved)
+    });
+    let wanted = |(_, solved): &(Problem, Solved)| match solved.answer {
+        Answer::Verdict { verdict, lines, .. } => {
+            verdict == wanted && (2..=MAX_LINES).contains(&lines)
+        }
+        Answer::Refused { .. } => false,
+    };
+    solved.filter(wanted).take(PROBLEMS).collect()
+}
+
+/// Calls the test with each place and the bytes changed there: each bit turned, and all.
+fn for_each_change(bytes: &[u8], mut test: impl FnMut(usize, &[u8]) -> Outcome) -> Outcome {
+    let mut damaged = bytes.to_vec();
+    for place in 0..bytes.len() {
+        for change in [1, 2, 4, 8, 16, 32, 64, 128, 255] {
+            damaged[place] = bytes[place] ^ change;
+            test(place, &damaged)
+                .map_err(|text| format!("byte {place} changed by {change}: {text}"))?;
+        }
+        damaged[place] = bytes[place];
+    }
+    Ok(())
+}
+
+/// The first six bytes of a line settle the rest, so a change there fails at its own line; a
+/// change of those six leaves the earlier lines right.
+fn damaged_book(question: &[u8], book: &[u8]) -> Outcome {
+    for_each_change(book, |place, damaged| {
+        let line = place / LINE_LENGTH;
+        let checked = check_book(question, damaged);
+        if place % LINE_LENGTH >= 6 {
+            return equal("check", &Checked::Fails(line), &checked);
+        }
+        match checked {
+            Checked::Fails(first) => demand(first >= line, "a line before the change fails"),
+            Checked::Accepted => Ok(()),
+            Checked::Refused { .. } => Err("a right question is refused".into()),
+        }
+    })
+}
+
+/// A book for another question must not be accepted where that question has a model.
+fn damaged_question(question: &[u8], book: &[u8]) -> Outcome {
+    for_each_change(question, |_, damaged| {
+        if check_book(damaged, book) != Checked::Accepted {
+            return Ok(());
+        }
+        let Solved { answer, sheet, .. } = solve_filled(damaged);
+        let agrees = matches!(
+            answer,
+            Answer::Verdict {
+                verdict: Verdict::Agrees,
+                ..
+            }
+        );
+        let has_model = agrees && check_sheet(damaged, &sheet) == Checked::Accepted;
+        demand(!has_model, "a book is accepted, and so is a sheet")
+    })
+}
+
+/// No empty line follows from the lines of a satisfiable problem, whatever it names.
+fn forged_end(question: &[u8], book: &[u8]) -> Outcome {
+    let lines = book.len() / LINE_LENGTH;
+    let missing_end = check_book(question, book);
+    equal("check", &Checked::Fails(lines), &missing_end)?;
+    for_each_change(book, |_, damaged| {
+        let accepted = check_book(question, damaged) == Checked::Accepted;
+        demand(!accepted, "a damaged book is accepted")
+    })?;
+    let mut forged = book.to_vec();
+    forged.extend([0; LINE_LENGTH]);
+    for first in 0..=lines {
+        for second in 0..=lines {
+            for (how, which) in [
+                (0, 0),
+                (1, 0),
+                (1, 1),
+                (1, 2),
+                (2, 0),
+                (2, 1),
+                (2, 2),
+                (2, 3),
+            ] {
+                let end = [how, which, first as u8, 0, second as u8, 0];
+                forged[book.len()..book.len() + 6].copy_from_slice(&end);
+                let checked = check_book(question, &forged);
+                equal("forged end", &Checked::Fails(lines), &checked)?;
+            }
+        }
+    }
+    Ok(())
+}
+
+/// The check of a sheet must say what the suite's own reading of the sheet says.
+fn damaged_sheet(problem: &Problem, sheet: &[u8]) -> Outcome {
+    let question = problem.encode();
+    equal("length", &SHEET_LENGTH, &sheet.len())?;
+    for_each_change(sheet, |_, damaged| {
+        let expected = judged(problem, damaged);
+        equal("check", &expected, &check_sheet(&question, damaged))
+    })
+}
+
+fn judged(problem: &Problem, sheet: &[u8]) -> Checked {
+    let model = match read_sheet(problem.booleans, problem.rationals, sheet) {
+        Ok(model) => model,
+        Err(place) => return Checked::Refused { number: 17, place },
+    };
+    let assignment = Assignment {
+        booleans: model.booleans,
+        denominator: model.denominator,
+        numerators: &model.numerators,
+    };
+    match problem.first_failing(&assignment) {
+        Some(clause) => Checked::Fails(clause),
+        None => Checked::Accepted,
+    }
+}

@@ -1,0 +1,242 @@
+//! Examples 1 to 12 of document 01, each variant, with all that 01 states of them; and what the
+//! program prints for some.
+
+use crate::buffers::{read_sheet, solve_filled, Solved};
+use crate::problem::{at_most, below, no, yes, Problem};
+use crate::report::{equal, Group, Outcome, Sums};
+use reference::{check_book, check_sheet, print, Answer, Checked, Verdict};
+
+/// An example and what 01 states of it.
+struct Example {
+    name: &'static str,
+    problem: Problem,
+    answer: Answer,
+    /// The marks and figures, where 01 names them.
+    values: Option<Values>,
+}
+
+/// Marks as 0 or 1, figures as numerator and denominator.
+struct Values {
+    booleans: &'static [u32],
+    rationals: &'static [(i64, i64)],
+}
+
+fn verdict(verdict: Verdict, lines: usize, pairs: u64) -> Answer {
+    Answer::Verdict {
+        verdict,
+        lines,
+        pairs,
+    }
+}
+
+fn agrees(lines: usize, pairs: u64) -> Answer {
+    verdict(Verdict::Agrees, lines, pairs)
+}
+
+fn cannot(lines: usize, pairs: u64) -> Answer {
+    verdict(Verdict::Cannot, lines, pairs)
+}
+
+fn refused(number: u8, place: usize, pairs: u64) -> Answer {
+    Answer::Refused {
+        number,
+        place,
+        pairs,
+    }
+}
+
+fn example(name: &'static str, problem: Problem, answer: Answer) -> Example {
+    Example {
+        name,
+        problem,
+        answer,
+        values: None,
+    }
+}
+
+impl Example {
+    fn with(mut self, booleans: &'static [u32], rationals: &'static [(i64, i64)]) -> Example {
+        self.values = Some(Values {
+            booleans,
+            rationals,
+        });
+        self
+    }
+}
+
+fn example_5() -> Problem {
+    Problem::new(0, 1)
+        .clause([below(&[1], 5)])
+        .clause([below(&[-1], -4)])
+}
+
+/// x + y ≤ 10; -x ≤ -7; -y ≤ the bound.
+fn example_7(bound: i32) -> Problem {
+    Problem::new(0, 2)
+        .clause([at_most(&[1, 1], 10)])
+        .clause([at_most(&[-1], -7)])
+        .clause([at_most(&[0, -1], bound)])
+}
+
+fn example_8() -> Problem {
+    Problem::new(1, 0).clause([yes(0)]).clause([no(0)])
+}
+
+fn example_9() -> Problem {
+    Problem::new(1, 1)
+        .clause([yes(0), at_most(&[1], 0), at_most(&[-1], -5)])
+        .clause([no(0)])
+}
+
+/// 1,000,000,000x and so many y ≤ 0; -999,999,999x + z ≤ 0.
+fn example_10(y: i32) -> Problem {
+    Problem::new(0, 3)
+        .clause([at_most(&[1_000_000_000, y], 0)])
+        .clause([at_most(&[-999_999_999, 0, 1], 0)])
+}
+
+fn example_11() -> Problem {
+    Problem::new(0, 2)
+        .clause([at_most(&[999_999_999], 1)])
+        .clause([at_most(&[0, 1_000_000_000], 1)])
+}
+
+/// x + y ≤ 100i for i from 1 to the last; -x ≤ -j for j from 0 to 39.
+fn example_12(last: i32) -> Problem {
+    let uppers = (1..=last).map(|i| at_most(&[1, 1], 100 * i));
+    let lowers = (0..40).map(|j| at_most(&[-1], -j));
+    uppers
+        .chain(lowers)
+        .fold(Problem::new(0, 2), |problem, term| problem.clause([term]))
+}
+
+fn examples_1_to_6() -> Vec<Example> {
+    let no_clause = Problem::new(0, 0);
+    let one_empty = Problem::new(0, 0).clause([]);
+    let example_3 = Problem::new(0, 1)
+        .clause([at_most(&[1], 5)])
+        .clause([at_most(&[-1], -5)]);
+    let example_4 = Problem::new(0, 1)
+        .clause([below(&[1], 5)])
+        .clause([at_most(&[-1], -5)]);
+    let example_6 = Problem::new(0, 1).clause([at_most(&[3], 1)]);
+    vec![
+        example("example 1", no_clause, agrees(0, 0)).with(&[], &[]),
+        example("example 2", one_empty, cannot(1, 0)),
+        example("example 3", example_3, agrees(2, 1)).with(&[], &[(5, 1)]),
+        example("example 4", example_4, cannot(3, 1)),
+        example("example 5", example_5(), agrees(2, 1)).with(&[], &[(9, 2)]),
+        example("example 6", example_6, agrees(1, 0)).with(&[], &[(1, 3)]),
+    ]
+}
+
+fn examples_7_to_12() -> Vec<Example> {
+    let unwritten = verdict(Verdict::Unwritten, 2, 0);
+    let full = refused(15, 1_024, 960);
+    vec![
+        example("example 7", example_7(-4), cannot(5, 2)),
+        example("example 7, -y at most -3", example_7(-3), agrees(4, 2))
+            .with(&[], &[(7, 1), (3, 1)]),
+        example("example 8", example_8(), cannot(3, 1)),
+        example("example 9", example_9(), agrees(3, 1)).with(&[0], &[(0, 1)]),
+        example("example 10", example_10(3), refused(14, 2, 1)),
+        example("example 10, y for 3y", example_10(1), agrees(3, 1)),
+        example("example 11", example_11(), unwritten),
+        example("example 12", example_12(24), agrees(1_024, 960)).with(&[], &[(39, 1), (61, 1)]),
+        example("example 12, i = 25 too", example_12(25), full),
+    ]
+}
+
+/// Runs the examples.
+pub fn run(sums: &mut Sums) {
+    let mut group = Group::new("examples 1 to 12");
+    for example in examples_1_to_6().into_iter().chain(examples_7_to_12()) {
+        group.case(example.name, || check_example(&example));
+    }
+    group.finish(sums);
+}
+
+fn check_example(example: &Example) -> Outcome {
+    let question = example.problem.encode();
+    let solved = solve_filled(&question);
+    solved.expect(&example.answer)?;
+    solved.check_buffers()?;
+    if let Some(values) = &example.values {
+        check_values(&example.problem, &solved, values)?;
+    }
+    match solved.answer {
+        Answer::Verdict {
+            verdict: Verdict::Agrees,
+            ..
+        } => equal(
+            "check of the sheet",
+            &Checked::Accepted,
+            &check_sheet(&question, solved.sheet()),
+        ),
+        Answer::Verdict {
+            verdict: Verdict::Cannot,
+            ..
+        } => equal(
+            "check of the book",
+            &Checked::Accepted,
+            &check_book(&question, solved.used()),
+        ),
+        _ => Ok(()),
+    }
+}
+
+/// Compares the sheet's marks and, as exact fractions, its figures.
+fn check_values(problem: &Problem, solved: &Solved, values: &Values) -> Outcome {
+    let model = read_sheet(problem.booleans, problem.rationals, solved.sheet())
+        .map_err(|place| format!("the sheet is bad at byte {place}"))?;
+    let booleans: Vec<u32> = (0..problem.booleans)
+        .map(|i| model.booleans >> i & 1)
+        .collect();
+    equal("marks", &values.booleans.to_vec(), &booleans)?;
+    equal("figures", &values.rationals.len(), &model.numerators.len())?;
+    for (i, &(numerator, denominator)) in values.rationals.iter().enumerate() {
+        let crosswise = (
+            numerator * model.denominator,
+            model.numerators[i] * denominator,
+        );
+        equal(&format!("figure {i}"), &crosswise.0, &crosswise.1)?;
+    }
+    Ok(())
+}
+
+/// Compares what is printed.
+pub fn run_printed(sums: &mut Sums) {
+    let book_7 = "cannot 5 2\nlines 5\n0 0 0 0\n0 0 1 0\n0 0 2 0\n1 0 0 1\n1 1 3 2\n";
+    let book_8 = "cannot 3 1\nlines 3\n0 0 0 0\n0 0 1 0\n2 0 0 1\n";
+    let marks = Problem::new(2, 2)
+        .clause([yes(0)])
+        .clause([no(1)])
+        .clause([at_most(&[0, -2], 3)]);
+    let sheet = "agrees 3 0\nmarks 2\n1\n0\nfigures 2\n0 2\n-3 2\n";
+    let cases = [
+        (
+            "example 5",
+            example_5(),
+            "agrees 2 1\nmarks 0\nfigures 1\n9 2\n",
+        ),
+        ("example 7", example_7(-4), book_7),
+        ("by a mark", example_8(), book_8),
+        (
+            "marks",
+            example_9(),
+            "agrees 3 1\nmarks 1\n0\nfigures 1\n0 1\n",
+        ),
+        ("one denominator", marks, sheet),
+        ("unwritten", example_11(), "unwritten 2 0\n"),
+        ("a fault", Problem::new(17, 0), "refused 5 0 0\n"),
+        ("wide", example_10(3), "refused 14 2 1\n"),
+        ("full", example_12(25), "refused 15 1024 960\n"),
+    ];
+    let mut group = Group::new("printed output");
+    for (name, problem, expected) in cases {
+        group.case(name, || {
+            equal("printed", &expected.to_string(), &print(&problem.encode()))
+        });
+    }
+    group.finish(sums);
+}

@@ -1,0 +1,58 @@
+//! The lengths a book and a sheet to check may have: 01's 16 and 2.
+
+use crate::buffers::{BOOK_LENGTH, LINE_LENGTH, SHEET_LENGTH};
+use crate::problem::Problem;
+use crate::report::{equal, Group, Outcome, Sums};
+use reference::{check_book, check_sheet, Checked};
+
+const BOOKS: [usize; 11] = [
+    0, 1, 63, 64, 65, 128, 65_535, 65_536, 65_537, 65_600, 131_072,
+];
+const SHEETS: [usize; 5] = [0, 63, 64, 65, 128];
+
+pub fn run(sums: &mut Sums) {
+    let mut group = Group::new("lengths of books and sheets");
+    let question = Problem::new(0, 0).clause([]).encode();
+    for length in BOOKS {
+        group.case(&format!("book of {length} bytes"), || {
+            check_book_length(&question, length)
+        });
+    }
+    for length in SHEETS {
+        group.case(&format!("sheet of {length} bytes"), || {
+            check_sheet_length(&question, length)
+        });
+    }
+    group.finish(sums);
+}
+
+/// A zero line is the piece of an empty clause 0, so zeros are a right book at every length that
+/// a book may have.
+fn check_book_length(question: &[u8], length: usize) -> Outcome {
+    let lines = length / LINE_LENGTH;
+    let whole = lines * LINE_LENGTH == length;
+    let expected = match whole && lines > 0 && length <= BOOK_LENGTH {
+        true => Checked::Accepted,
+        false => Checked::Refused {
+            number: 16,
+            place: length,
+        },
+    };
+    equal("check", &expected, &check_book(question, &vec![0; length]))
+}
+
+/// A sheet that is long enough is read, and the empty clause fails.
+fn check_sheet_length(question: &[u8], length: usize) -> Outcome {
+    let mut sheet = vec![0; length];
+    if let Some(denominator) = sheet.get_mut(2) {
+        *denominator = 1;
+    }
+    let expected = match length >= SHEET_LENGTH {
+        true => Checked::Fails(0),
+        false => Checked::Refused {
+            number: 2,
+            place: 0,
+        },
+    };
+    equal("check", &expected, &check_sheet(question, &sheet))
+}

@@ -1,0 +1,139 @@
+//! Problems written by hand or drawn at random: clauses of literals and constraints, their bytes
+//! by 01's "The question", and whether an assignment satisfies them. Nothing here uses the
+//! solver.
+
+/// One alternative of a clause: 01's literal or condition.
+#[derive(Clone, Debug)]
+pub enum Term {
+    Literal {
+        boolean: u8,
+        negated: bool,
+    },
+    Constraint {
+        strict: bool,
+        coefficients: Vec<i32>,
+        bound: i32,
+    },
+}
+
+/// The mark is yes.
+pub fn yes(boolean: u8) -> Term {
+    Term::Literal {
+        boolean,
+        negated: false,
+    }
+}
+
+/// The mark is no.
+pub fn no(boolean: u8) -> Term {
+    Term::Literal {
+        boolean,
+        negated: true,
+    }
+}
+
+/// Sum of coefficient × figure ≤ bound; coefficients left out are 0.
+pub fn at_most(coefficients: &[i32], bound: i32) -> Term {
+    Term::Constraint {
+        strict: false,
+        coefficients: coefficients.to_vec(),
+        bound,
+    }
+}
+
+/// Sum of coefficient × figure < bound; coefficients left out are 0.
+pub fn below(coefficients: &[i32], bound: i32) -> Term {
+    Term::Constraint {
+        strict: true,
+        coefficients: coefficients.to_vec(),
+        bound,
+    }
+}
+
+/// A problem of so many marks, figures and clauses.
+#[derive(Clone, Debug)]
+pub struct Problem {
+    pub booleans: u8,
+    pub rationals: u8,
+    pub clauses: Vec<Vec<Term>>,
+}
+
+/// An assignment: bit i of `booleans` is mark i, figure i is numerator i by the denominator.
+pub struct Assignment<'a> {
+    pub booleans: u32,
+    pub denominator: i64,
+    pub numerators: &'a [i64],
+}
+
+impl Problem {
+    pub fn new(booleans: u8, rationals: u8) -> Problem {
+        Problem {
+            booleans,
+            rationals,
+            clauses: Vec::new(),
+        }
+    }
+
+    pub fn clause<const N: usize>(mut self, terms: [Term; N]) -> Problem {
+        self.clauses.push(terms.to_vec());
+        self
+    }
+
+    /// The question's bytes.
+    pub fn encode(&self) -> Vec<u8> {
+        let mut bytes = vec![self.booleans, self.rationals];
+        bytes.extend((self.clauses.len() as u16).to_le_bytes());
+        for clause in &self.clauses {
+            let is_literal = |term: &&Term| matches!(term, Term::Literal { .. });
+            let (literals, constraints): (Vec<_>, Vec<_>) = clause.iter().partition(is_literal);
+            for terms in [literals, constraints] {
+                bytes.push(terms.len() as u8);
+                for term in terms {
+                    self.encode_term(term, &mut bytes);
+                }
+            }
+        }
+        bytes
+    }
+
+    fn encode_term(&self, term: &Term, bytes: &mut Vec<u8>) {
+        match term {
+            Term::Literal { boolean, negated } => bytes.push(boolean + 128 * u8::from(*negated)),
+            Term::Constraint {
+                strict,
+                coefficients,
+                bound,
+            } => {
+                bytes.push(1 + u8::from(*strict));
+                for i in 0..usize::from(self.rationals) {
+                    bytes.extend(coefficients.get(i).unwrap_or(&0).to_le_bytes());
+                }
+                bytes.extend(bound.to_le_bytes());
+            }
+        }
+    }
+
+    /// The first clause that does not hold.
+    pub fn first_failing(&self, assignment: &Assignment) -> Option<usize> {
+        let fails = |clause: &Vec<Term>| !clause.iter().any(|term| assignment.satisfies(term));
+        self.clauses.iter().position(fails)
+    }
+}
+
+impl Assignment<'_> {
+    fn satisfies(&self, term: &Term) -> bool {
+        match term {
+            Term::Literal { boolean, negated } => (self.booleans >> boolean & 1 == 0) == *negated,
+            Term::Constraint {
+                strict,
+                coefficients,
+                bound,
+            } => {
+                let terms = coefficients.iter().zip(self.numerators);
+                let sum: i64 = terms.map(|(&c, n)| i64::from(c) * n).sum();
+                let bound = i64::from(*bound) * self.denominator;
+                sum < bound || (sum == bound && !strict)
+            }
+        }
+    }
+}

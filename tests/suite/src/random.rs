@@ -1,0 +1,86 @@
+//! A small generator of numbers (splitmix64) with a fixed seed, and random problems drawn from
+//! it.
+
+use crate::problem::{Problem, Term};
+
+pub struct Random(u64);
+
+impl Random {
+    pub fn new(seed: u64) -> Random {
+        Random(seed)
+    }
+
+    pub fn next(&mut self) -> u64 {
+        self.0 = self.0.wrapping_add(0x9e37_79b9_7f4a_7c15);
+        let mixed = (self.0 ^ (self.0 >> 30)).wrapping_mul(0xbf58_476d_1ce4_e5b9);
+        let mixed = (mixed ^ (mixed >> 27)).wrapping_mul(0x94d0_49bb_1331_11eb);
+        mixed ^ (mixed >> 31)
+    }
+
+    /// A number from the first to the last, both included.
+    pub fn between(&mut self, first: i64, last: i64) -> i64 {
+        let count = (last - first + 1) as u64;
+        first + (self.next() % count) as i64
+    }
+
+    /// True once in so many times.
+    pub fn once_in(&mut self, times: i64) -> bool {
+        self.between(1, times) == 1
+    }
+
+    /// A problem of at most three marks and three figures; one in eight has large amounts.
+    pub fn problem(&mut self) -> Problem {
+        let mut problem = Problem::new(self.between(0, 3) as u8, self.between(0, 3) as u8);
+        let size = match self.between(0, 15) {
+            0 => 40_000,
+            1 => 1_000_000_000,
+            _ => 3,
+        };
+        for _ in 0..self.between(0, 9) {
+            let terms = self.clause(&problem, size);
+            problem.clauses.push(terms);
+        }
+        problem
+    }
+
+    /// A clause of at most three literals and three constraints, mostly short.
+    fn clause(&mut self, problem: &Problem, size: i64) -> Vec<Term> {
+        let literals = match problem.booleans {
+            0 => 0,
+            _ => self.between(0, 3).min(self.between(0, 3)),
+        };
+        let constraints = self.between(0, 3).min(self.between(0, 3));
+        let constraints = constraints.max(i64::from(literals == 0 && !self.once_in(40)));
+        let mut terms = Vec::new();
+        for _ in 0..literals {
+            terms.push(self.literal(problem.booleans));
+        }
+        for _ in 0..constraints {
+            terms.push(self.constraint(problem.rationals, size));
+        }
+        terms
+    }
+
+    fn literal(&mut self, booleans: u8) -> Term {
+        Term::Literal {
+            boolean: self.between(0, i64::from(booleans) - 1) as u8,
+            negated: self.once_in(2),
+        }
+    }
+
+    /// Coefficients up to the size, one in three 0; a bound up to twice the size.
+    fn constraint(&mut self, rationals: u8, size: i64) -> Term {
+        let limit = 1_000_000_000;
+        let mut coefficient = || match self.once_in(3) {
+            true => 0,
+            false => self.between(-size, size) as i32,
+        };
+        let coefficients = (0..rationals).map(|_| coefficient()).collect();
+        let bound = self.between(-2 * size, 2 * size).clamp(-limit, limit);
+        Term::Constraint {
+            strict: self.once_in(3),
+            coefficients,
+            bound: bound as i32,
+        }
+    }
+}

@@ -1,0 +1,180 @@
+//! The vectors beside the suite: every line of every file is a case, and a line that cannot be
+//! read is a failure.
+
+use crate::buffers::{solve_filled, BOOK_LENGTH};
+use crate::report::{demand, equal, Group, Outcome, Sums};
+use reference::{check_book, check_sheet, hand_back, solve, Answer, Checked, Part, Verdict};
+use std::path::Path;
+
+/// The fields of one line.
+type Fields<'a> = [&'a str];
+
+/// Runs all five files.
+pub fn run(sums: &mut Sums) {
+    run_file("solve vectors", "solve.txt", solve_case, sums);
+    run_file("check_book vectors", "check_book.txt", book_case, sums);
+    run_file("check_sheet vectors", "check_sheet.txt", sheet_case, sums);
+    run_file("buffers vectors", "buffers.txt", buffers_case, sums);
+    run_file("hand_back vectors", "hand_back.txt", hand_back_case, sums);
+}
+
+/// Runs a file: the first lines, which begin with #, say the fields; every other line is a case.
+fn run_file(name: &'static str, file: &str, case: fn(&Fields) -> Outcome, sums: &mut Sums) {
+    let mut group = Group::new(name);
+    let folder = Path::new(env!("CARGO_MANIFEST_DIR")).join("../vectors");
+    let text = std::fs::read_to_string(folder.join(file)).unwrap_or_default();
+    let is_header = |line: &&str| line.starts_with('#');
+    let cases: Vec<&str> = text.lines().skip_while(is_header).collect();
+    for (number, line) in cases.iter().enumerate() {
+        let fields: Vec<&str> = line.split('|').collect();
+        group.case(&format!("{} (case {number})", fields[0]), || case(&fields));
+    }
+    if cases.is_empty() {
+        group.case(file, || demand(false, "no case could be read"));
+    }
+    group.finish(sums);
+}
+
+/// name, question, answer, sheet after, hash of the book after.
+fn solve_case(fields: &Fields) -> Outcome {
+    let [_, question, a, b, c, rest @ ..] = fields else {
+        return Err("malformed".into());
+    };
+    let (answer, rest) = answer(&[a, b, c], rest)?;
+    let [sheet, hash] = rest else {
+        return Err("malformed".into());
+    };
+    let solved = solve_filled(&bytes(question)?);
+    solved.expect(&answer)?;
+    solved.check_buffers()?;
+    equal("sheet after", &bytes(sheet)?.as_slice(), &solved.sheet())?;
+    let hash = u64::from_str_radix(hash, 16).map_err(|error| error.to_string())?;
+    equal(
+        "hash of the book",
+        &hash,
+        &fnv1a(&solved.book[..BOOK_LENGTH]),
+    )
+}
+
+/// name, question, book, what the check says.
+fn book_case(fields: &Fields) -> Outcome {
+    let [_, question, book, expected @ ..] = fields else {
+        return Err("malformed".into());
+    };
+    let got = check_book(&bytes(question)?, &bytes(book)?);
+    equal("check", &checked(expected)?, &got)
+}
+
+/// name, question, sheet, what the check says.
+fn sheet_case(fields: &Fields) -> Outcome {
+    let [_, question, sheet, expected @ ..] = fields else {
+        return Err("malformed".into());
+    };
+    let got = check_sheet(&bytes(question)?, &bytes(sheet)?);
+    equal("check", &checked(expected)?, &got)
+}
+
+/// question's start, zeros after it, book's length, sheet's length, answer; all zero before.
+fn buffers_case(fields: &Fields) -> Outcome {
+    let [start, zeros, book, sheet, a, b, c, rest @ ..] = fields else {
+        return Err("malformed".into());
+    };
+    let (answer, []) = answer(&[a, b, c], rest)? else {
+        return Err("malformed".into());
+    };
+    let mut question = bytes(start)?;
+    question.resize(question.len() + number::<usize>(zeros)?, 0);
+    let mut book = vec![0; number(book)?];
+    let mut sheet = vec![0; number(sheet)?];
+    equal("answer", &answer, &solve(&question, &mut book, &mut sheet))?;
+    let altered = book.iter().chain(&sheet).any(|&byte| byte != 0);
+    let faulty = matches!(answer, Answer::Refused { number: 0..=13, .. });
+    demand(!(faulty && altered), "a byte of the buffers altered")
+}
+
+/// answer, book's length, sheet's length, part of which buffer, its length.
+fn hand_back_case(fields: &Fields) -> Outcome {
+    let [a, b, c, rest @ ..] = fields else {
+        return Err("malformed".into());
+    };
+    let (answer, rest) = answer(&[a, b, c], rest)?;
+    let &[book, sheet, buffer, length] = rest else {
+        return Err("malformed".into());
+    };
+    let length: usize = number(length)?;
+    let book = numbered(number(book)?);
+    let sheet = numbered(number(sheet)?);
+    let expected = match buffer {
+        "book" => book.get(..length).map(Part::Book),
+        "sheet" => sheet.get(..length).map(Part::Sheet),
+        _ => None,
+    };
+    let expected = expected.ok_or("malformed")?;
+    equal("part", &expected, &hand_back(&answer, &book, &sheet))
+}
+
+/// Bytes that differ from place to place.
+fn numbered(length: usize) -> Vec<u8> {
+    (0..length).map(|i| (i % 251) as u8).collect()
+}
+
+/// An answer of three fields, or of four if it is a refusal, and the fields after it.
+fn answer<'a>(head: &[&str; 3], rest: &'a Fields<'a>) -> Result<(Answer, &'a Fields<'a>), String> {
+    let &[word, second, third] = head;
+    let verdict = match word {
+        "agrees" => Verdict::Agrees,
+        "cannot" => Verdict::Cannot,
+        "unwritten" => Verdict::Unwritten,
+        "refused" => {
+            let [pairs, rest @ ..] = rest else {
+                return Err("malformed".into());
+            };
+            let refused = Answer::Refused {
+                number: number(second)?,
+                place: number(third)?,
+                pairs: number(pairs)?,
+            };
+            return Ok((refused, rest));
+        }
+        _ => return Err(format!("unknown answer {word}")),
+    };
+    let answer = Answer::Verdict {
+        verdict,
+        lines: number(second)?,
+        pairs: number(third)?,
+    };
+    Ok((answer, rest))
+}
+
+fn checked(fields: &Fields) -> Result<Checked, String> {
+    match *fields {
+        ["accepted"] => Ok(Checked::Accepted),
+        ["fails", place] => Ok(Checked::Fails(number(place)?)),
+        ["refused", fault, place] => Ok(Checked::Refused {
+            number: number(fault)?,
+            place: number(place)?,
+        }),
+        _ => Err("malformed".into()),
+    }
+}
+
+fn number<T: std::str::FromStr>(text: &str) -> Result<T, String> {
+    text.parse().map_err(|_| format!("no number: {text}"))
+}
+
+fn bytes(hex: &str) -> Result<Vec<u8>, String> {
+    let digits: Option<Vec<u32>> = hex.chars().map(|digit| digit.to_digit(16)).collect();
+    match digits {
+        Some(digits) if digits.len() % 2 == 0 => Ok(digits
+            .chunks_exact(2)
+            .map(|pair| (16 * pair[0] + pair[1]) as u8)
+            .collect()),
+        _ => Err(format!("no bytes: {hex}")),
+    }
+}
+
+fn fnv1a(bytes: &[u8]) -> u64 {
+    bytes.iter().fold(0xcbf2_9ce4_8422_2325, |hash, &byte| {
+        (hash ^ u64::from(byte)).wrapping_mul(0x0100_0000_01b3)
+    })
+}
