@@ -1,0 +1,1 @@
+// Laws of tests and lists: specs/. There is no code here.

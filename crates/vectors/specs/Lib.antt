@@ -1,0 +1,8 @@
+pub mod Sign
+pub mod Gcd
+pub mod Lcm
+pub mod Put
+pub mod Dot
+pub mod Relation
+pub mod Constraint
+pub mod Resolvent
