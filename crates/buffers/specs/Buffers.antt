@@ -8,11 +8,11 @@ use Rattle.types.specs.declared.answers.Refusal.the-variants as refusal
 use Rattle.types.specs.declared.answers.Verdict.the-variants.{Satisfiable, Unsatisfiable}
 use Rattle.types.specs.declared.answers.Answer.the-variants.{Decided, Refused}
 use Rattle.types.specs.declared.answers.Checked.the-variants as checked
-use Rattle.types.specs.declared.answers.Part.the-variants.{OfProof, OfModel}
+use Rattle.types.specs.declared.answers.Evidence.the-variants.{OfProof, OfModel}
 use Rattle.types.specs.Answers.{verdictNumber}
 use Rattle.types.specs.Limits.{standard}
 use Rattle.rules.specs.Calls.{solve, proofChecked, modelChecked, evidence}
-use Rattle.rules.specs.Write.{atMost, below, clauseOf, alone, question}
+use Rattle.rules.specs.Write.{atMost, below, clauseOf, alone, problemOf}
 use Rattle.rules.specs.Compute.{definitions}
 
 abbrev zeros : ℕ → List ℕ
@@ -28,7 +28,7 @@ lentModel = replicate 66 205
 -- ---- "cannot agree": example 7
 abbrev seven : List ℕ
 seven =
-    question 0 2 (alone (atMost (pos 1 ∷ pos 1 ∷ []) (pos 10)) ∷ alone (atMost (negsuc 0 ∷ pos 0 ∷ []) (negsuc 6)) ∷ alone (atMost (pos 0 ∷ negsuc 0 ∷ []) (negsuc 3)) ∷ [])
+    problemOf 0 2 (alone (atMost (pos 1 ∷ pos 1 ∷ []) (pos 10)) ∷ alone (atMost (negsuc 0 ∷ pos 0 ∷ []) (negsuc 6)) ∷ alone (atMost (pos 0 ∷ negsuc 0 ∷ []) (negsuc 3)) ∷ [])
 
 -- its bytes
 pub seven-bytes : seven
@@ -72,10 +72,10 @@ seven-handed-back = refl
 
 -- ---- "agrees", with a mark and a figure: a; x < 5; -x < -4
 abbrev half : List ℕ
-half = question 1 1 (clauseOf (0 ∷ []) [] ∷ alone (below (pos 1 ∷ []) (pos 5)) ∷ alone (below (negsuc 0 ∷ []) (negsuc 3)) ∷ [])
+half = problemOf 1 1 (clauseOf (0 ∷ []) [] ∷ alone (below (pos 1 ∷ []) (pos 5)) ∷ alone (below (negsuc 0 ∷ []) (negsuc 3)) ∷ [])
 
-abbrev halfSheet : List ℕ
-halfSheet = (1 ∷ 1 ∷ 1 ∷ 2 ∷ 0 ∷ 0 ∷ 0 ∷ 9 ∷ 0 ∷ 0 ∷ 0 ∷ []) ++ zeros 53
+abbrev halfModel : List ℕ
+halfModel = (1 ∷ 1 ∷ 1 ∷ 2 ∷ 0 ∷ 0 ∷ 0 ∷ 9 ∷ 0 ∷ 0 ∷ 0 ∷ []) ++ zeros 53
 
 pub half-solved : solve standard half lentProof lentModel
     ≡ record {
@@ -85,12 +85,12 @@ pub half-solved : solve standard half lentProof lentModel
           ++ (0 ∷ 0 ∷ 1 ∷ 0 ∷ 0 ∷ 0 ∷ 2 ∷ 0 ∷ []) ++ zeros 8 ++ (1 ∷ 0 ∷ 0 ∷ 0 ∷ []) ++ zeros 28 ++ (5 ∷ 0 ∷ 0 ∷ 0 ∷ []) ++ zeros 12
           ++ (0 ∷ 0 ∷ 2 ∷ 0 ∷ 0 ∷ 0 ∷ 2 ∷ 0 ∷ []) ++ zeros 8 ++ (255 ∷ 255 ∷ 255 ∷ 255 ∷ []) ++ zeros 28 ++ (252 ∷ 255 ∷ 255 ∷ 255 ∷ []) ++ zeros 12
           ++ zeros 65344 ++ replicate 64 171;
-      model = halfSheet ++ replicate 2 205;
+      model = halfModel ++ replicate 2 205;
     }
 unfolding definitions
 half-solved = refl
 
-pub half-accepted : modelChecked half halfSheet ≡ checked.Accepted
+pub half-accepted : modelChecked half halfModel ≡ checked.Accepted
 unfolding definitions
 half-accepted = refl
 
@@ -101,7 +101,7 @@ half-handed-back = refl
 -- ---- refusals
 -- 14 zeroes the book and leaves the sheet: example 10
 abbrev ten : List ℕ
-ten = question 0 3 (alone (atMost (pos 1000000000 ∷ pos 3 ∷ pos 0 ∷ []) (pos 0)) ∷ alone (atMost (negsuc 999999998 ∷ pos 0 ∷ pos 1 ∷ []) (pos 0)) ∷ [])
+ten = problemOf 0 3 (alone (atMost (pos 1000000000 ∷ pos 3 ∷ pos 0 ∷ []) (pos 0)) ∷ alone (atMost (negsuc 999999998 ∷ pos 0 ∷ pos 1 ∷ []) (pos 0)) ∷ [])
 
 pub ten-solved : solve standard ten lentProof lentModel
     ≡ record { solved = record { answer = Refused refusal.Overflow 2; pairs = 1 }; proof = zeros 65536 ++ replicate 64 171; model = lentModel }

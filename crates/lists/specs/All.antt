@@ -1,8 +1,7 @@
 -- Facts of every element, or of some, along a list; no membership proofs.
-use mathlib.Core.Path.{_≡_, refl, ap}
-use mathlib.Core.Bool.{Bool, true, false, not, _||_, _&&_}
+use mathlib.Core.Bool.{Bool, true, false, not}
 use mathlib.Core.Logic.{_⊎_, inl, inr, ⊎-elim}
-use mathlib.Core.List.{List, [], _∷_, _++_, map}
+use mathlib.Core.List.{List, [], _∷_, _++_}
 use lib.Dec.{T}
 use mir.Facts.{or-yes, or-no, and-yes, yes-and}
 use Rattle.rules.specs.Lists.{any, all, filter}

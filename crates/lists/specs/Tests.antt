@@ -1,9 +1,9 @@
 -- Tests as facts: leaving a Bool for a proof, and entering it again.
 use mathlib.Core.Path.{_≡_, refl, sym, subst}
-use mathlib.Core.Bool.{Bool, true, false, not, _||_, _&&_}
+use mathlib.Core.Bool.{Bool, true, false, not, _||_}
 use mathlib.Core.Logic.{_⊎_, inl, inr, ⊎-elim}
 use lib.Dec.{T}
-use mir.Facts.{or-yes, or-no, and-yes, yes-and}
+use mir.Facts.{or-yes}
 
 pub split : (b : Bool) → T b ⊎ T (not b)
 split true = inl tt

@@ -1,7 +1,7 @@
 -- What each call says, and what it leaves in the lent buffers: for bytes of every kind and buffers of every length.
 use mathlib.Core.Bool.{Bool, true, false, _&&_, _||_}
-use mathlib.Core.List.{List, [], _∷_, _++_, map}
-use mathlib.Core.Option.{Option, none, some}
+use mathlib.Core.List.{List, _++_, map}
+use mathlib.Core.Option.{none, some}
 use Prim.Native.Nat.{ℕ, _-_, _*_, _%_}
 use lib.Dec.{eqb, leb, ltb}
 use lib.ListN.{length, replicate, take, drop}
@@ -9,40 +9,39 @@ use Rattle.types.specs.declared.answers.Refusal.{Refusal}
 use Rattle.types.specs.declared.answers.Refusal.the-variants as refusal
 use Rattle.types.specs.declared.answers.Verdict.{Verdict}
 use Rattle.types.specs.declared.answers.Verdict.the-variants.{Satisfiable, Unsatisfiable, Unwritten}
-use Rattle.types.specs.declared.answers.Answer.{Answer}
 use Rattle.types.specs.declared.answers.Answer.the-variants as answer
 use Rattle.types.specs.declared.answers.Solved.{Solved}
 use Rattle.types.specs.declared.answers.Checked.{Checked}
 use Rattle.types.specs.declared.answers.Checked.the-variants as checked
-use Rattle.types.specs.declared.answers.Part.{Part}
-use Rattle.types.specs.declared.answers.Part.the-variants.{OfProof, OfModel}
+use Rattle.types.specs.declared.answers.Evidence.{Evidence}
+use Rattle.types.specs.declared.answers.Evidence.the-variants.{OfProof, OfModel}
 use Rattle.types.specs.declared.limits.Limits.{Limits}
 use Rattle.types.specs.Limits as limit
 use Rattle.types.specs.Answers.{verdictNumber}
 use Rattle.rules.specs.Problem.{Problem, Read, fault, got, problem}
 use Rattle.rules.specs.Split.{overSplit}
-use Rattle.rules.specs.Steps.{Step, proofBytes}
+use Rattle.rules.specs.Steps.{Step, encodeProof}
 use Rattle.rules.specs.Elimination.{State, running, ended, empty, overflow, outOfSteps, order, limited, course}
 use Rattle.rules.specs.Values.{walk}
 use Rattle.rules.specs.Model.{written, model}
 use Rattle.rules.specs.Checker.{checkProof, checkClauses}
 
 -- ---- a question, or its first fault 3 to 13
-pub data Question : Type 0 where
-  faulty : Refusal → ℕ → Question
-  sound : Problem → Question
+pub data Reading : Type 0 where
+  faulty : Refusal → ℕ → Reading
+  sound : Problem → Reading
 
 -- 13, after 4 to 12
-unfoldable pub linked : Read Problem → Question
-linked (fault f place) = faulty f place
-linked (got p bytes place) = elim (overSplit 0 (p .clauses)) [ none ↦ sound p | some start ↦ faulty refusal.Splits start ]
+unfoldable pub withinSplits : Read Problem → Reading
+withinSplits (fault f place) = faulty f place
+withinSplits (got p bytes place) = elim (overSplit 0 (p .clauses)) [ none ↦ sound p | some start ↦ faulty refusal.Splits start ]
 
 -- 3, before them: "question over 32,768 bytes; 32,768"
-unfoldable pub read : List ℕ → Question
-read question =
-    elim (ltb limit.problemBytes (length question)) [
+unfoldable pub read : List ℕ → Reading
+read input =
+    elim (ltb limit.problemBytes (length input)) [
       | true ↦ faulty refusal.LongProblem limit.problemBytes
-      | false ↦ linked (problem question 0)
+      | false ↦ withinSplits (problem input 0)
     ]
 
 -- ---- what solving comes to
@@ -67,19 +66,15 @@ concluded p (running steps pairs) =
     ]
 
 unfoldable pub outcome : Limits → List ℕ → Outcome
-outcome limits question = elim (read question) [ faulty f place ↦ faulted f place | sound p ↦ concluded p (course (limited limits) p) ]
+outcome limits input = elim (read input) [ faulty f place ↦ faulted f place | sound p ↦ concluded p (course (limited limits) p) ]
 
 -- ---- solving
--- the bytes of a book of so many lines
-unfoldable pub proofLength : Limits → ℕ
-proofLength limits = limits .steps * limit.stepBytes
-
 -- 1 and 2, before the question is looked at
 unfoldable pub lent : Limits → List ℕ → List ℕ → List ℕ → Outcome
-lent limits question proof model =
-    elim (ltb (length proof) (proofLength limits)) [
+lent limits input proof model =
+    elim (ltb (length proof) (limit.proofBytes limits)) [
       | true ↦ faulted refusal.ShortProof 0
-      | false ↦ elim (ltb (length model) limit.modelBytes) [ true ↦ faulted refusal.ShortModel 0 | false ↦ outcome limits question ]
+      | false ↦ elim (ltb (length model) limit.modelBytes) [ true ↦ faulted refusal.ShortModel 0 | false ↦ outcome limits input ]
     ]
 
 -- what it says: "1 to 13 report no pairs"
@@ -88,14 +83,15 @@ said (faulted f place) = record { answer = answer.Refused f place; pairs = 0 }
 said (stopped f steps pairs) = record { answer = answer.Refused f steps; pairs = pairs }
 said (decided v steps pairs bytes) = record { answer = answer.Decided v (length steps); pairs = pairs }
 
--- what the book holds then: "The book's unused lines are 0"; "Bytes beyond 65,536 and 64 keep their content"
+-- what the book holds then: 1 to 13 "alter no byte"; 14 and 15 "zero the book's 65,536 bytes and leave the sheet"; "The book's unused
+-- lines are 0"; "Bytes beyond 65,536 and 64 keep their content."
 unfoldable pub proofAfter : Limits → Outcome → List ℕ → List ℕ
 proofAfter limits (faulted f place) old = old
-proofAfter limits (stopped f steps pairs) old = replicate (proofLength limits) 0 ++ drop (proofLength limits) old
+proofAfter limits (stopped f steps pairs) old = replicate (limit.proofBytes limits) 0 ++ drop (limit.proofBytes limits) old
 proofAfter limits (decided v steps pairs bytes) old =
-    proofBytes steps ++ replicate (proofLength limits - limit.stepBytes * length steps) 0 ++ drop (proofLength limits) old
+    encodeProof steps ++ replicate (limit.proofBytes limits - limit.stepBytes * length steps) 0 ++ drop (limit.proofBytes limits) old
 
--- what the sheet holds then: "the sheet's 64 bytes are 0 unless "agrees""
+-- what the sheet holds then: the same; "the sheet's 64 bytes are 0 unless "agrees""
 unfoldable pub modelAfter : Outcome → List ℕ → List ℕ
 modelAfter (faulted f place) old = old
 modelAfter (stopped f steps pairs) old = old
@@ -107,18 +103,18 @@ pub record Solving : Type 0 where
   pub model : List ℕ
 
 unfoldable pub solve : Limits → List ℕ → List ℕ → List ℕ → Solving
-solve limits question proof model =
-    let o = lent limits question proof model in
+solve limits input proof model =
+    let o = lent limits input proof model in
     record { solved = said o; proof = proofAfter limits o proof; model = modelAfter o model }
 
 -- ---- the checks, which write nothing
 -- "question faults (3 to 13), then 16": "length not 64 to 65,536 by 64s; length"
 unfoldable pub wholeSteps : Limits → ℕ → Bool
-wholeSteps limits n = leb limit.stepBytes n && leb n (proofLength limits) && eqb (n % limit.stepBytes) 0
+wholeSteps limits n = leb limit.stepBytes n && leb n (limit.proofBytes limits) && eqb (n % limit.stepBytes) 0
 
 unfoldable pub proofChecked : Limits → List ℕ → List ℕ → Checked
-proofChecked limits question proof =
-    elim (read question) [
+proofChecked limits input proof =
+    elim (read input) [
       | faulty f place ↦ checked.Refused f place
       | sound p ↦ elim (wholeSteps limits (length proof)) [
         | true ↦ checkProof p proof
@@ -128,8 +124,8 @@ proofChecked limits question proof =
 
 -- "question faults (3 to 13), then ... 2 and 17"
 unfoldable pub modelChecked : List ℕ → List ℕ → Checked
-modelChecked question bytes =
-    elim (read question) [
+modelChecked input bytes =
+    elim (read input) [
       | faulty f place ↦ checked.Refused f place
       | sound p ↦ elim (ltb (length bytes) limit.modelBytes) [
         | true ↦ checked.Refused refusal.ShortModel 0
@@ -143,9 +139,9 @@ modelChecked question bytes =
 -- ---- handing back
 -- "the sheet's 64 bytes after "agrees" and the used lines of the book after "cannot agree"; otherwise, or with a buffer that 1 or 2
 -- refuses, or over 1,024 lines, an empty part of the book": from a verdict's number and lines as the caller names them
-unfoldable pub evidence : Limits → ℕ → ℕ → List ℕ → List ℕ → Part
+unfoldable pub evidence : Limits → ℕ → ℕ → List ℕ → List ℕ → Evidence
 evidence limits number steps proof model =
-    elim (ltb (length proof) (proofLength limits) || ltb (length model) limit.modelBytes || ltb (limits .steps) steps) [
+    elim (ltb (length proof) (limit.proofBytes limits) || ltb (length model) limit.modelBytes || ltb (limits .steps) steps) [
       | true ↦ OfProof 0
       | false ↦ elim (eqb number (verdictNumber Satisfiable)) [
         | true ↦ OfModel limit.modelBytes
@@ -154,6 +150,6 @@ evidence limits number steps proof model =
     ]
 
 -- the bytes of that part
-unfoldable pub partBytes : Part → List ℕ → List ℕ → List ℕ
-partBytes (OfProof n) proof model = take n proof
-partBytes (OfModel n) proof model = take n model
+unfoldable pub evidenceBytes : Evidence → List ℕ → List ℕ → List ℕ
+evidenceBytes (OfProof n) proof model = take n proof
+evidenceBytes (OfModel n) proof model = take n model

@@ -1,5 +1,5 @@
 -- The check of a book and of a sheet, for a question read without fault.
-use mathlib.Core.Bool.{Bool, true, false, not, cond, _&&_, _||_}
+use mathlib.Core.Bool.{Bool, true, false, cond, _&&_, _||_}
 use mathlib.Core.List.{List, [], _∷_, _++_}
 use mathlib.Core.Option.{Option, none, some}
 use Prim.Native.Nat.{ℕ, zero, suc, _/_}
@@ -8,13 +8,13 @@ use lib.ListN.{length, getElem?, take, drop}
 use Rattle.types.specs.declared.answers.Checked.{Checked}
 use Rattle.types.specs.declared.answers.Checked.the-variants.{Accepted, Fails}
 use Rattle.types.specs.Limits as limit
-use Rattle.rules.specs.Lists.{any, same}
+use Rattle.rules.specs.Lists.{same}
 use Rattle.rules.specs.Bytes.{fieldAt}
 use Rattle.rules.specs.Problem.{Clause, Problem}
 use Rattle.rules.specs.Meaning.{Assignment, clauseHolds}
 use Rattle.rules.specs.Lines.{Line, Variable, rational, boolean, positively, negatively, noConstraint, isEmpty}
 use Rattle.rules.specs.Resolve.{resolve}
-use Rattle.rules.specs.Steps.{Step, resolved, stepBytes}
+use Rattle.rules.specs.Steps.{Step, resolved, encodeStep}
 use Rattle.rules.specs.Elimination.{overflows, loadableOf}
 
 -- ---- a book
@@ -33,11 +33,11 @@ derived v (some u) (some l) =
       | false ↦ none
     ]
 
--- the figure or mark that 64 bytes name, and their parents' numbers
+-- the figure or mark that a line's first two bytes name
 unfoldable pub variableNamed : ℕ → ℕ → Option Variable
 variableNamed how which = cond (eqb how 1) (some (rational which)) (cond (eqb how 2) (some (boolean which)) none)
 
--- the step that these bytes can only be if they are a result: its line is computed from its parents
+-- the result that these bytes name, by their first six: its line is computed from its parents
 unfoldable pub resultNamed : List Line → List ℕ → Option Step
 resultNamed earlier bytes =
     let first = fieldAt 2 2 bytes in
@@ -53,11 +53,11 @@ resultNamed earlier bytes =
 -- the first of these steps whose 64 bytes they are
 unfoldable pub lineAmong : List Step → List ℕ → Option Line
 lineAmong [] bytes = none
-lineAmong (s ∷ ss) bytes = elim (same eqb (stepBytes s) bytes) [ true ↦ some (s .line) | false ↦ lineAmong ss bytes ]
+lineAmong (s ∷ ss) bytes = elim (same eqb (encodeStep s) bytes) [ true ↦ some (s .line) | false ↦ lineAmong ss bytes ]
 
--- "A book's line follows if all 64 bytes are a loaded piece, or the result of two earlier lines": the line that they state
-unfoldable pub follows : List Step → List Line → List ℕ → Option Line
-follows parts earlier bytes =
+-- "A book's line follows if all 64 bytes are a loaded piece, or the result of two earlier lines": the line that they then state
+unfoldable pub statedLine : List Step → List Line → List ℕ → Option Line
+statedLine parts earlier bytes =
     elim (lineAmong parts bytes) [
       | some l ↦ some l
       | none ↦ elim (resultNamed earlier bytes) [ none ↦ none | some s ↦ lineAmong (s ∷ []) bytes ]
@@ -68,7 +68,7 @@ follows parts earlier bytes =
 unfoldable pub checkSteps : List Step → ℕ → List Line → Bool → List ℕ → Checked
 checkSteps parts zero earlier ends bytes = cond ends Accepted (Fails (length earlier))
 checkSteps parts (suc k) earlier ends bytes =
-    elim (follows parts earlier (take limit.stepBytes bytes)) [
+    elim (statedLine parts earlier (take limit.stepBytes bytes)) [
       | none ↦ Fails (length earlier)
       | some l ↦ checkSteps parts k (earlier ++ (l ∷ [])) (isEmpty l) (drop limit.stepBytes bytes)
     ]

@@ -7,9 +7,9 @@ use lib.ListN.{getD}
 use Rattle.types.specs.declared.answers.Verdict.the-variants.{Satisfiable, Unsatisfiable}
 use Rattle.types.specs.declared.answers.Answer.the-variants.{Decided}
 use Rattle.types.specs.declared.answers.Solved.{Solved}
-use Rattle.types.specs.Answers.{refusalNumber, verdictNumber, answerNumber, answerValue, checkedNumber, checkedValue, partNumber, partLength}
+use Rattle.types.specs.Answers.{refusalNumber, verdictNumber, answerNumber, answerValue, checkedNumber, checkedValue, evidenceNumber, evidenceLength}
 use Rattle.types.specs.Limits.{standard}
-use Rattle.rules.specs.Lists.{any, all, filter, same, tabulate, put}
+use Rattle.rules.specs.Lists.{any, all, filter, concat, same, tabulate, put}
 use Rattle.rules.specs.Arithmetic.{gcdWithin, gcd, gcdAll, lcm, sum, scale, combine, related, isPositive, isNegative, isZero, equal}
 use Rattle.rules.specs.Bytes.{toBytes, fromBytes, fromUnsigned, toUnsigned, amountBytes, fieldAt, padded}
 use Rattle.rules.specs.Problem.{fault, got, after, repeat, byte, number, tested, field, inRange, amount, literal, constraint, clause, end, problem}
@@ -17,49 +17,51 @@ use Rattle.rules.specs.Meaning.{literalHolds, constraintHolds, clauseHol
 use Rattle.rules.specs.Lines.{noBooleans, including, excluding, union, meet, someYes, aLiteralHolds, theConstraintHolds, lineHolds, coefficient, positively, negatively, contains, noConstraint, isEmpty, sameConstraint, sameLine}
 use Rattle.rules.specs.Normalize.{membersOf, reduced, settled, settledAll, normalClause, settledLine, normalLine}
 use Rattle.rules.specs.Split.{chain, parts, partsOf, splitsOf, overSplit}
-use Rattle.rules.specs.Resolve.{eliminated, eliminatedFrom, oneOf, combined, resolve}
-use Rattle.rules.specs.Steps.{Step, Origin, originBytes, relationByte, mask, row, lineBytes, stepBytes, proofBytes}
-use Rattle.rules.specs.Elimination.{order, roundOf, overflows, limited, unlimited, placed, covered, select, pairs, numbered, loadable, loadableOf, add, load, tried, tryAll, sideOf, rounds, eliminate, course}
-use Rattle.rules.specs.Values.{reduce, quotient, less, midpoint, plus, beyond, tighter, value, boundOf, boundsOf, gather, tightest, rationalValue, withoutBoolean, booleanValue, withRational, withBoolean, assign, passes, start, walkFrom, walk}
-use Rattle.rules.specs.Model.{booleanByte, modelBytes, tooLarge, written, model}
-use Rattle.rules.specs.Checker.{pairable, derived, variableNamed, resultNamed, lineAmong, follows, checkSteps, checkProof, checkClauses}
-use Rattle.rules.specs.Calls.{Outcome, faulted, stopped, decided, linked, read, noModel, concluded, outcome, proofLength, lent, said, proofAfter, modelAfter, solve, wholeSteps, proofChecked, modelChecked, evidence, partBytes}
+use Rattle.rules.specs.Resolve.{combination, combinationOf, oneOf, resolvent, resolve}
+use Rattle.rules.specs.Steps.{Origin, header, headerBytes, relationByte, mask, row, lineBytes, encodeStep, encodeProof}
+use Rattle.rules.specs.Elimination.{order, roundOf, overflows, limited, unlimited, placed, covered, select, pairUp, sideOf, roundPairs, partSteps, loadable, loadableOf, add, load, tried, tryAll, rounds, eliminate, course}
+use Rattle.rules.specs.Values.{reduce, quotient, less, midpoint, plus, beyond, tighter, value, boundOf, boundsOf, gather, tightest, rationalValue, withoutBoolean, booleanValue, withRational, withBoolean, assign, exceeds, start, walkFrom, walk}
+use Rattle.rules.specs.Model.{booleanByte, encodeModel, tooLarge, written, model}
+use Rattle.rules.specs.Checker.{pairable, derived, variableNamed, resultNamed, lineAmong, statedLine, checkSteps, checkProof, checkClauses}
+use Rattle.rules.specs.Calls.{Outcome, faulted, stopped, decided, withinSplits, read, noModel, concluded, outcome, lent, said, proofAfter, modelAfter, solve, wholeSteps, proofChecked, modelChecked, evidence, evidenceBytes}
+use Rattle.rules.specs.Print.{ascii, digitsWithin, decimal, signedDecimal, printLine, printStep, printProof, printModel, printRefusal, printed}
+use Rattle.rules.specs.Needs.{stepsOf, pairsOf, needs, listed, triedResults, roundResults, results}
 
 -- `unfolding definitions` lets a theorem compute
 unfoldable abbrev pub definitions : Unit {0}
-unfolding any all filter same tabulate put gcdWithin gcd gcdAll lcm sum scale combine related isPositive isNegative isZero equal toBytes fromBytes fromUnsigned toUnsigned amountBytes fieldAt padded after repeat byte number tested field inRange amount literal constraint clause end problem literalHolds constraintHolds clauseHolds noBooleans including excluding union meet someYes aLiteralHolds theConstraintHolds lineHolds coefficient positively negatively contains noConstraint isEmpty sameConstraint sameLine membersOf reduced settled settledAll normalClause settledLine normalLine chain parts partsOf splitsOf overSplit eliminated eliminatedFrom oneOf combined resolve originBytes relationByte mask row lineBytes stepBytes proofBytes order roundOf overflows limited unlimited placed covered select pairs numbered loadable loadableOf add load tried tryAll sideOf rounds eliminate course reduce quotient less midpoint plus beyond tighter value boundOf boundsOf gather tightest rationalValue withoutBoolean booleanValue withRational withBoolean assign passes start walkFrom walk booleanByte modelBytes tooLarge written model pairable derived variableNamed resultNamed lineAmong follows checkSteps checkProof checkClauses linked read noModel concluded outcome proofLength lent said proofAfter modelAfter solve wholeSteps proofChecked modelChecked evidence partBytes refusalNumber verdictNumber answerNumber answerValue checkedNumber checkedValue partNumber partLength
+unfolding any all filter concat same tabulate put gcdWithin gcd gcdAll lcm sum scale combine related isPositive isNegative isZero equal toBytes fromBytes fromUnsigned toUnsigned amountBytes fieldAt padded after repeat byte number tested field inRange amount literal constraint clause end problem literalHolds constraintHolds clauseHolds noBooleans including excluding union meet someYes aLiteralHolds theConstraintHolds lineHolds coefficient positively negatively contains noConstraint isEmpty sameConstraint sameLine membersOf reduced settled settledAll normalClause settledLine normalLine chain parts partsOf splitsOf overSplit combination combinationOf oneOf resolvent resolve header headerBytes relationByte mask row lineBytes encodeStep encodeProof order roundOf overflows limited unlimited placed covered select pairUp sideOf roundPairs partSteps loadable loadableOf add load tried tryAll rounds eliminate course reduce quotient less midpoint plus beyond tighter value boundOf boundsOf gather tightest rationalValue withoutBoolean booleanValue withRational withBoolean assign exceeds start walkFrom walk booleanByte encodeModel tooLarge written model pairable derived variableNamed resultNamed lineAmong statedLine checkSteps checkProof checkClauses withinSplits read noModel concluded outcome lent said proofAfter modelAfter solve wholeSteps proofChecked modelChecked evidence evidenceBytes ascii digitsWithin decimal signedDecimal printLine printStep printProof printModel printRefusal printed stepsOf pairsOf needs listed triedResults roundResults results refusalNumber verdictNumber answerNumber answerValue checkedNumber checkedValue evidenceNumber evidenceLength
 definitions = tt
 
--- the answer with its pairs; the lines' origins; and the sheet's marks, numerators and denominator (0 without a sheet)
+-- the answer with its pairs; the lines' origins; and the sheet's booleans, numerators and denominator (0 without a sheet)
 pub record Shown : Type 0 where
   pub solved : Solved
   pub origins : List Origin
-  pub marks : List Bool
+  pub booleans : List Bool
   pub numerators : List ℤ
   pub denominator : ℕ
 
 abbrev pub bare : Solved → List Origin → Shown
-bare a os = record { solved = a; origins = os; marks = []; numerators = []; denominator = 0 }
+bare a os = record { solved = a; origins = os; booleans = []; numerators = []; denominator = 0 }
 
-abbrev pub agrees : ℕ → ℕ → List Origin → List Bool → List ℤ → ℕ → Shown
-agrees lines pairs os marks numerators denominator =
-    record { solved = record { answer = Decided Satisfiable lines; pairs = pairs }; origins = os; marks = marks; numerators = numerators; denominator = denominator }
+abbrev pub satisfiable : ℕ → ℕ → List Origin → List Bool → List ℤ → ℕ → Shown
+satisfiable steps pairs os booleans numerators denominator =
+    record { solved = record { answer = Decided Satisfiable steps; pairs = pairs }; origins = os; booleans = booleans; numerators = numerators; denominator = denominator }
 
-abbrev pub cannot : ℕ → ℕ → List Origin → Shown
-cannot lines pairs os = bare (record { answer = Decided Unsatisfiable lines; pairs = pairs }) os
+abbrev pub unsatisfiable : ℕ → ℕ → List Origin → Shown
+unsatisfiable steps pairs os = bare (record { answer = Decided Unsatisfiable steps; pairs = pairs }) os
 
 -- the sheet read back, for b marks and r figures
-abbrev pub withSheet : Solved → List Origin → ℕ → ℕ → List ℕ → Shown
-withSheet a os b r bytes =
+abbrev pub withModel : Solved → List Origin → ℕ → ℕ → List ℕ → Shown
+withModel a os b r bytes =
     elim (model b r bytes 0) [
       | fault f place ↦ bare a os
-      | got χ rest place ↦ record { solved = a; origins = os; marks = tabulate b (χ .booleans); numerators = tabulate r (χ .numerators); denominator = χ .denominator }
+      | got χ rest place ↦ record { solved = a; origins = os; booleans = tabulate b (χ .booleans); numerators = tabulate r (χ .numerators); denominator = χ .denominator }
     ]
 
 abbrev pub shownOf : List ℕ → Outcome → Shown
 shownOf q (faulted f place) = bare (said (faulted f place)) []
 shownOf q (stopped f steps pairs) = bare (said (stopped f steps pairs)) []
-shownOf q (decided v steps pairs bytes) = withSheet (said (decided v steps pairs bytes)) (map (λ s. s .origin) steps) (getD q 0 0) (getD q 1 0) bytes
+shownOf q (decided v steps pairs bytes) = withModel (said (decided v steps pairs bytes)) (map (λ s. s .origin) steps) (getD q 0 0) (getD q 1 0) bytes
 
 abbrev pub shown : List ℕ → Shown
 shown q = shownOf q (outcome standard q)

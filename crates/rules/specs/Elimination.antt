@@ -1,16 +1,15 @@
 -- The course: loading, then a turn for each figure and mark, to its end or to the first event that ends it.
-use mathlib.Core.Bool.{Bool, true, false, _&&_}
+use mathlib.Core.Bool.{Bool, true, false, not, _&&_}
 use mathlib.Core.List.{List, [], _∷_, _++_, map}
 use mathlib.Core.Option.{Option, none, some}
-use Prim.Native.Nat.{ℕ, zero, suc, _+_}
-use lib.IntN.{ℤ}
+use Prim.Native.Nat.{ℕ, suc, _+_}
 use lib.Dec.{eqb, leb}
 use lib.ListN.{length}
 use Rattle.types.specs.declared.limits.Limits.{Limits}
 use Rattle.types.specs.Limits as limit
-use Rattle.rules.specs.Lists.{any, all, tabulate}
-use Rattle.rules.specs.Problem.{Constraint, Clause, Problem, inRange}
-use Rattle.rules.specs.Lines.{Line, Variable, rational, boolean, positively, negatively, contains, isEmpty, sameLine}
+use Rattle.rules.specs.Lists.{any, tabulate}
+use Rattle.rules.specs.Problem.{Clause, Problem, inRange}
+use Rattle.rules.specs.Lines.{places, Line, Variable, rational, boolean, positively, negatively, contains, isEmpty, sameLine}
 use Rattle.rules.specs.Split.{partsOf, splitsOf}
 use Rattle.rules.specs.Resolve.{resolve}
 use Rattle.rules.specs.Steps.{Step, loaded, resolved, row}
@@ -18,7 +17,7 @@ use Rattle.rules.specs.Steps.{Step, loaded, resolved, row}
 -- ---- turns
 -- "Turn numbers run from 0 to 39: turns 0 to 7 belong to the figures and 8 to 39 to the marks."
 unfoldable pub order : List Variable
-order = tabulate 8 rational ++ tabulate 32 boolean
+order = tabulate limit.rationals rational ++ tabulate places boolean
 
 -- "A line belongs to the earliest turn whose figure or mark it contains"; one that contains none, to none of them
 unfoldable pub roundOf : List Variable → Line → ℕ
@@ -28,19 +27,20 @@ roundOf (v ∷ vs) l = elim (contains v l) [ true ↦ 0 | false ↦ suc (roundOf
 -- ---- what may end the course
 -- a test of a result's amounts and of the count of lines held
 pub record Stops : Type 0 where
-  pub overflow : Line → Bool
-  pub outOfSteps : ℕ → Bool
+  pub atLine : Line → Bool
+  pub atSteps : ℕ → Bool
 
 -- "wide if an amount exceeds 1,000,000,000 in size"
 unfoldable pub overflows : Line → Bool
-overflows l = any (λ z. elim (inRange z) [ true ↦ false | false ↦ true ]) (row (l .constraint))
+overflows l = any (λ z. not (inRange z)) (row (l .constraint))
 
+-- a line is too many where the N lines of the limits are held already
 unfoldable pub limited : Limits → Stops
-limited limits = record { overflow = overflows; outOfSteps = leb (limits .steps) }
+limited limits = record { atLine = overflows; atSteps = λ held. leb (limits .steps) held }
 
 -- "without limits on lines or amounts"
 unfoldable pub unlimited : Stops
-unlimited = record { overflow = λ l. false; outOfSteps = λ n. false }
+unlimited = record { atLine = λ l. false; atSteps = λ held. false }
 
 -- "The first empty line, wide result or line too many ends the course."
 pub data End : Type 0 where
@@ -54,13 +54,13 @@ pub data State : Type 0 where
 -- ---- one line more
 -- wide; equal to an earlier line; one too many; empty: the first of them that is true decides
 unfoldable pub placed : Bool → Bool → Bool → Bool → Step → List Step → ℕ → State
-placed true known many bare s steps pairs = ended overflow steps pairs
-placed false true many bare s steps pairs = running steps pairs
-placed false false true bare s steps pairs = ended outOfSteps steps pairs
-placed false false false true s steps pairs = ended empty (steps ++ (s ∷ [])) pairs
-placed false false false false s steps pairs = running (steps ++ (s ∷ [])) pairs
+placed true known many blank s steps n = ended overflow steps n
+placed false true many blank s steps n = running steps n
+placed false false true blank s steps n = ended outOfSteps steps n
+placed false false false true s steps n = ended empty (steps ++ (s ∷ [])) n
+placed false false false false s steps n = running (steps ++ (s ∷ [])) n
 
--- "dropped if it equals an earlier line"
+-- an earlier line covers it: "dropped if it equals an earlier line"
 unfoldable pub covered : Line → List Step → Bool
 covered l steps = any (λ s. sameLine (s .line) l) steps
 
@@ -74,67 +74,69 @@ pub record Pair : Type 0 where
   pub upper : Numbered
   pub lower : Numbered
 
--- the lines that pass a test, numbered from n on
+-- the lines that pass a test, partSteps from n on
 unfoldable pub select : (Line → Bool) → ℕ → List Step → List Numbered
 select test n [] = []
 select test n (s ∷ ss) =
     elim (test (s .line)) [ true ↦ record { number = n; line = s .line } ∷ select test (suc n) ss | false ↦ select test (suc n) ss ]
 
 -- "paired, in line order, with the lines with it negative, the inner loop"
-unfoldable pub pairs : List Numbered → List Numbered → List Pair
-pairs [] ls = []
-pairs (u ∷ us) ls = map (λ l. record { upper = u; lower = l }) ls ++ pairs us ls
+unfoldable pub pairUp : List Numbered → List Numbered → List Pair
+pairUp [] ls = []
+pairUp (u ∷ us) ls = map (λ l. record { upper = u; lower = l }) ls ++ pairUp us ls
+
+-- turn t's pairs: "its lines with it positive (upper bounds) are paired ... with the lines with it negative"
+unfoldable pub sideOf : (Variable → Line → Bool) → List Variable → Variable → ℕ → List Step → List Numbered
+sideOf side variables v t steps = select (λ l. side v l && eqb (roundOf variables l) t) 0 steps
+
+unfoldable pub roundPairs : List Variable → Variable → ℕ → List Step → List Pair
+roundPairs variables v t steps = pairUp (sideOf positively variables v t steps) (sideOf negatively variables v t steps)
 
 -- ---- loading
 -- the pieces of clause c, from piece p on
-unfoldable pub numbered : ℕ → ℕ → List Line → List Step
-numbered c p [] = []
-numbered c p (l ∷ ls) = record { origin = loaded c p; line = l } ∷ numbered c (suc p) ls
+unfoldable pub partSteps : ℕ → ℕ → List Line → List Step
+partSteps c p [] = []
+partSteps c p (l ∷ ls) = record { origin = loaded c p; line = l } ∷ partSteps c (suc p) ls
 
 -- the pieces of all clauses, in order, from clause c and link k on
 unfoldable pub loadable : ℕ → ℕ → List Clause → List Step
 loadable c k [] = []
-loadable c k (x ∷ xs) = numbered c 0 (partsOf k x) ++ loadable (suc c) (k + splitsOf x) xs
+loadable c k (x ∷ xs) = partSteps c 0 (partsOf k x) ++ loadable (suc c) (k + splitsOf x) xs
 
--- "links, new marks numbered from b upward in clause order"
+-- "links, new marks partSteps from b upward in clause order"
 unfoldable pub loadableOf : Problem → List Step
 loadableOf p = loadable 0 (p .booleans) (p .clauses)
 
 -- ---- the course
 module _ (stops : Stops) where
-  unfoldable pub add : Step → List Step → ℕ → State
-  add s steps n = placed (stops .overflow (s .line)) (covered (s .line) steps) (stops .outOfSteps (length steps)) (isEmpty (s .line)) s steps n
+  -- a line put to the tests; that it is wide is asked of results alone
+  unfoldable pub add : Bool → Step → List Step → ℕ → State
+  add wide s steps n = placed wide (covered (s .line) steps) (stops .atSteps (length steps)) (isEmpty (s .line)) s steps n
 
   -- "Pieces load in order." "Loading drops equal lines too."
   unfoldable pub load : List Step → State → State
   load [] state = state
   load (s ∷ ss) (ended e steps n) = ended e steps n
-  load (s ∷ ss) (running steps n) = load ss (add s steps n)
+  load (s ∷ ss) (running steps n) = load ss (add false s steps n)
 
   -- a pair's result: dropped by tidying, or put to the tests; the pair counts either way
   unfoldable pub tried : Variable → Pair → Option Line → List Step → ℕ → State
   tried v p none steps n = running steps n
-  tried v p (some l) steps n = add (record { origin = resolved v (p .upper .number) (p .lower .number); line = l }) steps n
+  tried v p (some l) steps n = add (stops .atLine l) (record { origin = resolved v (p .upper .number) (p .lower .number); line = l }) steps n
 
   unfoldable pub tryAll : Variable → List Pair → State → State
   tryAll v [] state = state
   tryAll v (p ∷ ps) (ended e steps n) = ended e steps n
   tryAll v (p ∷ ps) (running steps n) = tryAll v ps (tried v p (resolve v (p .upper .line) (p .lower .line)) steps (suc n))
 
-  module _ (variables : List Variable) where
-    -- "its lines with it positive", or negative: those of turn t
-    unfoldable pub sideOf : (Variable → Line → Bool) → Variable → ℕ → List Step → List Numbered
-    sideOf side v t steps = select (λ l. side v l && eqb (roundOf variables l) t) 0 steps
+  -- the turns from t on, of these figures and marks; `variables` is the whole order
+  unfoldable pub rounds : List Variable → ℕ → List Variable → State → State
+  rounds variables t [] state = state
+  rounds variables t (v ∷ vs) (ended e steps n) = ended e steps n
+  rounds variables t (v ∷ vs) (running steps n) = rounds variables (suc t) vs (tryAll v (roundPairs variables v t steps) (running steps n))
 
-    -- the turns from t on, of these figures and marks
-    unfoldable pub rounds : ℕ → List Variable → State → State
-    rounds t [] state = state
-    rounds t (v ∷ vs) (ended e steps n) = ended e steps n
-    rounds t (v ∷ vs) (running steps n) =
-        rounds (suc t) vs (tryAll v (pairs (sideOf positively v t steps) (sideOf negatively v t steps)) (running steps n))
-
-    unfoldable pub eliminate : List Step → State
-    eliminate parts = rounds 0 variables (load parts (running [] 0))
+  unfoldable pub eliminate : List Variable → List Step → State
+  eliminate variables parts = rounds variables 0 variables (load parts (running [] 0))
 
 -- a question's course
 unfoldable pub course : Stops → Problem → State

@@ -9,10 +9,12 @@ pub mod Split
 pub mod Resolve
 pub mod Steps
 pub mod Elimination
+pub mod Needs
 pub mod Values
 pub mod Model
 pub mod Checker
 pub mod Calls
+pub mod Print
 pub mod Write
 pub mod Compute
 pub mod Examples

@@ -2,20 +2,25 @@
 use mathlib.Core.Bool.{Bool, true, false, not, _&&_, _||_, Bool·beq}
 use mathlib.Core.List.{List, [], _∷_}
 use mathlib.Core.Option.{Option, none, some}
-use Prim.Native.Nat.{ℕ, zero, suc}
+use Prim.Native.Nat.{ℕ, suc, _+_}
 use lib.IntN.{ℤ, pos}
 use lib.ListN.{getD, replicate, set}
+use Rattle.types.specs.Limits as limit
 use Rattle.rules.specs.Lists.{any, same}
 use Rattle.rules.specs.Arithmetic.{isPositive, isNegative, equal}
 use Rattle.rules.specs.Problem.{Constraint}
 use Rattle.rules.specs.Meaning.{Assignment, constraintHolds}
 
--- a set of marks, the question's and the links: mark i is a member if place i says so. There are 32 places.
+-- a set of marks, the question's and the links: mark i is a member if place i says so; 16 marks and 16 links have 32 places, as many as
+-- four bytes have bits
+abbrev pub places : ℕ
+places = limit.booleans + limit.splits
+
 abbrev pub Booleans : Type 0
 Booleans = List Bool
 
 unfoldable pub noBooleans : Booleans
-noBooleans = replicate 32 false
+noBooleans = replicate places false
 
 unfoldable pub including : ℕ → Booleans → Booleans
 including i s = set s i true

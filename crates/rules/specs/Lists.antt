@@ -1,6 +1,6 @@
 -- Lists that the rules count with.
 use mathlib.Core.Bool.{Bool, true, false, _&&_, _||_}
-use mathlib.Core.List.{List, [], _∷_}
+use mathlib.Core.List.{List, [], _∷_, _++_}
 use Prim.Native.Nat.{ℕ, zero, suc}
 
 module _ {A : Type 0} where
@@ -17,6 +17,10 @@ module _ {A : Type 0} where
   unfoldable pub filter : (A → Bool) → List A → List A
   filter test [] = []
   filter test (x ∷ xs) = elim (test x) [ true ↦ x ∷ filter test xs | false ↦ filter test xs ]
+
+  unfoldable pub concat : List (List A) → List A
+  concat [] = []
+  concat (xs ∷ xss) = xs ++ concat xss
 
   -- as long as each other, and equal element by element
   unfoldable pub same : (A → A → Bool) → List A → List A → Bool

@@ -1,6 +1,5 @@
 -- The question's meaning: when a choice of marks and of rational figures satisfies it.
-use mathlib.Core.Bool.{Bool, true, false, not, cond, _||_}
-use mathlib.Core.List.{List}
+use mathlib.Core.Bool.{Bool, not, cond, _||_}
 use Prim.Native.Nat.{ℕ, _≤_}
 use lib.IntN.{ℤ, pos, _*ℤ_}
 use lib.Dec.{T}
@@ -9,7 +8,7 @@ use Rattle.rules.specs.Arithmetic.{sum, related}
 use Rattle.rules.specs.Problem.{Literal, Constraint, Clause, Problem}
 
 -- a choice: a yes or no for each mark, a whole numerator for each figure, and one whole denominator, of any size; what stands
--- beyond a question's marks and figures is never looked at
+-- beyond a question's marks and figures makes no difference
 pub record Assignment : Type 0 where
   pub booleans : ℕ → Bool
   pub numerators : ℕ → ℤ

@@ -1,16 +1,16 @@
 -- The sheet: its 64 bytes, "unwritten", and a sheet read back.
 use mathlib.Core.Bool.{Bool, true, false, cond, _&&_, _||_}
-use mathlib.Core.List.{List, [], _∷_, _++_}
+use mathlib.Core.List.{List, _∷_, _++_}
 use mathlib.Core.Option.{Option, none, some}
 use Prim.Native.Nat.{ℕ}
-use lib.IntN.{ℤ, pos, natAbs}
+use lib.IntN.{pos, natAbs}
 use lib.Dec.{eqb, leb, ltb}
 use lib.ListN.{getD}
 use Rattle.types.specs.declared.answers.Refusal.the-variants as refusal
 use Rattle.types.specs.Limits as limit
 use Rattle.rules.specs.Lists.{any, tabulate}
 use Rattle.rules.specs.Bytes.{toBytes, amountBytes, padded}
-use Rattle.rules.specs.Problem.{Problem, Reader, _>>=_, return, repeat, field, amount}
+use Rattle.rules.specs.Problem.{Reader, _>>=_, return, repeat, field, amount}
 use Rattle.rules.specs.Meaning.{Assignment}
 use Rattle.rules.specs.Values.{Walked}
 
@@ -19,8 +19,8 @@ unfoldable pub booleanByte : Bool → ℕ
 booleanByte a = cond a 1 0
 
 -- "b; b bytes of 0 or 1; r; four bytes denominator; r numerators of four bytes; zeros"
-unfoldable pub modelBytes : ℕ → ℕ → Assignment → List ℕ
-modelBytes b r χ =
+unfoldable pub encodeModel : ℕ → ℕ → Assignment → List ℕ
+encodeModel b r χ =
     padded limit.modelBytes (b ∷ tabulate b (λ i. booleanByte (χ .booleans i)) ++ (r ∷ toBytes 4 (χ .denominator)) ++ amountBytes (tabulate r (χ .numerators)))
 
 -- "or the common denominator (the least) or a numerator over it does"
@@ -29,7 +29,7 @@ tooLarge r χ = ltb limit.amount (χ .denominator) || any (λ z. ltb limit.amoun
 
 -- the sheet of a walk, or none: "unwritten"
 unfoldable pub written : ℕ → ℕ → Walked → Option (List ℕ)
-written b r w = elim (w .beyond || tooLarge r (w .assignment)) [ true ↦ none | false ↦ some (modelBytes b r (w .assignment)) ]
+written b r w = elim (w .exceeded || tooLarge r (w .assignment)) [ true ↦ none | false ↦ some (encodeModel b r (w .assignment)) ]
 
 -- ---- a sheet to check
 -- 17: "count differs, mark not 0 or 1, denominator outside 1 to 1,000,000,000, numerator outside the amounts' range; first byte of the
@@ -37,8 +37,8 @@ written b r w = elim (w .beyond || tooLarge r (w .assignment)) [ true ↦ none |
 unfoldable pub model : ℕ → ℕ → Reader Assignment
 model b r = do
   b′ ← field 1 (eqb b) refusal.BadModel
-  marks ← repeat b (field 1 (λ n. leb n 1) refusal.BadModel)
+  booleans ← repeat b (field 1 (λ n. leb n 1) refusal.BadModel)
   r′ ← field 1 (eqb r) refusal.BadModel
   denominator ← field 4 (λ n. leb 1 n && leb n limit.amount) refusal.BadModel
   numerators ← repeat r (amount refusal.BadModel)
-  return (record { booleans = λ i. eqb (getD marks i 0) 1; numerators = λ f. getD numerators f (pos 0); denominator = denominator })
+  return (record { booleans = λ i. eqb (getD booleans i 0) 1; numerators = λ f. getD numerators f (pos 0); denominator = denominator })

@@ -1,5 +1,5 @@
 -- The book: a line with its origin, and its 64 bytes.
-use mathlib.Core.Bool.{Bool, true, false, cond}
+use mathlib.Core.Bool.{cond}
 use mathlib.Core.List.{List, [], _∷_, _++_}
 use mathlib.Core.Option.{Option, none, some}
 use Prim.Native.Nat.{ℕ, _+_, _*_}
@@ -21,10 +21,19 @@ pub record Step : Type 0 where
 
 -- "Byte 0: how (0 loaded, 1 by a figure, 2 by a mark). Byte 1: which figure or mark, 0 if loaded. Two bytes: first parent line
 -- (loaded: clause). Two: second parent (loaded: piece)."
-unfoldable pub originBytes : Origin → List ℕ
-originBytes (loaded clause part) = 0 ∷ 0 ∷ toBytes 2 clause ++ toBytes 2 part
-originBytes (resolved (rational f) first second) = 1 ∷ f ∷ toBytes 2 first ++ toBytes 2 second
-originBytes (resolved (boolean i) first second) = 2 ∷ i ∷ toBytes 2 first ++ toBytes 2 second
+pub record Header : Type 0 where
+  pub how : ℕ
+  pub which : ℕ
+  pub first : ℕ
+  pub second : ℕ
+
+unfoldable pub header : Origin → Header
+header (loaded clause part) = record { how = 0; which = 0; first = clause; second = part }
+header (resolved (rational f) first second) = record { how = 1; which = f; first = first; second = second }
+header (resolved (boolean i) first second) = record { how = 2; which = i; first = first; second = second }
+
+unfoldable pub headerBytes : Header → List ℕ
+headerBytes h = h .how ∷ h .which ∷ toBytes 2 (h .first) ++ toBytes 2 (h .second)
 
 -- "relation, 0 without a condition"
 unfoldable pub relationByte : Option Constraint → ℕ
@@ -41,14 +50,15 @@ unfoldable pub row : Option Constraint → List ℤ
 row none = replicate (limit.rationals + 1) (pos 0)
 row (some c) = c .coefficients ++ (c .bound ∷ [])
 
--- "Byte 6: relation ... Byte 7: 0. Four bytes each: positive marks, negative marks ... 12 zero bytes."
+-- "Byte 6: relation ... Byte 7: 0. Four bytes each: positive marks, negative marks"
 unfoldable pub lineBytes : Line → List ℕ
 lineBytes l =
     relationByte (l .constraint) ∷ 0 ∷ toBytes 4 (mask (l .positive)) ++ toBytes 4 (mask (l .negative)) ++ amountBytes (row (l .constraint))
 
-unfoldable pub stepBytes : Step → List ℕ
-stepBytes s = padded limit.stepBytes (originBytes (s .origin) ++ lineBytes (s .line))
+-- the line's 64 bytes: "12 zero bytes" are left
+unfoldable pub encodeStep : Step → List ℕ
+encodeStep s = padded limit.stepBytes (headerBytes (header (s .origin)) ++ lineBytes (s .line))
 
-unfoldable pub proofBytes : List Step → List ℕ
-proofBytes [] = []
-proofBytes (s ∷ ss) = stepBytes s ++ proofBytes ss
+unfoldable pub encodeProof : List Step → List ℕ
+encodeProof [] = []
+encodeProof (s ∷ ss) = encodeStep s ++ encodeProof ss

@@ -1,7 +1,7 @@
 -- Document 01's "Traps of this trade", where the starred examples would let a wrong rule pass: one small theorem each.
 use mathlib.Core.Path.{_≡_, refl}
 use mathlib.Core.List.{List, [], _∷_}
-use mathlib.Core.Bool.{true, false}
+use mathlib.Core.Bool.{false}
 use mathlib.Core.Option.{some}
 use Prim.Native.Nat.{ℕ}
 use lib.IntN.{ℤ, pos, negsuc}
@@ -10,10 +10,10 @@ use Rattle.types.specs.declared.answers.Checked.{Checked}
 use Rattle.types.specs.declared.answers.Checked.the-variants.{Fails}
 use Rattle.types.specs.Limits.{standard}
 use Rattle.rules.specs.Lines.{noBooleans, rational}
-use Rattle.rules.specs.Steps.{Origin, loaded, resolved, Step, proofBytes}
+use Rattle.rules.specs.Steps.{Origin, loaded, resolved, Step, encodeProof}
 use Rattle.rules.specs.Calls.{proofChecked}
-use Rattle.rules.specs.Write.{atMost, below, clauseOf, alone, question}
-use Rattle.rules.specs.Compute.{definitions, agrees, cannot, shown}
+use Rattle.rules.specs.Write.{atMost, below, clauseOf, alone, problemOf}
+use Rattle.rules.specs.Compute.{definitions, satisfiable, unsatisfiable, shown}
 
 -- a line without literals whose condition is coefficient × x ≤ bound
 abbrev stepOf : Origin → ℤ → ℤ → Step
@@ -24,45 +24,45 @@ abbrev proofCheck : List ℕ → List ℕ → Checked
 proofCheck = proofChecked standard
 
 -- "Calling a pair strict only if both are": x ≤ 5; -x < -5. Example 4 has its < on the upper side alone.
-pub strict-if-the-lower-is : shown (question 0 1 (alone (atMost (pos 1 ∷ []) (pos 5)) ∷ alone (below (negsuc 0 ∷ []) (negsuc 4)) ∷ []))
-    ≡ cannot 3 1 (loaded 0 0 ∷ loaded 1 0 ∷ resolved (rational 0) 0 1 ∷ [])
+pub strict-if-the-lower-is : shown (problemOf 0 1 (alone (atMost (pos 1 ∷ []) (pos 5)) ∷ alone (below (negsuc 0 ∷ []) (negsuc 4)) ∷ []))
+    ≡ unsatisfiable 3 1 (loaded 0 0 ∷ loaded 1 0 ∷ resolved (rational 0) 0 1 ∷ [])
 unfolding definitions
 strict-if-the-lower-is = refl
 
 -- "scaling by a negative coefficient without turning the relation": of x ≤ 5 and -x ≤ -4 the pair taken the wrong way round would state
 -- -2x ≤ -9, which x = 4 refutes; a book that says so fails there
 pub first-parent-is-the-upper : proofCheck
-    (question 0 1 (alone (atMost (pos 1 ∷ []) (pos 5)) ∷ alone (atMost (negsuc 0 ∷ []) (negsuc 3)) ∷ []))
-    (proofBytes (stepOf (loaded 0 0) (pos 1) (pos 5) ∷ stepOf (loaded 1 0) (negsuc 0) (negsuc 3) ∷ stepOf (resolved (rational 0) 1 0) (negsuc 1) (negsuc 8) ∷ []))
+    (problemOf 0 1 (alone (atMost (pos 1 ∷ []) (pos 5)) ∷ alone (atMost (negsuc 0 ∷ []) (negsuc 3)) ∷ []))
+    (encodeProof (stepOf (loaded 0 0) (pos 1) (pos 5) ∷ stepOf (loaded 1 0) (negsuc 0) (negsuc 3) ∷ stepOf (resolved (rational 0) 1 0) (negsuc 1) (negsuc 8) ∷ []))
     ≡ Fails 2
 unfolding definitions
 first-parent-is-the-upper = refl
 
 -- "calling a constant wide before dropping it": 3x ≤ 10^9; -2x ≤ 10^9 give 0 ≤ 5 × 10^9, true; with -10^9 twice, 0 ≤ -5 × 10^9, false
-pub true-constant-is-dropped : shown (question 0 1 (alone (atMost (pos 3 ∷ []) (pos 1000000000)) ∷ alone (atMost (negsuc 1 ∷ []) (pos 1000000000)) ∷ []))
-    ≡ agrees 2 1 (loaded 0 0 ∷ loaded 1 0 ∷ []) [] (negsuc 499999999 ∷ []) 1
+pub true-constant-is-dropped : shown (problemOf 0 1 (alone (atMost (pos 3 ∷ []) (pos 1000000000)) ∷ alone (atMost (negsuc 1 ∷ []) (pos 1000000000)) ∷ []))
+    ≡ satisfiable 2 1 (loaded 0 0 ∷ loaded 1 0 ∷ []) [] (negsuc 499999999 ∷ []) 1
 unfolding definitions
 true-constant-is-dropped = refl
 
-pub false-constant-is-struck : shown (question 0 1 (alone (atMost (pos 3 ∷ []) (negsuc 999999999)) ∷ alone (atMost (negsuc 1 ∷ []) (negsuc 999999999)) ∷ []))
-    ≡ cannot 3 1 (loaded 0 0 ∷ loaded 1 0 ∷ resolved (rational 0) 0 1 ∷ [])
+pub false-constant-is-struck : shown (problemOf 0 1 (alone (atMost (pos 3 ∷ []) (negsuc 999999999)) ∷ alone (atMost (negsuc 1 ∷ []) (negsuc 999999999)) ∷ []))
+    ≡ unsatisfiable 3 1 (loaded 0 0 ∷ loaded 1 0 ∷ resolved (rational 0) 0 1 ∷ [])
 unfolding definitions
 false-constant-is-struck = refl
 
 -- "taking L + 1 where U lies closer", U not strict: 2x ≤ 9; -x < -4. Example 5 has both strict.
-pub the-upper-end-is-closer : shown (question 0 1 (alone (atMost (pos 2 ∷ []) (pos 9)) ∷ alone (below (negsuc 0 ∷ []) (negsuc 3)) ∷ []))
-    ≡ agrees 2 1 (loaded 0 0 ∷ loaded 1 0 ∷ []) [] (pos 9 ∷ []) 2
+pub the-upper-end-is-closer : shown (problemOf 0 1 (alone (atMost (pos 2 ∷ []) (pos 9)) ∷ alone (below (negsuc 0 ∷ []) (negsuc 3)) ∷ []))
+    ≡ satisfiable 2 1 (loaded 0 0 ∷ loaded 1 0 ∷ []) [] (pos 9 ∷ []) 2
 unfolding definitions
 the-upper-end-is-closer = refl
 
 -- "reusing one link in two clauses": x ≤ 1 or -x ≤ -9; -x ≤ -8 or x ≤ 2. With one link for both no x would do.
-pub each-clause-has-its-links : shown (question 0 1 (clauseOf [] (atMost (pos 1 ∷ []) (pos 1) ∷ atMost (negsuc 0 ∷ []) (negsuc 8) ∷ []) ∷ clauseOf [] (atMost (negsuc 0 ∷ []) (negsuc 7) ∷ atMost (pos 1 ∷ []) (pos 2) ∷ []) ∷ []))
-    ≡ agrees 6 5 (loaded 0 0 ∷ loaded 0 1 ∷ loaded 1 0 ∷ loaded 1 1 ∷ resolved (rational 0) 0 2 ∷ resolved (rational 0) 3 1 ∷ []) [] (pos 9 ∷ []) 1
+pub each-clause-has-its-links : shown (problemOf 0 1 (clauseOf [] (atMost (pos 1 ∷ []) (pos 1) ∷ atMost (negsuc 0 ∷ []) (negsuc 8) ∷ []) ∷ clauseOf [] (atMost (negsuc 0 ∷ []) (negsuc 7) ∷ atMost (pos 1 ∷ []) (pos 2) ∷ []) ∷ []))
+    ≡ satisfiable 6 5 (loaded 0 0 ∷ loaded 0 1 ∷ loaded 1 0 ∷ loaded 1 1 ∷ resolved (rational 0) 0 2 ∷ resolved (rational 0) 3 1 ∷ []) [] (pos 9 ∷ []) 1
 unfolding definitions
 each-clause-has-its-links = refl
 
 -- the same within one clause: x ≤ 0 or -x ≤ -5 or x ≤ -10; -x ≤ -6
-pub each-condition-has-its-link : shown (question 0 1 (clauseOf [] (atMost (pos 1 ∷ []) (pos 0) ∷ atMost (negsuc 0 ∷ []) (negsuc 4) ∷ atMost (pos 1 ∷ []) (negsuc 9) ∷ []) ∷ alone (atMost (negsuc 0 ∷ []) (negsuc 5)) ∷ []))
-    ≡ agrees 6 4 (loaded 0 0 ∷ loaded 0 1 ∷ loaded 0 2 ∷ loaded 1 0 ∷ resolved (rational 0) 0 3 ∷ resolved (rational 0) 2 3 ∷ []) [] (pos 6 ∷ []) 1
+pub each-condition-has-its-link : shown (problemOf 0 1 (clauseOf [] (atMost (pos 1 ∷ []) (pos 0) ∷ atMost (negsuc 0 ∷ []) (negsuc 4) ∷ atMost (pos 1 ∷ []) (negsuc 9) ∷ []) ∷ alone (atMost (negsuc 0 ∷ []) (negsuc 5)) ∷ []))
+    ≡ satisfiable 6 4 (loaded 0 0 ∷ loaded 0 1 ∷ loaded 0 2 ∷ loaded 1 0 ∷ resolved (rational 0) 0 3 ∷ resolved (rational 0) 2 3 ∷ []) [] (pos 6 ∷ []) 1
 unfolding definitions
 each-condition-has-its-link = refl

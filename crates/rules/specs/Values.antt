@@ -1,8 +1,8 @@
 -- The walk backwards: a yes or no for each mark, a fraction for each figure.
 use mathlib.Core.Bool.{Bool, true, false, not, _&&_, _||_}
-use mathlib.Core.List.{List, [], _∷_, map}
-use mathlib.Core.Option.{Option, none, some}
-use Prim.Native.Nat.{ℕ, zero, suc, _+_, _*_, _/_}
+use mathlib.Core.List.{List, [], _∷_}
+use mathlib.Core.Option.{none, some}
+use Prim.Native.Nat.{ℕ, suc, _*_, _/_}
 use lib.IntN.{ℤ, pos, negsuc, negℤ, natAbs, _+ℤ_, _-ℤ_, _*ℤ_}
 use lib.Signed.{ltZ, quotZ}
 use lib.Dec.{eqb, ltb}
@@ -120,16 +120,16 @@ assign (rational f) ls χ = withRational f (rationalValue χ f ls) χ
 assign (boolean i) ls χ = withBoolean i (booleanValue χ i ls) χ
 
 -- "a gathered bound or value, reduced, has numerator or denominator beyond"
-unfoldable pub passes : Variable → List Line → Assignment → Bool
-passes (rational f) ls χ =
+unfoldable pub exceeds : Variable → List Line → Assignment → Bool
+exceeds (rational f) ls χ =
     any (λ g. beyond (g .at)) (gather negatively χ f ls) || any (λ g. beyond (g .at)) (gather positively χ f ls) || beyond (rationalValue χ f ls)
-passes (boolean i) ls χ = false
+exceeds (boolean i) ls χ = false
 
 -- ---- the walk
 -- the choice reached, and whether a gathered bound or a value was beyond
 pub record Walked : Type 0 where
   pub assignment : Assignment
-  pub beyond : Bool
+  pub exceeded : Bool
 
 -- no marks yes, all figures 0
 unfoldable pub start : Assignment
@@ -138,11 +138,11 @@ start = record { booleans = λ i. false; numerators = λ f. pos 0; denominator =
 -- "turns are walked backwards": those from t on, of these figures and marks, the last of them first
 module _ (variables : List Variable) (lines : List Line) where
   unfoldable pub walkFrom : ℕ → List Variable → Walked
-  walkFrom t [] = record { assignment = start; beyond = false }
+  walkFrom t [] = record { assignment = start; exceeded = false }
   walkFrom t (v ∷ vs) =
       let w = walkFrom (suc t) vs in
       let ls = filter (λ l. eqb (roundOf variables l) t) lines in
-      record { assignment = assign v ls (w .assignment); beyond = w .beyond || passes v ls (w .assignment) }
+      record { assignment = assign v ls (w .assignment); exceeded = w .exceeded || exceeds v ls (w .assignment) }
 
   unfoldable pub walk : Walked
   walk = walkFrom 0 variables

@@ -3,11 +3,8 @@ use mathlib.Core.List.{List, [], _∷_, _++_}
 use Prim.Native.Nat.{ℕ}
 use lib.IntN.{ℤ}
 use lib.ListN.{length}
+use Rattle.rules.specs.Lists.{concat}
 use Rattle.rules.specs.Bytes.{toBytes, amountBytes}
-
-abbrev pub concat : List (List ℕ) → List ℕ
-concat [] = []
-concat (x ∷ xs) = x ++ concat xs
 
 -- a condition: relation byte, coefficients, bound
 abbrev pub atMost : List ℤ → ℤ → List ℕ
@@ -18,11 +15,11 @@ below cs k = 2 ∷ amountBytes cs ++ amountBytes (k ∷ [])
 
 -- a clause of literal bytes and conditions; of one condition alone
 abbrev pub clauseOf : List ℕ → List (List ℕ) → List ℕ
-clauseOf literals conditions = length literals ∷ literals ++ (length conditions ∷ concat conditions)
+clauseOf literals constraints = length literals ∷ literals ++ (length constraints ∷ concat constraints)
 
 abbrev pub alone : List ℕ → List ℕ
-alone condition = clauseOf [] (condition ∷ [])
+alone constraint = clauseOf [] (constraint ∷ [])
 
 -- b, r, and the clauses after their count
-abbrev pub question : ℕ → ℕ → List (List ℕ) → List ℕ
-question b r clauses = b ∷ r ∷ toBytes 2 (length clauses) ++ concat clauses
+abbrev pub problemOf : ℕ → ℕ → List (List ℕ) → List ℕ
+problemOf b r clauses = b ∷ r ∷ toBytes 2 (length clauses) ++ concat clauses

@@ -9,8 +9,8 @@ use Rattle.types.specs.declared.answers.Answer.{Answer}
 use Rattle.types.specs.declared.answers.Answer.the-variants as answer
 use Rattle.types.specs.declared.answers.Checked.{Checked}
 use Rattle.types.specs.declared.answers.Checked.the-variants as checked
-use Rattle.types.specs.declared.answers.Part.{Part}
-use Rattle.types.specs.declared.answers.Part.the-variants.{OfProof, OfModel}
+use Rattle.types.specs.declared.answers.Evidence.{Evidence}
+use Rattle.types.specs.declared.answers.Evidence.the-variants.{OfProof, OfModel}
 
 -- document 01's word after each
 unfoldable pub refusalNumber : Refusal → ℕ
@@ -59,10 +59,10 @@ checkedValue (checked.Fails n) = n
 checkedValue (checked.Refused f p) = p
 
 -- a part of the book, a part of the sheet
-unfoldable pub partNumber : Part → ℕ
-partNumber (OfProof n) = 69
-partNumber (OfModel n) = 70
+unfoldable pub evidenceNumber : Evidence → ℕ
+evidenceNumber (OfProof n) = 69
+evidenceNumber (OfModel n) = 70
 
-unfoldable pub partLength : Part → ℕ
-partLength (OfProof n) = n
-partLength (OfModel n) = n
+unfoldable pub evidenceLength : Evidence → ℕ
+evidenceLength (OfProof n) = n
+evidenceLength (OfModel n) = n

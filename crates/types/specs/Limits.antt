@@ -41,6 +41,7 @@ amount = 1000000000
 abbrev pub steps : ℕ
 steps = 1024
 
+-- the limits of a caller who lends the whole book, and the bytes of a book of N lines
 abbrev pub standard : Limits
 standard = record { steps = steps }
 

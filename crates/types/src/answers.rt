@@ -48,7 +48,7 @@ pub enum Checked {
 }
 
 // What is handed back: the first so many bytes of the lent proof or of the lent model.
-pub enum Part {
+pub enum Evidence {
     OfProof(usize),
     OfModel(usize),
 }

@@ -49,7 +49,7 @@ impl Limits {
         steps * Limits::STEP_BYTES
     }
 
-    // The constants are those of the definitions.
+    // The constants are those of the definitions: proved here once, so that no other proof compares the numbers.
     pub fn stated() -> bool
         ensures bytes { λ _. do ⌜ ((← ⟦Limits::PROBLEM_BYTES⟧ .entry) ≡ problemBytes) × ((← ⟦Limits::STEP_BYTES⟧ .entry) ≡ stepBytes) × ((← ⟦Limits::MODEL_BYTES⟧ .entry) ≡ modelBytes) ⌝ }
         ensures problem { λ _. do ⌜ ((← ⟦Limits::BOOLEANS⟧ .entry) ≡ booleans) × ((← ⟦Limits::RATIONALS⟧ .entry) ≡ rationals) × ((← ⟦Limits::CLAUSES⟧ .entry) ≡ clauses) ⌝ }

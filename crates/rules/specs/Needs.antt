@@ -1,0 +1,53 @@
+-- What a course needs: the premise under which demand 3 promises a verdict.
+use mathlib.Core.Bool.{not}
+use mathlib.Core.List.{List, [], _∷_, _++_}
+use mathlib.Core.Option.{Option, none, some}
+use Prim.Native.Nat.{ℕ, suc, _≤_}
+use lib.Dec.{T}
+use lib.ListN.{length}
+use Rattle.types.specs.declared.limits.Limits.{Limits}
+use Rattle.rules.specs.Lists.{all}
+use Rattle.rules.specs.Problem.{Problem}
+use Rattle.rules.specs.Lines.{Line, Variable}
+use Rattle.rules.specs.Resolve.{resolve}
+use Rattle.rules.specs.Steps.{Step}
+use Rattle.rules.specs.Elimination.{State, running, ended, Pair, order, overflows, unlimited, roundPairs, loadableOf, load, tried, tryAll, course}
+
+-- the lines that a course holds, and the pairs that it has tried
+unfoldable pub stepsOf : State → List Step
+stepsOf (running steps n) = steps
+stepsOf (ended e steps n) = steps
+
+unfoldable pub pairsOf : State → ℕ
+pairsOf (running steps n) = n
+pairsOf (ended e steps n) = n
+
+-- "The course needs every line it would add without limits on lines or amounts, up to its first empty line, which counts, or its end."
+unfoldable pub needs : Problem → ℕ
+needs p = length (stepsOf (course unlimited p))
+
+-- every tidied result that it comes to, also one that an earlier line covers
+unfoldable pub listed : Option Line → List Line
+listed none = []
+listed (some l) = l ∷ []
+
+unfoldable pub triedResults : Variable → List Pair → State → List Line
+triedResults v [] state = []
+triedResults v (p ∷ ps) (ended e steps n) = []
+triedResults v (p ∷ ps) (running steps n) =
+    let m = resolve v (p .upper .line) (p .lower .line) in listed m ++ triedResults v ps (tried unlimited v p m steps (suc n))
+
+unfoldable pub roundResults : List Variable → ℕ → List Variable → State → List Line
+roundResults variables t [] state = []
+roundResults variables t (v ∷ vs) (ended e steps n) = []
+roundResults variables t (v ∷ vs) (running steps n) =
+    let ps = roundPairs variables v t steps in
+    triedResults v ps (running steps n) ++ roundResults variables (suc t) vs (tryAll unlimited v ps (running steps n))
+
+unfoldable pub results : Problem → List Line
+results p = roundResults order 0 order (load unlimited (loadableOf p) (running [] 0))
+
+-- "needs at most 1,024 lines and no amount in a tidied result beyond 1,000,000,000 in size"
+pub record Fits (limits : Limits) (p : Problem) : Type 0 where
+  pub steps : needs p ≤ limits .steps
+  pub amounts : T (all (λ l. not (overflows l)) (results p))
