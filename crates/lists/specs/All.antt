@@ -1,10 +1,13 @@
 -- Facts of every element, or of some, along a list; no membership proofs.
+use mathlib.Core.Path.{_≡_, refl, ap}
 use mathlib.Core.Bool.{Bool, true, false, not}
 use mathlib.Core.Logic.{_⊎_, inl, inr, ⊎-elim}
-use mathlib.Core.List.{List, [], _∷_, _++_}
+use mathlib.Core.List.{List, [], _∷_, _++_, map}
+use Prim.Native.Nat.{ℕ, zero, suc, _<_}
+use native.Mathlib.Omega.{arith}
 use lib.Dec.{T}
 use mir.Facts.{or-yes, or-no, and-yes, yes-and}
-use Rattle.rules.specs.Lists.{any, all, filter}
+use Rattle.rules.specs.Lists.{any, all, filter, tabulate}
 use Rattle.lists.specs.Tests.{or-l, or-r}
 
 module _ {A : Type 0} where
@@ -95,3 +98,36 @@ module _ {A : Type 0} where
   unfolding filter
   all-filter P p [] h = tt
   all-filter P p (a ∷ s) h = let r = one-kept P a (filter p s) (p a) h in (r .0, all-filter P p s (r .1))
+
+-- ---- made lists
+module _ {A : Type 0} (P : A → Type 0) where
+  -- what holds of everything
+  pub every : (s : List A) → ((a : A) → P a) → All P s
+  every [] h = tt
+  every (a ∷ s) h = (h a, every s h)
+
+  -- the element at place i of f 0, f 1, ..
+  pub any-tabulate : (n : ℕ) (f : ℕ → A) (i : ℕ) → i < n → P (f i) → Any P (tabulate n f)
+  unfolding tabulate
+  any-tabulate zero f i h p = absurd (omega arith)
+  any-tabulate (suc n) f zero h p = inl p
+  any-tabulate (suc n) f (suc i) h p = inr (any-tabulate n (λ j. f (suc j)) i (omega arith) p)
+
+module _ {A B : Type 0} (P : B → Type 0) (f : A → B) where
+  pub any-mapped : (s : List A) → Any (λ a. P (f a)) s → Any P (map f s)
+  any-mapped [] h = absurd h
+  any-mapped (a ∷ s) (inl h) = inl h
+  any-mapped (a ∷ s) (inr h) = inr (any-mapped s h)
+
+  pub mapped-all : (s : List A) → All P (map f s) → All (λ a. P (f a)) s
+  mapped-all [] h = tt
+  mapped-all (a ∷ s) h = (h .0, mapped-all s (h .1))
+
+  pub all-mapped : (s : List A) → All (λ a. P (f a)) s → All P (map f s)
+  all-mapped [] h = tt
+  all-mapped (a ∷ s) h = (h .0, all-mapped s (h .1))
+
+module _ {A B : Type 0} (f : A → B) where
+  pub map-append : (s t : List A) → map f (s ++ t) ≡ map f s ++ map f t
+  map-append [] t = refl
+  map-append (a ∷ s) t = ap (λ (l : List B). f a ∷ l) (map-append s t)

@@ -1,6 +1,6 @@
 -- Tests as facts: leaving a Bool for a proof, and entering it again.
 use mathlib.Core.Path.{_≡_, refl, sym, subst}
-use mathlib.Core.Bool.{Bool, true, false, not, _||_}
+use mathlib.Core.Bool.{Bool, true, false, not, _||_, _&&_}
 use mathlib.Core.Logic.{_⊎_, inl, inr, ⊎-elim}
 use lib.Dec.{T}
 use mir.Facts.{or-yes}
@@ -49,3 +49,15 @@ or-map a b c d f g h = ⊎-elim (λ k. or-l c d (f k)) (λ k. or-r c d (g k)) (o
 pub nor : (a b : Bool) → T (not a) → T (not b) → T (not (a || b))
 nor true b h k = absurd h
 nor false b h k = k
+
+pub tests-agree : (a b : Bool) → (T a → T b) → (T b → T a) → a ≡ b
+tests-agree true true f g = refl
+tests-agree true false f g = absurd (f tt)
+tests-agree false true f g = absurd (g tt)
+tests-agree false false f g = refl
+
+-- not "the first without the second": the second follows from the first
+pub unless : (a b : Bool) → T (not (a && not b)) → T a → T b
+unless true true n h = tt
+unless true false n h = absurd n
+unless false b n h = absurd h

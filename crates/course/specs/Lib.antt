@@ -1,0 +1,17 @@
+pub mod States
+pub mod Events
+pub mod Cut
+pub mod Pairs
+pub mod Induction
+pub mod Held
+pub mod Results
+pub mod Longer
+pub mod Limits
+pub mod Count
+pub mod Prefix
+pub mod Clean
+pub mod PairBound
+pub mod Saturated
+pub mod Origins
+pub mod Ends
+pub mod Loaded

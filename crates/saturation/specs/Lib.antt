@@ -1,0 +1,17 @@
+pub mod Booleans
+pub mod Holds
+pub mod Variables
+pub mod Within
+pub mod Normal
+pub mod Boolean
+pub mod Gathered
+pub mod Rational
+pub mod Assign
+pub mod Rounds
+pub mod Covered
+pub mod Saturation
+pub mod Equal
+pub mod Formed
+pub mod Flaws
+pub mod Finished
+pub mod Tried
