@@ -19,7 +19,7 @@ use Rattle.vectors.specs.Lcm.{lcm-dvdˡ, lcm-dvdʳ, lcm-positive}
 use Rattle.vectors.specs.Sign.{positive-is, negative-is}
 use Rattle.vectors.specs.Relation.{Rel, rel-*ʳ, rel-*-cancelʳ, rel-neg}
 use Rattle.vectors.specs.Constraint.{Holds, put-holds, put-keeps}
-use Rattle.vectors.specs.Resolvent.{resolvent-agrees}
+use Rattle.vectors.specs.Combination.{combination-agrees}
 use Rattle.rules.specs.Values.{Fraction, quotient, withRational}
 use Rattle.bounds.specs.Below.{Positive, Below, same-sym, below-sameˡ, below-sameʳ}
 use Rattle.bounds.specs.Arithmetic.{quotient-positive, quotient-negative}
@@ -45,7 +45,7 @@ bounds-agree {s} i us β ls γ x d z p n h =
     let U = rest i us β x d in
     let low = quotient-negative L l d n z in
     let up = quotient-positive U a d p z in
-    let k : Rel s (pos (natAbs a) *ℤ negℤ L) (pos (natAbs l) *ℤ U) = rw (← positive-is a p) (resolvent-agrees i us β ls γ x (pos d) n h) in
+    let k : Rel s (pos (natAbs a) *ℤ negℤ L) (pos (natAbs l) *ℤ U) = rw (← positive-is a p) (combination-agrees i us β ls γ x (pos d) n h) in
     below-sameˡ low (below-sameʳ up (record { left = low .up .left; right = up .up .left; by = agrees (negℤ L) U (pos (natAbs a)) (pos (natAbs l)) (pos d) (pos-mono-< z) k }))
 
 -- ---- the value n / e of variable i, over a common denominator D = d × k = e × m: the comparison of n / e with N / (a × d), times k × m

@@ -7,19 +7,19 @@ use Prim.Native.Nat.{ℕ, zero, suc}
 use native.Mathlib.Omega.{arith}
 use lib.IntN.{ℤ, pos, negsuc}
 use lib.Dec.{T}
-use lib.ListN.{getD, length}
+use lib.ListN.{getD}
 use mir.Facts.{or-no}
 use Rattle.rules.specs.Arithmetic.{isPositive, isNegative}
 use Rattle.rules.specs.Problem.{Constraint}
-use Rattle.rules.specs.Lines.{Booleans, meet, Line, Variable, rational, boolean, coefficient, positively, negatively, isEmpty}
+use Rattle.rules.specs.Lines.{Booleans, meet, Line, Variable, rational, boolean, coefficient, positively, negatively}
 use Rattle.rules.specs.Normalize.{Settled, always, never, kept, settled, settledLine, normalLine}
 use Rattle.rules.specs.Resolve.{resolve, resolvent}
 use Rattle.rules.specs.Steps.{Step}
-use Rattle.rules.specs.Elimination.{Stops, placed, covered, add, eliminate}
+use Rattle.rules.specs.Elimination.{Stops, eliminate}
 use Rattle.rules.specs.Needs.{stepsOf}
 use Rattle.lists.specs.Tests.{of-false}
-use Rattle.lists.specs.All.{All, all-any, all-append}
-use Rattle.course.specs.Induction.{resultOf, course-induction}
+use Rattle.lists.specs.All.{All}
+use Rattle.course.specs.Closed.{course-closed}
 
 abbrev pub Clean : Line → Type 0
 Clean l = T (not (meet (l .positive) (l .negative)))
@@ -72,28 +72,5 @@ unfolding resolve
 resolve-clean v u l m e = normal-clean (resolvent v u l) m e
 
 -- ---- every line of a course
-abbrev CleanSteps : List Step → Type 0
-CleanSteps steps = All (λ s. Clean (s .line)) steps
-
-placed-clean : (w known many blank : Bool) (s : Step) (steps : List Step) (n : ℕ) → Clean (s .line) → CleanSteps steps → CleanSteps (stepsOf (placed w known many blank s steps n))
-unfolding placed stepsOf
-placed-clean true known many blank s steps n h k = k
-placed-clean false true many blank s steps n h k = k
-placed-clean false false true blank s steps n h k = k
-placed-clean false false false true s steps n h k = all-append (λ s. Clean (s .line)) steps (s ∷ []) k (h, tt)
-placed-clean false false false false s steps n h k = all-append (λ s. Clean (s .line)) steps (s ∷ []) k (h, tt)
-
-module _ (stops : Stops) where
-  add-clean : (w : Bool) (s : Step) (steps : List Step) (n : ℕ) → Clean (s .line) → CleanSteps steps → CleanSteps (stepsOf (add stops w s steps n))
-  unfolding add
-  add-clean w s steps n h k = placed-clean w (covered (s .line) steps) (stops .atSteps (length steps)) (isEmpty (s .line)) s steps n h k
-
-  pub course-clean : (variables : List Variable) (parts : List Step) → CleanSteps parts → CleanSteps (stepsOf (eliminate stops variables parts))
-  unfolding stepsOf
-  course-clean variables parts c =
-      course-induction stops variables parts (λ state. CleanSteps (stepsOf state))
-      (record {
-        piece = λ s steps n m h. add-clean false s steps n (all-any (λ x. Clean (x .line)) (λ x. x ≡ s) parts (λ x k e. rw (← e) k) c m) h;
-        dropped = λ t v vs e p steps n q r h. h;
-        result = λ t v vs e p l steps n q r h. add-clean (stops .atLine l) (resultOf v p l) steps (suc n) (resolve-clean v (p .upper .line) (p .lower .line) l r) h;
-      }) tt
+pub course-clean : (stops : Stops) (variables : List Variable) (parts : List Step) → All (λ s. Clean (s .line)) parts → All (λ s. Clean (s .line)) (stepsOf (eliminate stops variables parts))
+course-clean stops variables parts c = course-closed Clean stops variables parts (λ v u l m hu hl a b e. resolve-clean v u l m e) c

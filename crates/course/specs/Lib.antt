@@ -9,6 +9,7 @@ pub mod Longer
 pub mod Limits
 pub mod Count
 pub mod Prefix
+pub mod Closed
 pub mod Clean
 pub mod PairBound
 pub mod Saturated

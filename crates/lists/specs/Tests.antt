@@ -1,6 +1,6 @@
 -- Tests as facts: leaving a Bool for a proof, and entering it again.
 use mathlib.Core.Path.{_≡_, refl, sym, subst}
-use mathlib.Core.Bool.{Bool, true, false, not, _||_, _&&_}
+use mathlib.Core.Bool.{Bool, true, false, not, _||_, _&&_, or-assoc, and-or-distrib-right}
 use mathlib.Core.Logic.{_⊎_, inl, inr, ⊎-elim}
 use lib.Dec.{T}
 use mir.Facts.{or-yes}
@@ -61,3 +61,25 @@ pub unless : (a b : Bool) → T (not (a && not b)) → T a → T b
 unless true true n h = tt
 unless true false n h = absurd n
 unless false b n h = absurd h
+
+pub or-left-comm : (a b c : Bool) → a || (b || c) ≡ b || (a || c)
+or-left-comm true true c = refl
+or-left-comm true false c = refl
+or-left-comm false b c = refl
+
+-- an alternative that is part of another one
+pub or-absorb : (a b c : Bool) → b || ((a && b) || c) ≡ b || c
+or-absorb a true c = refl
+or-absorb true false c = refl
+or-absorb false false c = refl
+
+pub and-or-both : (a b c x y : Bool) → ((a || b) && c) || (x || y) ≡ ((a && c) || x) || ((b && c) || y)
+and-or-both a b c x y = rw (and-or-distrib-right a b c) (simp (or-assoc, or-left-comm))
+
+pub and-noˡ : (a b : Bool) → T (not a) → T (not (a && b))
+and-noˡ true b h = absurd h
+and-noˡ false b h = tt
+
+pub and-noʳ : (a b : Bool) → T (not b) → T (not (a && b))
+and-noʳ true b h = h
+and-noʳ false b h = tt

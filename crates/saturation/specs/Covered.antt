@@ -16,7 +16,7 @@ use Rattle.rules.specs.Elimination.{roundOf}
 use Rattle.lists.specs.Tests.{clash}
 use Rattle.lists.specs.All.{All, Any, all-any, all-map, filter-all}
 use Rattle.saturation.specs.Holds.{PairsHold}
-use Rattle.saturation.specs.Variables.{resolvent-contains, resolvent-loses}
+use Rattle.saturation.specs.Variables.{resolvent-contains, resolvent-without}
 use Rattle.saturation.specs.Within.{Within, normal-within}
 use Rattle.saturation.specs.Normal.{NormalSame, normal-same}
 use Rattle.saturation.specs.Rounds.{At, round-later}
@@ -50,7 +50,7 @@ DroppedOrLater variables t (some r) = t < roundOf variables r
 module _ (variables : List Variable) (t : ℕ) (v : Variable) (a : At variables t v) (u l : Line) (hu : t ≤ roundOf variables u) (hl : t ≤ roundOf variables l) (n : T (negatively v l)) where
   within-later : (j : Line) → ((w : Variable) → T (contains w j) → T (contains w (resolvent v u l))) → t < roundOf variables j
   within-later j f =
-      round-later variables t v u l j a hu hl (λ w h. resolvent-contains v w u l (f w h)) (not-T (contains v j) (λ h. clash (contains v (resolvent v u l)) (f v h) (resolvent-loses v u l n)))
+      round-later variables t v u l j a hu hl (λ w h. resolvent-contains v w u l (f w h)) (not-T (contains v j) (λ h. clash (contains v (resolvent v u l)) (f v h) (resolvent-without v u l n)))
 
   pub resolve-later : DroppedOrLater variables t (resolve v u l)
   unfolding resolve

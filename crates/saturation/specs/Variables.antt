@@ -16,7 +16,7 @@ use Rattle.rules.specs.Resolve.{combination, combinationOf, oneOf, resolvent}
 use Rattle.lists.specs.Tests.{split, or-l, or-r, clash}
 use Rattle.vectors.specs.Sign.{zero-yes, sign}
 use Rattle.vectors.specs.Dot.{combine-zero}
-use Rattle.vectors.specs.Resolvent.{resolvent-without}
+use Rattle.vectors.specs.Combination.{combination-without}
 use Rattle.saturation.specs.Booleans.{union-member, excluding-gone, excluding-member}
 
 -- ---- a coefficient other than 0
@@ -51,7 +51,7 @@ combination-gone : (f : ℕ) (u l : Option Constraint) → T (isNegative (coeffi
 unfolding combinationOf combination coefficient
 combination-gone f none l n = zero-unsigned refl
 combination-gone f (some u) none n = zero-unsigned refl
-combination-gone f (some u) (some l) n = zero-unsigned (resolvent-without f (u .coefficients) (l .coefficients) n)
+combination-gone f (some u) (some l) n = zero-unsigned (combination-without f (u .coefficients) (l .coefficients) n)
 
 oneOf-has : (g : ℕ) (u l : Option Constraint) → T (signed (coefficient g (oneOf u l))) → T (signed (coefficient g u)) ⊎ T (signed (coefficient g l))
 unfolding oneOf
@@ -83,7 +83,7 @@ resolvent-contains (boolean i) (boolean j) u l h =
     (λ k. union-has (u .negative) (l .negative) j (excluding-member i (union (u .negative) (l .negative)) j k)) h
 
 -- a lower bound on the variable is all that this needs
-pub resolvent-loses : (v : Variable) (u l : Line) → T (negatively v l) → T (not (contains v (resolvent v u l)))
+pub resolvent-without : (v : Variable) (u l : Line) → T (negatively v l) → T (not (contains v (resolvent v u l)))
 unfolding contains positively negatively resolvent
-resolvent-loses (rational f) u l n = combination-gone f (u .constraint) (l .constraint) n
-resolvent-loses (boolean i) u l n = rw (excluding-gone i (union (u .positive) (l .positive)), excluding-gone i (union (u .negative) (l .negative))) tt
+resolvent-without (rational f) u l n = combination-gone f (u .constraint) (l .constraint) n
+resolvent-without (boolean i) u l n = rw (excluding-gone i (union (u .positive) (l .positive)), excluding-gone i (union (u .negative) (l .negative))) tt

@@ -5,4 +5,4 @@ pub mod Put
 pub mod Dot
 pub mod Relation
 pub mod Constraint
-pub mod Resolvent
+pub mod Combination

@@ -29,8 +29,8 @@ cancels : (c a l : ℤ) → l ≡ negℤ c → c *ℤ a +ℤ a *ℤ l ≡ pos 0
 cancels c a l e = rw e (≡-by (v c ⊗ v a ⊕ v a ⊗ ⊝ (v c)) (# 0) (omega arith))
 
 -- ---- the variable is gone, where c is the size of a negative coefficient
-pub resolvent-without : (i : ℕ) (us ls : List ℤ) → T (isNegative (getD ls i (pos 0))) → getD (combine (pos (natAbs (getD ls i (pos 0)))) us (getD us i (pos 0)) ls) i (pos 0) ≡ pos 0
-resolvent-without i us ls n =
+pub combination-without : (i : ℕ) (us ls : List ℤ) → T (isNegative (getD ls i (pos 0))) → getD (combine (pos (natAbs (getD ls i (pos 0)))) us (getD us i (pos 0)) ls) i (pos 0) ≡ pos 0
+combination-without i us ls n =
     let a = getD us i (pos 0) in
     let l = getD ls i (pos 0) in
     getD-combine (pos (natAbs l)) us a ls i ∙ cancels (pos (natAbs l)) a l (negative-is l n)
@@ -43,14 +43,14 @@ module _ (i : ℕ) (us : List ℤ) (β : ℤ) (ls : List ℤ) (γ : ℤ) where
   abbrev c : ℤ
   c = pos (natAbs (getD ls i (pos 0)))
 
-  pub resolvent-holds : {s t : Bool} (x : ℕ → ℤ) (d : ℤ) → T (isPositive a) → T (isNegative (getD ls i (pos 0))) → Holds s us β x d → Holds t ls γ x d → Holds (s || t) (combine c us a ls) (c *ℤ β +ℤ a *ℤ γ) x d
-  resolvent-holds x d p n h k = combine-holds c us β a ls γ x d (pos-mono-< (0<abs-negative (getD ls i (pos 0)) n)) (positive-yes a p) h k
+  pub combination-holds : {s t : Bool} (x : ℕ → ℤ) (d : ℤ) → T (isPositive a) → T (isNegative (getD ls i (pos 0))) → Holds s us β x d → Holds t ls γ x d → Holds (s || t) (combine c us a ls) (c *ℤ β +ℤ a *ℤ γ) x d
+  combination-holds x d p n h k = combine-holds c us β a ls γ x d (pos-mono-< (0<abs-negative (getD ls i (pos 0)) n)) (positive-yes a p) h k
 
   -- where the resolvent holds, the lower bound (γ × d - the other terms) / -c agrees with the upper one (β × d - the other terms) / a:
   -- the terms of i cancel, and the rest is the two numerators' comparison, crossed
-  pub resolvent-agrees : {s : Bool} (x : ℕ → ℤ) (d : ℤ) → T (isNegative (getD ls i (pos 0))) → Holds s (combine c us a ls) (c *ℤ β +ℤ a *ℤ γ) x d
+  pub combination-agrees : {s : Bool} (x : ℕ → ℤ) (d : ℤ) → T (isNegative (getD ls i (pos 0))) → Holds s (combine c us a ls) (c *ℤ β +ℤ a *ℤ γ) x d
       → Rel s (a *ℤ negℤ (γ *ℤ d -ℤ sum (set ls i (pos 0)) x)) (c *ℤ (β *ℤ d -ℤ sum (set us i (pos 0)) x))
-  resolvent-agrees {s} x d n h =
+  combination-agrees {s} x d n h =
       crossed a c (sum (set us i (pos 0)) x) (sum (set ls i (pos 0)) x) (β *ℤ d) (γ *ℤ d)
       (rw (sum-combine c us a ls x, sum-at us i x, sum-at ls i x, spread c β a γ d, rest c a (getD ls i (pos 0)) (x i) (sum (set us i (pos 0)) x) (sum (set ls i (pos 0)) x) (negative-is (getD ls i (pos 0)) n)) at h)
     where

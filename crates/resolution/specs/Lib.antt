@@ -1,0 +1,9 @@
+pub mod Members
+pub mod Holds
+pub mod Settled
+pub mod NormalLine
+pub mod Resolution
+pub mod Variables
+pub mod Formed
+pub mod Proper
+pub mod Flaws

@@ -1,0 +1,16 @@
+pub mod WellFormed
+pub mod NormalClause
+pub mod NormalForm
+pub mod Choosing
+pub mod Pieces
+pub mod PartsGive
+pub mod PartsChosen
+pub mod PartsForm
+pub mod SplitClause
+pub mod SplitProblem
+pub mod Follows
+pub mod Refutation
+pub mod Readers
+pub mod Reading
+pub mod ProofChecked
+pub mod ModelChecked
