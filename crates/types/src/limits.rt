@@ -1,6 +1,5 @@
 // The limits of document 01, named once: the reader, the elimination and the checker cite them here.
 ghost use mathlib.Core.Path.{_≡_};
-ghost use lib.IntN.{pos};
 ghost use Rattle.types.specs.Limits.{problemBytes, stepBytes, modelBytes, booleans, rationals, clauses, literals, constraints, splits, amount, steps, standard, proofBytes};
 
 // What may differ from caller to caller: the most steps that a proof holds (lines of the book, N).
@@ -28,7 +27,7 @@ impl Limits {
 
     pub const SPLITS: usize = 16;
     // The size of an amount, and the steps of a proof.
-    pub const AMOUNT: i64 = 1000000000;
+    pub const AMOUNT: u64 = 1000000000;
 
     pub const STEPS: u32 = 1024;
 
@@ -54,7 +53,7 @@ impl Limits {
         ensures bytes { λ _. do ⌜ ((← ⟦Limits::PROBLEM_BYTES⟧ .entry) ≡ problemBytes) × ((← ⟦Limits::STEP_BYTES⟧ .entry) ≡ stepBytes) × ((← ⟦Limits::MODEL_BYTES⟧ .entry) ≡ modelBytes) ⌝ }
         ensures problem { λ _. do ⌜ ((← ⟦Limits::BOOLEANS⟧ .entry) ≡ booleans) × ((← ⟦Limits::RATIONALS⟧ .entry) ≡ rationals) × ((← ⟦Limits::CLAUSES⟧ .entry) ≡ clauses) ⌝ }
         ensures clause { λ _. do ⌜ ((← ⟦Limits::LITERALS⟧ .entry) ≡ literals) × ((← ⟦Limits::CONSTRAINTS⟧ .entry) ≡ constraints) × ((← ⟦Limits::SPLITS⟧ .entry) ≡ splits) ⌝ }
-        ensures course { λ _. do ⌜ ((← ⟦Limits::AMOUNT⟧ .entry) ≡ pos amount) × ((← ⟦Limits::STEPS⟧ .entry) ≡ steps) ⌝ }
+        ensures course { λ _. do ⌜ ((← ⟦Limits::AMOUNT⟧ .entry) ≡ amount) × ((← ⟦Limits::STEPS⟧ .entry) ≡ steps) ⌝ }
     {
         true
     }

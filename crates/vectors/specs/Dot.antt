@@ -7,7 +7,7 @@ use lib.IntN.{ℤ, pos, natAbs, _+ℤ_, _*ℤ_}
 use lib.Dec.{T}
 use lib.ListN.{length, getD, set}
 use mir.Facts.{and-yes}
-use Rattle.integers.specs.Ring.{ring, *-zeroˡ, *-zeroʳ}
+use Rattle.integers.specs.Ring.{ring, +-identityˡ, *-zeroˡ, *-zeroʳ}
 use Rattle.integers.specs.Size.{abs-+-≤, abs-*-≤}
 use Rattle.rules.specs.Lists.{all, put}
 use Rattle.rules.specs.Arithmetic.{sum, scale, combine, isZero}
@@ -152,3 +152,17 @@ abs-sum (c ∷ cs) x m n h k =
 pub abs-combine : (c : ℤ) (us : List ℤ) (a : ℤ) (ls : List ℤ) (i : ℕ) {m n m′ n′ : ℕ} → natAbs c ≤ m → natAbs (getD us i (pos 0)) ≤ n → natAbs a ≤ m′ → natAbs (getD ls i (pos 0)) ≤ n′ → natAbs (getD (combine c us a ls) i (pos 0)) ≤ m * n + m′ * n′
 abs-combine c us a ls i hc hu ha hl =
     rw (getD-combine c us a ls i) (abs-+-≤ (c *ℤ getD us i (pos 0)) (a *ℤ getD ls i (pos 0)) (abs-*-≤ c (getD us i (pos 0)) hc hu) (abs-*-≤ a (getD ls i (pos 0)) ha hl))
+
+-- without one of l + 1 terms
+pub abs-sum-without : (l : ℕ) (cs : List ℤ) (i : ℕ) (x : ℕ → ℤ) (m n : ℕ) → length cs ≡ suc l → i ≤ l → ((j : ℕ) → natAbs (getD cs j (pos 0)) ≤ m) → ((j : ℕ) → natAbs (x j) ≤ n)
+    → natAbs (sum (set cs i (pos 0)) x) ≤ l * (m * n)
+unfolding sum
+abs-sum-without l [] i x m n e z h k = absurd (omega arith)
+abs-sum-without l (c ∷ cs) zero x m n e z h k =
+    let f : length cs ≡ l = omega arith in
+    rw (*-zeroˡ (x 0), +-identityˡ (sum cs (λ j. x (suc j))), ← f) (abs-sum cs (λ j. x (suc j)) m n (λ j. h (suc j)) (λ j. k (suc j)))
+abs-sum-without zero (c ∷ cs) (suc i) x m n e z h k = absurd (omega arith)
+abs-sum-without (suc l) (c ∷ cs) (suc i) x m n e z h k =
+    let t = abs-*-≤ c (x 0) (h 0) (k 0) in
+    let r = abs-sum-without l cs i (λ j. x (suc j)) m n (omega arith) (omega arith) (λ j. h (suc j)) (λ j. k (suc j)) in
+    omega (arith, abs-+-≤ (c *ℤ x 0) (sum (set cs i (pos 0)) (λ j. x (suc j))) t r)

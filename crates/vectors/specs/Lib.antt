@@ -1,5 +1,6 @@
 pub mod Sign
 pub mod Gcd
+pub mod GcdFold
 pub mod Lcm
 pub mod Put
 pub mod Dot

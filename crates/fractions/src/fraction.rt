@@ -1,0 +1,94 @@
+// A fraction, a numerator over a denominator, with methods by value. Within the range of amounts 64 bits hold every product.
+use crate::product::cross;
+use crate::product::divided;
+use crate::product::negated;
+use crate::product::sum;
+use crate::product::twice;
+use machine::gcd::gcd;
+use machine::sign::size;
+use types::limits::Limits;
+ghost use mathlib.Core.Path.{_≡_};
+ghost use Prim.Native.Nat.{_≤_};
+ghost use lib.IntN.{pos, negsuc, natAbs};
+ghost use Rattle.rules.specs.Values.{reduce, quotient, less, midpoint, plus, beyond};
+ghost use Rattle.fractions.specs.Meaning.{meaning};
+ghost use Rattle.fractions.specs.Range.{Small, Ratio, Scaled};
+
+pub struct Fraction {
+    pub numerator: i64,
+    pub denominator: u64,
+}
+
+impl Fraction {
+    // n / d in lowest terms.
+    pub fn reduced(n: i64, d: u64) -> Fraction
+        requires { ⌜ Ratio n d ⌝ }
+        ensures { λ r. ⌜ meaning r ≡ reduce n d ⌝ }
+    {
+        let g = gcd(size(n), d);
+        Fraction {
+            numerator: divided(n, g),
+            denominator: d / g,
+        }
+    }
+
+    // n / (a × d) in lowest terms: a gathered bound, the other variables over the common denominator d.
+    pub fn quotient(n: i64, a: i64, d: u64) -> Fraction
+        requires { ⌜ Scaled n a d ⌝ }
+        ensures { λ r. ⌜ meaning r ≡ quotient n a d ⌝ }
+    {
+        let e = size(a) * d;
+        if a < 0 {
+            return Fraction::reduced(negated(n), e);
+        }
+        Fraction::reduced(n, e)
+    }
+
+    pub fn less(self, other: Fraction) -> bool
+        requires { ⌜ Small (meaning self) × Small (meaning other) ⌝ }
+        ensures { λ r. ⌜ r ≡ less (meaning self) (meaning other) ⌝ }
+    {
+        cross(self.numerator, other.denominator) < cross(other.numerator, self.denominator)
+    }
+
+    pub fn midpoint(self, other: Fraction) -> Fraction
+        requires { ⌜ Small (meaning self) × Small (meaning other) ⌝ }
+        ensures { λ r. ⌜ meaning r ≡ midpoint (meaning self) (meaning other) ⌝ }
+    {
+        let n = sum(
+            cross(self.numerator, other.denominator),
+            cross(other.numerator, self.denominator),
+        );
+        Fraction::reduced(n, twice(self.denominator, other.denominator))
+    }
+
+    // With 1, 0 or -1 added.
+    fn plus(self, z: i64) -> Fraction
+        requires { ⌜ Small (meaning self) × (natAbs z ≤ 1) ⌝ }
+        ensures { λ r. ⌜ meaning r ≡ plus (meaning self) z ⌝ }
+    {
+        let n = sum(self.numerator, cross(z, self.denominator));
+        Fraction::reduced(n, self.denominator)
+    }
+
+    pub fn plus_one(self) -> Fraction
+        requires { ⌜ Small (meaning self) ⌝ }
+        ensures { λ r. ⌜ meaning r ≡ plus (meaning self) (pos 1) ⌝ }
+    {
+        self.plus(1)
+    }
+
+    pub fn minus_one(self) -> Fraction
+        requires { ⌜ Small (meaning self) ⌝ }
+        ensures { λ r. ⌜ meaning r ≡ plus (meaning self) (negsuc 0) ⌝ }
+    {
+        self.plus(-1)
+    }
+
+    // Whether numerator or denominator leaves the range of amounts.
+    pub fn beyond(self) -> bool
+        ensures { λ r. ⌜ r ≡ beyond (meaning self) ⌝ }
+    {
+        Limits::AMOUNT < size(self.numerator) || Limits::AMOUNT < self.denominator
+    }
+}

@@ -1,0 +1,43 @@
+// The size and the sign of an integer.
+use types::limits::Limits;
+ghost use mathlib.Core.Path.{_≡_};
+ghost use lib.IntN.{natAbs};
+ghost use Rattle.rules.specs.Arithmetic.{isPositive, isNegative, isZero};
+ghost use Rattle.rules.specs.Problem.{inRange};
+
+// The least number has no negation of its width, its successor has.
+pub fn size(z: i64) -> u64
+    ensures { λ r. ⌜ r ≡ natAbs z ⌝ }
+{
+    if z < 0 {
+        let next = z + 1;
+        let below = 0 - next;
+        return below as u64 + 1;
+    }
+    z as u64
+}
+
+pub fn is_positive(z: i64) -> bool
+    ensures { λ r. ⌜ r ≡ isPositive z ⌝ }
+{
+    0 < z
+}
+
+pub fn is_negative(z: i64) -> bool
+    ensures { λ r. ⌜ r ≡ isNegative z ⌝ }
+{
+    z < 0
+}
+
+pub fn is_zero(z: i64) -> bool
+    ensures { λ r. ⌜ r ≡ isZero z ⌝ }
+{
+    z == 0
+}
+
+// Whether it is an amount.
+pub fn in_range(z: i64) -> bool
+    ensures { λ r. ⌜ r ≡ inRange z ⌝ }
+{
+    size(z) <= Limits::AMOUNT
+}

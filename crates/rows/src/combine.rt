@@ -1,0 +1,34 @@
+// Combinations of two rows, c × us + a × ls: 64 bits hold a sum of two products of amounts.
+ghost use mathlib.Core.Path.{_≡_};
+ghost use Prim.Native.Nat.{_≤_};
+ghost use lib.IntN.{natAbs, _+ℤ_, _*ℤ_};
+ghost use Rattle.rules.specs.Arithmetic.{combine};
+ghost use Rattle.rows.specs.Amount.{Amounts};
+
+pub fn combine(c: i64, x: i64, a: i64, y: i64) -> i64
+    requires { ⌜ natAbs c ≤ 1000000000 ⌝ }
+    requires { ⌜ natAbs x ≤ 1000000000 ⌝ }
+    requires { ⌜ natAbs a ≤ 1000000000 ⌝ }
+    requires { ⌜ natAbs y ≤ 1000000000 ⌝ }
+    ensures { λ r. ⌜ r ≡ c *ℤ x +ℤ a *ℤ y ⌝ }
+{
+    c * x + a * y
+}
+
+pub fn combine_rows(c: i64, us: [i64; 8], a: i64, ls: [i64; 8]) -> [i64; 8]
+    requires { ⌜ natAbs c ≤ 1000000000 ⌝ }
+    requires { ⌜ natAbs a ≤ 1000000000 ⌝ }
+    requires { ⌜ Amounts us ⌝ }
+    requires { ⌜ Amounts ls ⌝ }
+    ensures { λ r. ⌜ r ≡ combine c us a ls ⌝ }
+{
+    let mut out = [0 as i64; 8];
+    let mut i = 0;
+    while i < 8 {
+        let x = us[i];
+        let y = ls[i];
+        out[i] = combine(c, x, a, y);
+        i += 1;
+    }
+    out
+}

@@ -1,0 +1,3 @@
+// Rows of eight coefficients in machine words.
+pub mod combine;
+pub mod content;
