@@ -83,16 +83,20 @@ above n d m e z h = rw (twiceˡ n d e, spread (n *ℤ e) (m *ℤ d) d) (rel-+ (r
 below : (n d m e : ℤ) → pos 0 <ℤ e → Rel true (n *ℤ e) (m *ℤ d) → Rel true ((n *ℤ e +ℤ m *ℤ d) *ℤ e) (m *ℤ (pos 2 *ℤ (d *ℤ e)))
 below n d m e z h = rw (twiceʳ m d e, spread (n *ℤ e) (m *ℤ d) e) (rel-+ (rel-*ˡ z h) (rel-refl (e *ℤ (m *ℤ d))))
 
+middle : (x y : Fraction) → Positive x → Positive y → Same (over (x .numerator *ℤ pos (y .denominator) +ℤ y .numerator *ℤ pos (x .denominator)) (2 * (x .denominator * y .denominator))) (midpoint x y)
+unfolding midpoint
+middle x y p q = reduce-same (x .numerator *ℤ pos (y .denominator) +ℤ y .numerator *ℤ pos (x .denominator)) (2 * (x .denominator * y .denominator)) (mul-pos (omega arith) (mul-pos p q))
+
+pub midpoint-positive : (x y : Fraction) → Positive x → Positive y → Positive (midpoint x y)
+midpoint-positive x y p q = middle x y p q .up .right
+
 module _ (x y : Fraction) (h : Below true x y) where
-  pub midpoint-positive : 0 < 2 * (x .denominator * y .denominator)
-  midpoint-positive = mul-pos (omega arith) (mul-pos (h .left) (h .right))
-
-  middle : Same (over (x .numerator *ℤ pos (y .denominator) +ℤ y .numerator *ℤ pos (x .denominator)) (2 * (x .denominator * y .denominator))) (midpoint x y)
-  unfolding midpoint
-  middle = reduce-same (x .numerator *ℤ pos (y .denominator) +ℤ y .numerator *ℤ pos (x .denominator)) (2 * (x .denominator * y .denominator)) midpoint-positive
-
   pub midpoint-above : Below true x (midpoint x y)
-  midpoint-above = below-sameʳ middle (record { left = h .left; right = midpoint-positive; by = above (x .numerator) (pos (x .denominator)) (y .numerator) (pos (y .denominator)) (pos-mono-< (h .left)) (h .by) })
+  midpoint-above =
+      let m = middle x y (h .left) (h .right) in
+      below-sameʳ m (record { left = h .left; right = m .up .left; by = above (x .numerator) (pos (x .denominator)) (y .numerator) (pos (y .denominator)) (pos-mono-< (h .left)) (h .by) })
 
   pub midpoint-below : Below true (midpoint x y) y
-  midpoint-below = below-sameˡ middle (record { left = midpoint-positive; right = h .right; by = below (x .numerator) (pos (x .denominator)) (y .numerator) (pos (y .denominator)) (pos-mono-< (h .right)) (h .by) })
+  midpoint-below =
+      let m = middle x y (h .left) (h .right) in
+      below-sameˡ m (record { left = m .up .left; right = h .right; by = below (x .numerator) (pos (x .denominator)) (y .numerator) (pos (y .denominator)) (pos-mono-< (h .right)) (h .by) })

@@ -1,5 +1,5 @@
--- A constraint is a bound on its variable: a value that meets the bound makes the constraint hold, and a resolvent that holds makes the
--- two bounds of its pair agree.
+-- A constraint is a bound on its variable: a value that meets the bound makes the constraint hold, and a combination that holds makes
+-- the two bounds of its pair agree.
 use mathlib.Core.Path.{_≡_, ap}
 use mathlib.Core.Bool.{Bool}
 use mathlib.Core.Logic.{_↔_}

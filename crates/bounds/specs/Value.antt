@@ -4,7 +4,7 @@ use mathlib.Core.List.{List}
 use native.Mathlib.Omega.{arith}
 use Rattle.rules.specs.Values.{Fraction, Bound, absent, present, value, Gathered}
 use Rattle.bounds.specs.Below.{Positive, Below, below-refl}
-use Rattle.bounds.specs.Arithmetic.{plus-one-above, minus-one-below, midpoint-above, midpoint-below}
+use Rattle.bounds.specs.Arithmetic.{plus-one-above, minus-one-below, midpoint-positive, midpoint-above, midpoint-below}
 use Rattle.lists.specs.All.{All, all-map}
 use Rattle.bounds.specs.Tightest.{Each, Sound, Lower, Upper, greatest, least, tightest-sound, greatest-meets, greatest-agrees, least-meets, least-agrees}
 
@@ -26,15 +26,16 @@ value-upper (present l false) (present u t) p h = h
 value-upper (present l true) (present u false) p h = below-refl u p
 value-upper (present l true) (present u true) p h = midpoint-below l u h
 
-pub value-positive : (L U : Bound) → Each (λ l s. Positive l) L → Each (λ u t. Positive u) U → Each (λ u t. Each (λ l s. Below (s || t) l u) L) U → Positive (value L U)
+-- its denominator is positive, whether or not they agree
+pub value-positive : (L U : Bound) → Each (λ l s. Positive l) L → Each (λ u t. Positive u) U → Positive (value L U)
 unfolding value
-value-positive absent absent p q h = omega arith
-value-positive absent (present u false) p q h = q
-value-positive absent (present u true) p q h = minus-one-below u q .left
-value-positive (present l false) U p q h = p
-value-positive (present l true) absent p q h = plus-one-above l p .right
-value-positive (present l true) (present u false) p q h = q
-value-positive (present l true) (present u true) p q h = midpoint-above l u h .right
+value-positive absent absent p q = omega arith
+value-positive absent (present u false) p q = q
+value-positive absent (present u true) p q = minus-one-below u q .left
+value-positive (present l false) U p q = p
+value-positive (present l true) absent p q = plus-one-above l p .right
+value-positive (present l true) (present u false) p q = q
+value-positive (present l true) (present u true) p q = midpoint-positive l u p q
 
 -- ---- of several
 -- every lower bound agrees with every upper one: ≤, and < where either is strict
@@ -62,9 +63,6 @@ module _ (ls us : List Gathered) (p : Sound ls) (q : Sound us) (h : Agree ls us)
 
   abbrev v : Fraction
   v = value (greatest ls) (least us)
-
-  pub value-is-positive : Positive v
-  value-is-positive = value-positive (greatest ls) (least us) (tightest-sound _ ls p) (tightest-sound _ us q) tightest-agree
 
   pub value-meets-lowers : All (λ l. Below (l .strict) (l .at) v) ls
   value-meets-lowers = greatest-meets ls v p (value-lower (greatest ls) (least us) (tightest-sound _ ls p) tightest-agree)

@@ -1,17 +1,18 @@
 -- What holds of every piece and is kept by resolving holds of every line of a course.
 use mathlib.Core.Path.{_≡_, subst}
-use mathlib.Core.Bool.{Bool, true, false}
+use mathlib.Core.Bool.{Bool, false}
 use mathlib.Core.List.{List, [], _∷_}
 use mathlib.Core.Option.{some}
-use Prim.Native.Nat.{ℕ, zero, suc}
+use Prim.Native.Nat.{ℕ, suc}
 use lib.Dec.{T}
-use lib.ListN.{length}
-use Rattle.rules.specs.Lines.{Line, Variable, isEmpty, positively, negatively}
+use Rattle.rules.specs.Lines.{Line, Variable, positively, negatively}
 use Rattle.rules.specs.Resolve.{resolve}
 use Rattle.rules.specs.Steps.{Step}
-use Rattle.rules.specs.Elimination.{Stops, placed, covered, add, eliminate}
+use Rattle.rules.specs.Elimination.{Stops, add, eliminate}
 use Rattle.rules.specs.Needs.{stepsOf}
+use Rattle.lists.specs.Places.{all-place}
 use Rattle.lists.specs.All.{All, all-any, all-append}
+use Rattle.course.specs.States.{add-steps}
 use Rattle.course.specs.Pairs.{LineAt}
 use Rattle.course.specs.Induction.{resultOf, course-induction}
 
@@ -19,23 +20,12 @@ module _ (P : Line → Type 0) where
   abbrev pub AllLines : List Step → Type 0
   AllLines steps = All (λ s. P (s .line)) steps
 
-  pub line-at : (steps : List Step) (i : ℕ) (l : Line) → LineAt steps i l → AllLines steps → P l
-  line-at [] i l a h = absurd a
-  line-at (s ∷ ss) zero l a h = subst P a (h .0)
-  line-at (s ∷ ss) (suc i) l a h = line-at ss i l a (h .1)
-
-  placed-lines : (w known many blank : Bool) (s : Step) (steps : List Step) (n : ℕ) → P (s .line) → AllLines steps → AllLines (stepsOf (placed w known many blank s steps n))
-  unfolding placed stepsOf
-  placed-lines true known many blank s steps n h k = k
-  placed-lines false true many blank s steps n h k = k
-  placed-lines false false true blank s steps n h k = k
-  placed-lines false false false true s steps n h k = all-append (λ s. P (s .line)) steps (s ∷ []) k (h, tt)
-  placed-lines false false false false s steps n h k = all-append (λ s. P (s .line)) steps (s ∷ []) k (h, tt)
+  line-at : (steps : List Step) (i : ℕ) (l : Line) → LineAt steps i l → AllLines steps → P l
+  line-at steps i l a h = all-place (λ s. P (s .line)) (λ s. s .line ≡ l) steps i (λ s p e. subst P e p) h a
 
   module _ (stops : Stops) where
     add-lines : (w : Bool) (s : Step) (steps : List Step) (n : ℕ) → P (s .line) → AllLines steps → AllLines (stepsOf (add stops w s steps n))
-    unfolding add
-    add-lines w s steps n h k = placed-lines w (covered (s .line) steps) (stops .atSteps (length steps)) (isEmpty (s .line)) s steps n h k
+    add-lines w s steps n h k = add-steps AllLines stops w s steps n k (λ m. all-append (λ s. P (s .line)) steps (s ∷ []) k (h, tt))
 
     -- `closed`: of two lines on the two sides of a variable, so is the result
     pub course-closed : (variables : List Variable) (parts : List Step) → ((v : Variable) (u l m : Line) → P u → P l → T (positively v u) → T (negatively v l) → resolve v u l ≡ some m → P m)

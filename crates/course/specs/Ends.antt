@@ -1,15 +1,14 @@
 -- How a course ends: no line that it holds is empty, but the last one where it ended so.
-use mathlib.Core.Path.{_≡_, refl, sym}
-use mathlib.Core.Bool.{Bool, true, false, not}
+use mathlib.Core.Path.{_≡_, refl}
+use mathlib.Core.Bool.{Bool, false, not}
 use mathlib.Core.List.{List, [], _∷_, _++_}
 use Prim.Native.Nat.{ℕ, suc}
 use lib.Dec.{T}
-use lib.ListN.{length}
 use Rattle.rules.specs.Lines.{Variable, isEmpty}
 use Rattle.rules.specs.Steps.{Step}
-use Rattle.rules.specs.Elimination.{Stops, State, running, ended, empty, overflow, outOfSteps, placed, covered, add, eliminate}
-use Rattle.lists.specs.Tests.{of-true, of-false}
+use Rattle.rules.specs.Elimination.{Stops, State, running, ended, empty, overflow, outOfSteps, add, eliminate}
 use Rattle.lists.specs.All.{All, all-append}
+use Rattle.course.specs.States.{add-cases}
 use Rattle.course.specs.Induction.{resultOf, course-induction}
 
 abbrev pub NoneEmpty : List Step → Type 0
@@ -28,18 +27,11 @@ EndsRight (ended empty steps n) = LastEmpty steps
 EndsRight (ended overflow steps n) = NoneEmpty steps
 EndsRight (ended outOfSteps steps n) = NoneEmpty steps
 
-placed-ends : (w known many blank : Bool) (s : Step) (steps : List Step) (n : ℕ) → blank ≡ isEmpty (s .line) → NoneEmpty steps → EndsRight (placed w known many blank s steps n)
-unfolding placed
-placed-ends true known many blank s steps n e h = h
-placed-ends false true many blank s steps n e h = h
-placed-ends false false true blank s steps n e h = h
-placed-ends false false false true s steps n e h = record { before = steps; last = s; is = refl; blank = of-true (isEmpty (s .line)) (sym e); others = h }
-placed-ends false false false false s steps n e h = all-append (λ s. T (not (isEmpty (s .line)))) steps (s ∷ []) h (of-false (isEmpty (s .line)) (sym e), tt)
-
 module _ (stops : Stops) where
   add-ends : (w : Bool) (s : Step) (steps : List Step) (n : ℕ) → NoneEmpty steps → EndsRight (add stops w s steps n)
-  unfolding add
-  add-ends w s steps n h = placed-ends w (covered (s .line) steps) (stops .atSteps (length steps)) (isEmpty (s .line)) s steps n refl h
+  add-ends w s steps n h =
+      add-cases EndsRight s steps n stops w (λ w. h) (λ k. h) (λ m. h) (λ m e. record { before = steps; last = s; is = refl; blank = e; others = h })
+      (λ m e. all-append (λ s. T (not (isEmpty (s .line)))) steps (s ∷ []) h (e, tt))
 
   pub course-ends : (variables : List Variable) (parts : List Step) → EndsRight (eliminate stops variables parts)
   course-ends variables parts =

@@ -1,17 +1,18 @@
 -- Induction along a course, under any stops: what holds at the start and is kept by each piece and each pair holds at its end.
 use mathlib.Core.Path.{_≡_, refl}
-use mathlib.Core.Bool.{Bool, true, false}
+use mathlib.Core.Bool.{false}
 use mathlib.Core.Logic.{inl, inr}
 use mathlib.Core.List.{List, [], _∷_, _++_}
 use mathlib.Core.Option.{Option, none, some}
 use Prim.Native.Nat.{ℕ, suc}
-use lib.ListN.{length, drop}
-use Rattle.rules.specs.Lines.{Line, Variable, isEmpty}
+use lib.ListN.{drop}
+use Rattle.rules.specs.Lines.{Line, Variable}
 use Rattle.rules.specs.Resolve.{resolve}
 use Rattle.rules.specs.Steps.{Step, resolved}
-use Rattle.rules.specs.Elimination.{Stops, State, running, ended, placed, covered, Pair, roundPairs, add, load, tried, tryAll, rounds, eliminate}
+use Rattle.rules.specs.Elimination.{Stops, State, running, ended, Pair, roundPairs, add, load, tried, tryAll, rounds, eliminate}
 use Rattle.lists.specs.All.{All, all-map, Any}
 use Rattle.saturation.specs.Rounds.{drop-next}
+use Rattle.course.specs.States.{add-cases}
 use Rattle.course.specs.Pairs.{PairOf, round-pairs, pair-append}
 
 -- the step by which a pair's result is added
@@ -33,20 +34,12 @@ PairsIn variables v t ps (running steps n) = All (PairOf variables v t steps) ps
 PairsIn variables v t ps (ended e steps n) = Unit {0}
 
 module _ (variables : List Variable) (v : Variable) (t : ℕ) (ps : List Pair) where
-  placed-pairs : (w known many blank : Bool) (s : Step) (steps : List Step) (n : ℕ) → All (PairOf variables v t steps) ps → PairsIn variables v t ps (placed w known many blank s steps n)
-  unfolding placed
-  placed-pairs true known many blank s steps n h = tt
-  placed-pairs false true many blank s steps n h = h
-  placed-pairs false false true blank s steps n h = tt
-  placed-pairs false false false true s steps n h = tt
-  placed-pairs false false false false s steps n h =
-      all-map (PairOf variables v t steps) (PairOf variables v t (steps ++ (s ∷ []))) ps (pair-append variables v t steps (s ∷ [])) h
-
   pub tried-pairs : (stops : Stops) (p : Pair) (m : Option Line) (steps : List Step) (n : ℕ) → All (PairOf variables v t steps) ps → PairsIn variables v t ps (tried stops v p m steps n)
-  unfolding tried add
+  unfolding tried
   tried-pairs stops p none steps n h = h
   tried-pairs stops p (some l) steps n h =
-      placed-pairs (stops .atLine l) (covered l steps) (stops .atSteps (length steps)) (isEmpty l) (resultOf v p l) steps n h
+      add-cases (PairsIn variables v t ps) (resultOf v p l) steps n stops (stops .atLine l) (λ w. tt) (λ k. h) (λ m. tt) (λ m e. tt)
+      (λ m e. all-map (PairOf variables v t steps) (PairOf variables v t (steps ++ (resultOf v p l ∷ []))) ps (pair-append variables v t steps (resultOf v p l ∷ [])) h)
 
 -- ---- the stages
 module _ (stops : Stops) (variables : List Variable) (parts : List Step) (P : State → Type 0) (kept : Kept stops variables parts P) where

@@ -5,12 +5,12 @@ pub mod Pairs
 pub mod Induction
 pub mod Held
 pub mod Results
+pub mod Prefix
 pub mod Longer
 pub mod Limits
 pub mod Count
-pub mod Prefix
 pub mod Closed
-pub mod Clean
+pub mod Consistent
 pub mod PairBound
 pub mod Saturated
 pub mod Origins

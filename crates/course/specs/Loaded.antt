@@ -1,20 +1,18 @@
 -- No piece is left out: a course that runs to its end holds a line that covers it.
-use mathlib.Core.Path.{_≡_, refl, sym}
-use mathlib.Core.Bool.{Bool, true, false}
+use mathlib.Core.Path.{_≡_, refl}
+use mathlib.Core.Bool.{false}
 use mathlib.Core.Logic.{inl}
 use mathlib.Core.List.{List, [], _∷_}
 use Prim.Native.Nat.{ℕ}
 use native.Mathlib.Omega.{arith}
-use lib.ListN.{length}
-use Rattle.rules.specs.Lines.{Line, Variable, isEmpty}
+use Rattle.rules.specs.Lines.{Line, Variable}
 use Rattle.rules.specs.Steps.{Step}
-use Rattle.rules.specs.Elimination.{Stops, End, State, running, ended, placed, covered, add, load, rounds, eliminate}
+use Rattle.rules.specs.Elimination.{Stops, End, State, running, ended, add, load, rounds, eliminate}
 use Rattle.rules.specs.Needs.{stepsOf}
-use Rattle.lists.specs.Tests.{of-true}
 use Rattle.lists.specs.All.{All, Any, all-map, any-left, any-right}
 use Rattle.saturation.specs.Covered.{Covers}
 use Rattle.saturation.specs.Equal.{covers-refl, covered-steps}
-use Rattle.course.specs.States.{load-ended, rounds-ended}
+use Rattle.course.specs.States.{load-ended, rounds-ended, add-cases}
 use Rattle.course.specs.Prefix.{Prefix, load-prefix, rounds-prefix}
 
 -- a line of the book covers it
@@ -29,22 +27,15 @@ abbrev HeldOne : Step → State → Type 0
 HeldOne s (running steps n) = Held steps (s .line)
 HeldOne s (ended e steps n) = Unit {0}
 
-placed-held : (w known many blank : Bool) (s : Step) (steps : List Step) (n : ℕ) → known ≡ covered (s .line) steps → HeldOne s (placed w known many blank s steps n)
-unfolding placed
-placed-held true known many blank s steps n e = tt
-placed-held false true many blank s steps n e = covered-steps (s .line) steps (of-true (covered (s .line) steps) (sym e))
-placed-held false false true blank s steps n e = tt
-placed-held false false false true s steps n e = tt
-placed-held false false false false s steps n e = any-right (λ x. Covers (x .line) (s .line)) steps (s ∷ []) (inl (covers-refl (s .line)))
-
 -- a book that grows still holds it
 held-more : (steps : List Step) (l : Line) (state : State) → Prefix steps state → Held steps l → Held (stepsOf state) l
 held-more steps l state p h = rw (p .is) (any-left (λ s. Covers (s .line) l) steps (p .more) h)
 
 module _ (stops : Stops) where
   add-held : (s : Step) (steps : List Step) (n : ℕ) → HeldOne s (add stops false s steps n)
-  unfolding add
-  add-held s steps n = placed-held false (covered (s .line) steps) (stops .atSteps (length steps)) (isEmpty (s .line)) s steps n refl
+  add-held s steps n =
+      add-cases (HeldOne s) s steps n stops false (λ w. tt) (covered-steps (s .line) steps) (λ m. tt) (λ m e. tt)
+      (λ m e. any-right (λ x. Covers (x .line) (s .line)) steps (s ∷ []) (inl (covers-refl (s .line))))
 
   never : {X : Type 0} (ss : List Step) (e : End) (mid now : List Step) (k m : ℕ) → load stops ss (ended e mid k) ≡ running now m → X
   never ss e mid now k m b = let a = load-ended stops e mid k ss in absurd (let z : _≡_ {A = ℕ} 0 1 = cc in omega arith)

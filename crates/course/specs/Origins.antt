@@ -1,19 +1,20 @@
 -- Each line of a course is the piece or the result that it names, of lines before it; and no piece is left out: a line equals it.
 use mathlib.Core.Path.{_≡_, refl}
-use mathlib.Core.Bool.{Bool, true, false}
+use mathlib.Core.Bool.{Bool, false}
 use mathlib.Core.Logic.{_⊎_, inl, inr}
 use mathlib.Core.List.{List, [], _∷_, _++_, append-assoc, append-nil}
 use mathlib.Core.Option.{some}
 use Prim.Native.Nat.{ℕ, suc}
 use lib.Dec.{T}
-use lib.ListN.{length, drop}
-use Rattle.rules.specs.Lines.{Line, Variable, positively, negatively, isEmpty}
+use lib.ListN.{drop}
+use Rattle.rules.specs.Lines.{Line, Variable, positively, negatively}
 use Rattle.rules.specs.Resolve.{resolve}
 use Rattle.rules.specs.Steps.{Step, resolved}
-use Rattle.rules.specs.Elimination.{Stops, placed, covered, Pair, roundOf, add, eliminate}
+use Rattle.rules.specs.Elimination.{Stops, Pair, roundOf, add, eliminate}
 use Rattle.rules.specs.Needs.{stepsOf}
 use Rattle.lists.specs.All.{Any}
 use Rattle.saturation.specs.Rounds.{At, drop-at}
+use Rattle.course.specs.States.{add-steps}
 use Rattle.course.specs.Pairs.{LineAt, PairOf}
 use Rattle.course.specs.Induction.{resultOf, course-induction}
 
@@ -50,18 +51,9 @@ abbrev pub Justified : List Variable → List Step → List Step → Step → Ty
 Justified variables parts earlier s = Any (λ x. x ≡ s) parts ⊎ Derived variables earlier s
 
 module _ (variables : List Variable) (parts : List Step) where
-  placed-origins : (w known many blank : Bool) (s : Step) (steps : List Step) (n : ℕ) → Justified variables parts steps s → Each (Justified variables parts) [] steps → Each (Justified variables parts) [] (stepsOf (placed w known many blank s steps n))
-  unfolding placed stepsOf
-  placed-origins true known many blank s steps n j h = h
-  placed-origins false true many blank s steps n j h = h
-  placed-origins false false true blank s steps n j h = h
-  placed-origins false false false true s steps n j h = each-append (Justified variables parts) [] steps s h j
-  placed-origins false false false false s steps n j h = each-append (Justified variables parts) [] steps s h j
-
   module _ (stops : Stops) where
     add-origins : (w : Bool) (s : Step) (steps : List Step) (n : ℕ) → Justified variables parts steps s → Each (Justified variables parts) [] steps → Each (Justified variables parts) [] (stepsOf (add stops w s steps n))
-    unfolding add
-    add-origins w s steps n j h = placed-origins w (covered (s .line) steps) (stops .atSteps (length steps)) (isEmpty (s .line)) s steps n j h
+    add-origins w s steps n j h = add-steps (Each (Justified variables parts) []) stops w s steps n h (λ m. each-append (Justified variables parts) [] steps s h j)
 
     derived : (t : ℕ) (v : Variable) (vs : List Variable) → drop t variables ≡ v ∷ vs → (p : Pair) (l : Line) (steps : List Step) → PairOf variables v t steps p → resolve v (p .upper .line) (p .lower .line) ≡ some l → Derived variables steps (resultOf v p l)
     derived t v vs d p l steps h e =

@@ -12,15 +12,17 @@ use lib.Dec.{T, eqb, leb, eqb→eq, leb→le, le→leb}
 use lib.ListN.{length, length-append, length-map}
 use mir.Facts.{and-yes}
 use Rattle.types.specs.declared.limits.Limits.{Limits}
-use Rattle.rules.specs.Lines.{Line, Variable, isEmpty, positively, negatively}
+use Rattle.rules.specs.Lines.{Line, Variable, positively, negatively}
 use Rattle.rules.specs.Resolve.{resolve}
 use Rattle.rules.specs.Steps.{Step}
-use Rattle.rules.specs.Elimination.{Stops, limited, State, running, ended, placed, covered, Numbered, Pair, roundOf, select, pairUp, sideOf, roundPairs, add, load, tried, tryAll, rounds, eliminate}
+use Rattle.rules.specs.Elimination.{Stops, limited, State, running, ended, Numbered, Pair, roundOf, select, pairUp, sideOf, roundPairs, add, load, tried, tryAll, rounds, eliminate}
 use Rattle.rules.specs.Needs.{stepsOf, pairsOf}
-use Rattle.lists.specs.All.{All, all-map, append-all}
+use Rattle.lists.specs.All.{All, all-map, append-all, every}
+use Rattle.resolution.specs.Holds.{Consistent}
+use Rattle.course.specs.States.{add-cases}
 use Rattle.course.specs.Count.{count, count-append, count-length, count-apart, four-times, square-mono, squares}
 use Rattle.course.specs.Prefix.{prefix-trans, try-prefix, rounds-prefix}
-use Rattle.course.specs.Clean.{Clean, one-side, course-clean}
+use Rattle.course.specs.Consistent.{consistent-one-side, course-consistent}
 use Rattle.course.specs.Held.{limited-held}
 use Rattle.course.specs.Induction.{resultOf}
 
@@ -41,19 +43,15 @@ pairUp-length [] ls = omega arith
 pairUp-length (u ∷ us) ls = simp (length-append, length-map) (omega (arith, pairUp-length us ls))
 
 -- ---- how many of them are tried
-placed-pairs : (w known many blank : Bool) (s : Step) (steps : List Step) (n : ℕ) → pairsOf (placed w known many blank s steps n) ≡ n
-unfolding placed pairsOf
-placed-pairs true known many blank s steps n = refl
-placed-pairs false true many blank s steps n = refl
-placed-pairs false false true blank s steps n = refl
-placed-pairs false false false true s steps n = refl
-placed-pairs false false false false s steps n = refl
-
 module _ (stops : Stops) where
+  add-pairs : (w : Bool) (s : Step) (steps : List Step) (n : ℕ) → pairsOf (add stops w s steps n) ≡ n
+  unfolding pairsOf
+  add-pairs w s steps n = add-cases (λ state. pairsOf state ≡ n) s steps n stops w (λ w. refl) (λ k. refl) (λ m. refl) (λ m e. refl) (λ m e. refl)
+
   tried-pairs : (v : Variable) (p : Pair) (m : Option Line) (steps : List Step) (n : ℕ) → pairsOf (tried stops v p m steps n) ≡ n
-  unfolding tried pairsOf add
+  unfolding tried pairsOf
   tried-pairs v p none steps n = refl
-  tried-pairs v p (some l) steps n = placed-pairs (stops .atLine l) (covered l steps) (stops .atSteps (length steps)) (isEmpty l) (resultOf v p l) steps n
+  tried-pairs v p (some l) steps n = add-pairs (stops .atLine l) (resultOf v p l) steps n
 
   try-pairs : (v : Variable) (ps : List Pair) (state : State) → pairsOf (tryAll stops v ps state) ≤ pairsOf state + length ps
   unfolding tryAll pairsOf
@@ -64,11 +62,10 @@ module _ (stops : Stops) where
       omega (arith, try-pairs v ps (tried stops v p m steps (suc n)), tried-pairs v p m steps (suc n))
 
   load-pairs : (ss : List Step) (state : State) → pairsOf (load stops ss state) ≡ pairsOf state
-  unfolding load pairsOf add
+  unfolding load pairsOf
   load-pairs [] state = refl
   load-pairs (s ∷ ss) (ended e steps n) = refl
-  load-pairs (s ∷ ss) (running steps n) =
-      load-pairs ss (add stops false s steps n) ∙ placed-pairs false (covered (s .line) steps) (stops .atSteps (length steps)) (isEmpty (s .line)) s steps n
+  load-pairs (s ∷ ss) (running steps n) = load-pairs ss (add stops false s steps n) ∙ add-pairs false s steps n
 
 -- ---- a turn's lines
 module _ (variables : List Variable) where
@@ -79,7 +76,7 @@ module _ (variables : List Variable) where
   fromRound t s = leb t (roundOf variables (s .line))
 
   -- uppers and lowers of turn t are different lines of it
-  sides : (v : Variable) (t : ℕ) (steps : List Step) → All (λ s. Clean (s .line)) steps
+  sides : (v : Variable) (t : ℕ) (steps : List Step) → All (λ s. Consistent (s .line)) steps
       → length (sideOf positively variables v t steps) + length (sideOf negatively variables v t steps) ≤ count (ofRound t) steps
   unfolding sideOf
   sides v t steps h =
@@ -87,20 +84,17 @@ module _ (variables : List Variable) where
       let low : Step → Bool = λ s. negatively v (s .line) && ofRound t s in
       rw (select-length (λ l. positively v l && eqb (roundOf variables l) t) 0 steps, select-length (λ l. negatively v l && eqb (roundOf variables l) t) 0 steps)
       (count-apart up low (ofRound t) steps
-      (all-map (λ s. Clean (s .line)) (λ s. T (up s) → T (low s) → ⊥) steps (λ s c a b. one-side v (s .line) c (and-yes (positively v (s .line)) (ofRound t s) a .0) (and-yes (negatively v (s .line)) (ofRound t s) b .0)) h)
+      (all-map (λ s. Consistent (s .line)) (λ s. T (up s) → T (low s) → ⊥) steps (λ s c a b. consistent-one-side v (s .line) c (and-yes (positively v (s .line)) (ofRound t s) a .0) (and-yes (negatively v (s .line)) (ofRound t s) b .0)) h)
       (λ s a. and-yes (positively v (s .line)) (ofRound t s) a .1)
       (λ s a. and-yes (negatively v (s .line)) (ofRound t s) a .1))
 
   -- a line from turn t on is of turn t or from the next one on
   part-of : (t : ℕ) (steps : List Step) → count (ofRound t) steps + count (fromRound (suc t)) steps ≤ count (fromRound t) steps
   part-of t steps =
-      count-apart (ofRound t) (fromRound (suc t)) (fromRound t) steps (every steps)
+      count-apart (ofRound t) (fromRound (suc t)) (fromRound t) steps
+      (every (λ s. T (ofRound t s) → T (fromRound (suc t) s) → ⊥) steps (λ s a b. absurd (omega (arith, eqb→eq (roundOf variables (s .line)) t a, leb→le (suc t) (roundOf variables (s .line)) b))))
       (λ s a. le→leb t (roundOf variables (s .line)) (omega (arith, eqb→eq (roundOf variables (s .line)) t a)))
       (λ s a. le→leb t (roundOf variables (s .line)) (omega (arith, leb→le (suc t) (roundOf variables (s .line)) a)))
-    where
-      every : (steps : List Step) → All (λ s. T (ofRound t s) → T (fromRound (suc t) s) → ⊥) steps
-      every [] = tt
-      every (s ∷ ss) = ((λ a b. absurd (omega (arith, eqb→eq (roundOf variables (s .line)) t a, leb→le (suc t) (roundOf variables (s .line)) b))), every ss)
 
   -- 4 × the pairs of this turn, and of the later ones
   step : (n mid final u l c c′ m m′ : ℕ) → mid ≤ n + u * l → u + l ≤ c → c ≤ c′ → c′ + m′ ≤ m → 4 * final ≤ 4 * mid + m′ * m′ → 4 * final ≤ 4 * n + m * m
@@ -108,7 +102,7 @@ module _ (variables : List Variable) where
       omega (arith, four-times u l, square-mono {a = u + l} {b = c′} (omega arith), squares c′ m′, square-mono g)
 
   module _ (stops : Stops) where
-    rounds-pairs : (t : ℕ) (vs : List Variable) (state : State) → All (λ s. Clean (s .line)) (stepsOf (rounds stops variables t vs state))
+    rounds-pairs : (t : ℕ) (vs : List Variable) (state : State) → All (λ s. Consistent (s .line)) (stepsOf (rounds stops variables t vs state))
         → 4 * pairsOf (rounds stops variables t vs state) ≤ 4 * pairsOf state + count (fromRound t) (stepsOf (rounds stops variables t vs state)) * count (fromRound t) (stepsOf (rounds stops variables t vs state))
     unfolding rounds pairsOf stepsOf roundPairs
     rounds-pairs t [] state h = omega arith
@@ -120,9 +114,9 @@ module _ (variables : List Variable) where
         let mid = tryAll stops v ps (running steps n) in
         let final = rounds stops variables (suc t) vs mid in
         let grown = prefix-trans steps mid final (try-prefix stops v ps (running steps n)) (rounds-prefix stops variables (suc t) vs mid) in
-        let clean = append-all (λ s. Clean (s .line)) steps (grown .more) (subst (All (λ s. Clean (s .line))) (grown .is) h) .0 in
+        let consistent = append-all (λ s. Consistent (s .line)) steps (grown .more) (subst (All (λ s. Consistent (s .line))) (grown .is) h) .0 in
         step n (pairsOf mid) (pairsOf final) (length us) (length ls) (count (ofRound t) steps) (count (ofRound t) (stepsOf final)) (count (fromRound t) (stepsOf final)) (count (fromRound (suc t)) (stepsOf final))
-        (tried-most us ls n (pairsOf mid) (try-pairs stops v ps (running steps n))) (sides v t steps clean) (more steps (stepsOf final) (grown .more) (grown .is)) (part-of t (stepsOf final)) (rounds-pairs (suc t) vs mid h)
+        (tried-most us ls n (pairsOf mid) (try-pairs stops v ps (running steps n))) (sides v t steps consistent) (more steps (stepsOf final) (grown .more) (grown .is)) (part-of t (stepsOf final)) (rounds-pairs (suc t) vs mid h)
       where
         tried-most : (us ls : List Numbered) (n mid : ℕ) → mid ≤ n + length (pairUp us ls) → mid ≤ n + length us * length ls
         tried-most us ls n mid h = rw (pairUp-length us ls) at h
@@ -134,7 +128,7 @@ module _ (variables : List Variable) where
 quarter : (pairs N m : ℕ) → 4 * pairs ≤ m * m → m * m ≤ N * N → pairs ≤ N * N / 4
 quarter pairs N m h k = omega arith
 
-pub pairs-bound : (limits : Limits) (variables : List Variable) (parts : List Step) → All (λ s. Clean (s .line)) parts
+pub pairs-bound : (limits : Limits) (variables : List Variable) (parts : List Step) → All (λ s. Consistent (s .line)) parts
     → pairsOf (eliminate (limited limits) variables parts) ≤ limits .steps * limits .steps / 4
 unfolding eliminate pairsOf
 pairs-bound limits variables parts c =
@@ -142,5 +136,5 @@ pairs-bound limits variables parts c =
     let final = rounds (limited limits) variables 0 variables start in
     let m = count (fromRound variables 0) (stepsOf final) in
     let none : pairsOf start ≡ 0 = load-pairs (limited limits) parts (running [] 0) in
-    quarter (pairsOf final) (limits .steps) m (omega (arith, rounds-pairs variables (limited limits) 0 variables start (course-clean (limited limits) variables parts c)))
+    quarter (pairsOf final) (limits .steps) m (omega (arith, rounds-pairs variables (limited limits) 0 variables start (course-consistent (limited limits) variables parts c)))
     (square-mono (le-trans (count-length (fromRound variables 0) (stepsOf final)) (limited-held limits variables parts)))

@@ -1,26 +1,20 @@
 -- The pairs of a turn: each is two lines of the book, of that turn, one with the turn's variable positive and one with it negative.
 use mathlib.Core.Path.{_≡_, refl}
-use mathlib.Core.Bool.{Bool, true, false, _&&_}
+use mathlib.Core.Bool.{Bool, _&&_}
 use mathlib.Core.List.{List, [], _∷_, _++_, map}
-use Prim.Native.Nat.{ℕ, zero, suc, _+_}
+use Prim.Native.Nat.{ℕ, suc, _+_}
 use native.Mathlib.Omega.{arith}
 use lib.Dec.{T, eqb, eqb→eq}
 use mir.Facts.{and-yes}
 use Rattle.rules.specs.Lines.{Line, Variable, positively, negatively}
 use Rattle.rules.specs.Steps.{Step}
 use Rattle.rules.specs.Elimination.{Numbered, Pair, roundOf, select, pairUp, sideOf, roundPairs}
-use Rattle.lists.specs.All.{All, all-map, all-append}
+use Rattle.lists.specs.Places.{AtPlace, place-append}
+use Rattle.lists.specs.All.{All, all-map, all-append, kept-one}
 
 -- line i of the book
 abbrev pub LineAt : List Step → ℕ → Line → Type 0
-LineAt [] i l = ⊥
-LineAt (s ∷ ss) zero l = s .line ≡ l
-LineAt (s ∷ ss) (suc i) l = LineAt ss i l
-
-pub line-at-append : (ss ts : List Step) (i : ℕ) (l : Line) → LineAt ss i l → LineAt (ss ++ ts) i l
-line-at-append [] ts i l h = absurd h
-line-at-append (s ∷ ss) ts zero l h = h
-line-at-append (s ∷ ss) ts (suc i) l h = line-at-append ss ts i l h
+LineAt steps i l = AtPlace (λ s. s .line ≡ l) steps i
 
 -- ---- the lines that pass a test
 pub record Selected (test : Line → Bool) (n : ℕ) (ss : List Step) (x : Numbered) : Type 0 where
@@ -33,16 +27,11 @@ module _ (test : Line → Bool) where
   later : (n : ℕ) (s : Step) (ss : List Step) (x : Numbered) → Selected test (suc n) ss x → Selected test n (s ∷ ss) x
   later n s ss x h = record { place = suc (h .place); number = omega (arith, h .number); at = h .at; passes = h .passes }
 
-  one : (b : Bool) (n : ℕ) (s : Step) (ss : List Step) (xs : List Numbered) → (T b → T (test (s .line))) → All (Selected test n (s ∷ ss)) xs
-      → All (Selected test n (s ∷ ss)) (elim b [ true ↦ record { number = n; line = s .line } ∷ xs | false ↦ xs ])
-  one true n s ss xs f h = (record { place = 0; number = omega arith; at = refl; passes = f tt }, h)
-  one false n s ss xs f h = h
-
   pub select-selected : (n : ℕ) (ss : List Step) → All (Selected test n ss) (select test n ss)
   unfolding select
   select-selected n [] = tt
   select-selected n (s ∷ ss) =
-      one (test (s .line)) n s ss (select test (suc n) ss) (λ h. h) (all-map (Selected test (suc n) ss) (Selected test n (s ∷ ss)) (select test (suc n) ss) (later n s ss) (select-selected (suc n) ss))
+      kept-one (Selected test n (s ∷ ss)) (record { number = n; line = s .line }) (select test (suc n) ss) (test (s .line)) (λ h. record { place = 0; number = omega arith; at = refl; passes = h }) (all-map (Selected test (suc n) ss) (Selected test n (s ∷ ss)) (select test (suc n) ss) (later n s ss) (select-selected (suc n) ss))
 
 -- ---- pairs
 module _ (P Q : Numbered → Type 0) where
@@ -86,7 +75,7 @@ module _ (variables : List Variable) (v : Variable) (t : ℕ) where
 
   -- they stay pairs while the book grows
   of-append : (side : Variable → Line → Bool) (steps more : List Step) (x : Numbered) → Of variables v t side steps x → Of variables v t side (steps ++ more) x
-  of-append side steps more x h = record { at = line-at-append steps more (x .number) (x .line) (h .at); sided = h .sided; round = h .round }
+  of-append side steps more x h = record { at = place-append (λ s. s .line ≡ x .line) steps more (x .number) (h .at); sided = h .sided; round = h .round }
 
   pub pair-append : (steps more : List Step) (p : Pair) → PairOf variables v t steps p → PairOf variables v t (steps ++ more) p
   pair-append steps more p h = record { upper = of-append positively steps more (p .upper) (h .upper); lower = of-append negatively steps more (p .lower) (h .lower) }

@@ -1,15 +1,17 @@
 -- Every stage of a course keeps the lines that it starts with, in front.
-use mathlib.Core.Path.{_≡_, refl, sym, ap, _∙_}
-use mathlib.Core.Bool.{Bool, true, false}
+use mathlib.Core.Path.{_≡_, refl, sym, _∙_}
+use mathlib.Core.Bool.{Bool, false}
 use mathlib.Core.List.{List, [], _∷_, _++_, append-assoc, append-nil}
 use mathlib.Core.Option.{Option, none, some}
-use Prim.Native.Nat.{ℕ, suc}
-use lib.ListN.{length}
-use Rattle.rules.specs.Lines.{Line, Variable, isEmpty}
+use Prim.Native.Nat.{ℕ, suc, _≤_}
+use native.Mathlib.Omega.{arith}
+use lib.ListN.{length, length-append}
+use Rattle.rules.specs.Lines.{Line, Variable}
 use Rattle.rules.specs.Resolve.{resolve}
 use Rattle.rules.specs.Steps.{Step}
-use Rattle.rules.specs.Elimination.{Stops, State, running, ended, placed, covered, Pair, roundPairs, add, load, tried, tryAll, rounds}
+use Rattle.rules.specs.Elimination.{Stops, State, running, ended, Pair, roundPairs, add, load, tried, tryAll, rounds}
 use Rattle.rules.specs.Needs.{stepsOf}
+use Rattle.course.specs.States.{add-cases}
 use Rattle.course.specs.Induction.{resultOf}
 
 pub record Prefix (steps : List Step) (state : State) : Type 0 where
@@ -19,21 +21,18 @@ pub record Prefix (steps : List Step) (state : State) : Type 0 where
 same : (steps : List Step) (state : State) → stepsOf state ≡ steps → Prefix steps state
 same steps state e = record { more = []; is = e ∙ sym (append-nil steps) }
 
-pub prefix-trans : (steps : List Step) (mid final : State) → Prefix steps mid → Prefix (stepsOf mid) final → Prefix steps final
-prefix-trans steps mid final h k = record { more = h .more ++ k .more; is = k .is ∙ ap (λ (l : List Step). l ++ k .more) (h .is) ∙ append-assoc steps (h .more) (k .more) }
+-- so the book only grows
+pub prefix-longer : {steps : List Step} {state : State} → Prefix steps state → length steps ≤ length (stepsOf state)
+prefix-longer p = rw (p .is, length-append) (omega arith)
 
-placed-prefix : (w known many blank : Bool) (s : Step) (steps : List Step) (n : ℕ) → Prefix steps (placed w known many blank s steps n)
-unfolding placed stepsOf
-placed-prefix true known many blank s steps n = same steps _ refl
-placed-prefix false true many blank s steps n = same steps _ refl
-placed-prefix false false true blank s steps n = same steps _ refl
-placed-prefix false false false true s steps n = record { more = s ∷ []; is = refl }
-placed-prefix false false false false s steps n = record { more = s ∷ []; is = refl }
+pub prefix-trans : (steps : List Step) (mid final : State) → Prefix steps mid → Prefix (stepsOf mid) final → Prefix steps final
+prefix-trans steps mid final h k = record { more = h .more ++ k .more; is = cc (append-assoc steps (h .more) (k .more)) }
 
 module _ (stops : Stops) where
   pub add-prefix : (w : Bool) (s : Step) (steps : List Step) (n : ℕ) → Prefix steps (add stops w s steps n)
-  unfolding add
-  add-prefix w s steps n = placed-prefix w (covered (s .line) steps) (stops .atSteps (length steps)) (isEmpty (s .line)) s steps n
+  unfolding stepsOf
+  add-prefix w s steps n =
+      add-cases (Prefix steps) s steps n stops w (λ w. same steps _ refl) (λ k. same steps _ refl) (λ m. same steps _ refl) (λ m e. record { more = s ∷ []; is = refl }) (λ m e. record { more = s ∷ []; is = refl })
 
   tried-prefix : (v : Variable) (p : Pair) (m : Option Line) (steps : List Step) (n : ℕ) → Prefix steps (tried stops v p m steps n)
   unfolding tried stepsOf

@@ -1,7 +1,7 @@
 -- The results that demand 3 speaks of are the events of the course that are results.
-use mathlib.Core.Path.{_≡_, refl, ap, _∙_}
-use mathlib.Core.Bool.{Bool, true, false}
-use mathlib.Core.List.{List, [], _∷_, _++_}
+use mathlib.Core.Path.{_≡_, refl, _∙_}
+use mathlib.Core.Bool.{false}
+use mathlib.Core.List.{List, [], _∷_, _++_, map}
 use mathlib.Core.Option.{Option, none, some}
 use Prim.Native.Nat.{ℕ, suc}
 use lib.Dec.{T}
@@ -11,36 +11,30 @@ use Rattle.rules.specs.Resolve.{resolve}
 use Rattle.rules.specs.Steps.{Step}
 use Rattle.rules.specs.Elimination.{unlimited, State, running, ended, Pair, order, roundPairs, loadableOf, add, load, tried, tryAll}
 use Rattle.rules.specs.Needs.{listed, triedResults, roundResults, results}
-use Rattle.lists.specs.All.{All}
+use Rattle.rules.specs.Lists.{filter}
+use Rattle.lists.specs.All.{All, filter-all, all-filter, filter-append, mapped-all, all-mapped, map-append}
 use Rattle.course.specs.Events.{Event, loadEvents, resultEvents, tryEvents, roundEvents, events}
 
 unfoldable pub resultLines : List Event → List Line
-resultLines [] = []
-resultLines (e ∷ es) = elim (e .isResult) [ true ↦ e .line ∷ resultLines es | false ↦ resultLines es ]
+resultLines es = map (λ e. e .line) (filter (λ e. e .isResult) es)
 
 resultLines-append : (es fs : List Event) → resultLines (es ++ fs) ≡ resultLines es ++ resultLines fs
 unfolding resultLines
-resultLines-append [] fs = refl
-resultLines-append (e ∷ es) fs = by (e .isResult) (resultLines-append es fs)
-  where
-    by : (b : Bool) → resultLines (es ++ fs) ≡ resultLines es ++ resultLines fs
-        → elim b [ true ↦ e .line ∷ resultLines (es ++ fs) | false ↦ resultLines (es ++ fs) ] ≡ elim b [ true ↦ e .line ∷ resultLines es | false ↦ resultLines es ] ++ resultLines fs
-    by true h = ap (λ (ls : List Line). e .line ∷ ls) h
-    by false h = h
+resultLines-append es fs = rw (filter-append (λ e. e .isResult) es fs) (map-append (λ e. e .line) (filter (λ e. e .isResult) es) (filter (λ e. e .isResult) fs))
 
 load-results : (ss : List Step) (state : State) → resultLines (loadEvents ss state) ≡ []
-unfolding resultLines loadEvents
+unfolding resultLines filter loadEvents
 load-results [] state = refl
 load-results (s ∷ ss) (ended e steps n) = refl
 load-results (s ∷ ss) (running steps n) = load-results ss (add unlimited false s steps n)
 
 result-results : (m : Option Line) (steps : List Step) (n : ℕ) → resultLines (resultEvents m steps n) ≡ listed m
-unfolding resultLines resultEvents listed
+unfolding resultLines filter resultEvents listed
 result-results none steps n = refl
 result-results (some l) steps n = refl
 
 try-results : (v : Variable) (ps : List Pair) (state : State) → resultLines (tryEvents v ps state) ≡ triedResults v ps state
-unfolding resultLines tryEvents triedResults
+unfolding resultLines filter tryEvents triedResults
 try-results v [] state = refl
 try-results v (p ∷ ps) (ended e steps n) = refl
 try-results v (p ∷ ps) (running steps n) =
@@ -49,7 +43,7 @@ try-results v (p ∷ ps) (running steps n) =
     resultLines-append (resultEvents m steps (suc n)) (tryEvents v ps next) ∙ (λ i. result-results m steps (suc n) i ++ try-results v ps next i)
 
 round-results : (variables : List Variable) (t : ℕ) (vs : List Variable) (state : State) → resultLines (roundEvents variables t vs state) ≡ roundResults variables t vs state
-unfolding resultLines roundEvents roundResults
+unfolding resultLines filter roundEvents roundResults
 round-results variables t [] state = refl
 round-results variables t (v ∷ vs) (ended e steps n) = refl
 round-results variables t (v ∷ vs) (running steps n) =
@@ -68,20 +62,10 @@ module _ (P : Line → Type 0) where
   abbrev OfResult : Event → Type 0
   OfResult e = T (e .isResult) → P (e .line)
 
-  shown : (b : Bool) (l : Line) (ls : List Line) → All P (elim b [ true ↦ l ∷ ls | false ↦ ls ]) → (T b → P l) × All P ls
-  shown true l ls h = (λ z. h .0, h .1)
-  shown false l ls h = (λ z. absurd z, h)
-
-  hidden : (b : Bool) (l : Line) (ls : List Line) → (T b → P l) → All P ls → All P (elim b [ true ↦ l ∷ ls | false ↦ ls ])
-  hidden true l ls f h = (f tt, h)
-  hidden false l ls f h = h
-
   pub results-all : (es : List Event) → All P (resultLines es) → All OfResult es
   unfolding resultLines
-  results-all [] h = tt
-  results-all (e ∷ es) h = let r = shown (e .isResult) (e .line) (resultLines es) h in (r .0, results-all es (r .1))
+  results-all es h = all-filter (λ e. P (e .line)) (λ e. e .isResult) es (mapped-all P (λ e. e .line) (filter (λ e. e .isResult) es) h)
 
   pub all-results : (es : List Event) → All OfResult es → All P (resultLines es)
   unfolding resultLines
-  all-results [] h = tt
-  all-results (e ∷ es) h = hidden (e .isResult) (e .line) (resultLines es) (h .0) (all-results es (h .1))
+  all-results es h = all-mapped P (λ e. e .line) (filter (λ e. e .isResult) es) (filter-all (λ e. P (e .line)) (λ e. e .isResult) es h)

@@ -1,27 +1,27 @@
 -- At its end without an empty line a course is saturated: of every turn all pairs are dropped or covered.
 use mathlib.Core.Path.{_≡_, refl, sym, ap, _∙_, subst}
-use mathlib.Core.Bool.{Bool, true, false}
+use mathlib.Core.Bool.{Bool}
 use mathlib.Core.Logic.{inl}
 use mathlib.Core.List.{List, [], _∷_, _++_, map, append-assoc, append-nil}
 use mathlib.Core.Option.{Option, none, some}
 use Prim.Native.Nat.{ℕ, suc, _≤_, _<_}
 use native.Mathlib.Omega.{arith}
 use lib.ListN.{length, drop}
-use Rattle.rules.specs.Lines.{Line, Variable, isEmpty}
+use Rattle.rules.specs.Lines.{Line, Variable}
 use Rattle.rules.specs.Resolve.{resolve}
 use Rattle.rules.specs.Steps.{Step}
-use Rattle.rules.specs.Elimination.{Stops, State, running, ended, placed, covered, Pair, roundOf, roundPairs, add, load, tried, tryAll, rounds, eliminate}
-use Rattle.lists.specs.Tests.{of-true}
+use Rattle.rules.specs.Elimination.{Stops, State, running, ended, Pair, roundOf, roundPairs, add, load, tried, tryAll, rounds, eliminate}
 use Rattle.lists.specs.All.{All, all-map, all-append, all-mapped, any-right, map-append}
+use Rattle.lists.specs.Dropped.{DroppedOr}
 use Rattle.saturation.specs.Rounds.{At, drop-at, drop-next, drop-none}
-use Rattle.saturation.specs.Covered.{Covers, Covered, DroppedOrLater, resolve-later}
+use Rattle.saturation.specs.Covered.{Covers, Covered, resolve-later}
 use Rattle.saturation.specs.Equal.{covers-refl, covered-yes}
 use Rattle.saturation.specs.Finished.{Finished, finished-none, finished-next, finished-all, finished-more, later-pairs, covered-more}
 use Rattle.saturation.specs.Tried.{pairs-tried}
 use Rattle.saturation.specs.Saturation.{AllPairs}
 use Rattle.course.specs.Pairs.{PairOf, round-pairs}
 use Rattle.course.specs.Induction.{PairsIn, resultOf, tried-pairs}
-use Rattle.course.specs.States.{try-ended}
+use Rattle.course.specs.States.{try-ended, add-cases}
 
 abbrev pub lines : List Step → List Line
 lines steps = map (λ s. s .line) steps
@@ -42,28 +42,27 @@ module _ (variables : List Variable) (t : ℕ) where
   unchanged steps C h = record { more = []; is = sym (append-nil steps); later = tt; covers = h }
 
   -- ---- one result
-  placed-grown : (w known many blank : Bool) (s : Step) (steps : List Step) (n : ℕ) → known ≡ covered (s .line) steps → t < roundOf variables (s .line)
-      → GrownTo variables t steps (λ S. Covered S (some (s .line))) (placed w known many blank s steps n)
-  unfolding placed
-  placed-grown true known many blank s steps n e h = tt
-  placed-grown false true many blank s steps n e h = unchanged steps (λ S. Covered S (some (s .line))) (covered-yes (s .line) steps (of-true (covered (s .line) steps) (sym e)))
-  placed-grown false false true blank s steps n e h = tt
-  placed-grown false false false true s steps n e h = tt
-  placed-grown false false false false s steps n e h =
-      record {
+  add-grown : (stops : Stops) (w : Bool) (s : Step) (steps : List Step) (n : ℕ) → t < roundOf variables (s .line) → GrownTo variables t steps (λ S. Covered S (some (s .line))) (add stops w s steps n)
+  add-grown stops w s steps n h =
+      let C : List Line → Type 0 = λ S. Covered S (some (s .line)) in
+      add-cases (GrownTo variables t steps C) s steps n stops w (λ w. tt) (λ k. unchanged steps C (covered-yes (s .line) steps k)) (λ m. tt) (λ m e. tt)
+      (λ m e. record {
         more = s ∷ [];
         is = refl;
         later = (h, tt);
         covers = rw (map-append (λ (x : Step). x .line) steps (s ∷ [])) (any-right (λ j. Covers j (s .line)) (lines steps) (s .line ∷ []) (inl (covers-refl (s .line))));
-      }
+      })
 
   module _ (stops : Stops) (v : Variable) (a : At variables t v) where
-    result-grown : (p : Pair) (m : Option Line) (steps : List Step) (n : ℕ) → DroppedOrLater variables t m → GrownTo variables t steps (λ S. Covered S m) (tried stops v p m steps n)
-    unfolding tried add
-    result-grown p none steps n h = unchanged steps (λ S. Covered S none) tt
-    result-grown p (some l) steps n h = placed-grown (stops .atLine l) (covered l steps) (stops .atSteps (length steps)) (isEmpty l) (resultOf v p l) steps n refl h
+    abbrev Later : Option Line → Type 0
+    Later = DroppedOr (λ r. t < roundOf variables r)
 
-    pair-later : (p : Pair) (steps : List Step) → PairOf variables v t steps p → DroppedOrLater variables t (resolve v (p .upper .line) (p .lower .line))
+    result-grown : (p : Pair) (m : Option Line) (steps : List Step) (n : ℕ) → Later m → GrownTo variables t steps (λ S. Covered S m) (tried stops v p m steps n)
+    unfolding tried
+    result-grown p none steps n h = unchanged steps (λ S. Covered S none) tt
+    result-grown p (some l) steps n h = add-grown stops (stops .atLine l) (resultOf v p l) steps n h
+
+    pair-later : (p : Pair) (steps : List Step) → PairOf variables v t steps p → Later (resolve v (p .upper .line) (p .lower .line))
     pair-later p steps h =
         resolve-later variables t v a (p .upper .line) (p .lower .line) (omega (arith, h .upper .round)) (omega (arith, h .lower .round)) (h .lower .sided)
 
@@ -75,7 +74,7 @@ module _ (variables : List Variable) (t : ℕ) where
     joined p ps steps mid now h k =
         record {
           more = h .more ++ k .more;
-          is = k .is ∙ ap (λ (l : List Step). l ++ k .more) (h .is) ∙ append-assoc steps (h .more) (k .more);
+          is = cc (append-assoc steps (h .more) (k .more));
           later = all-append (λ s. t < roundOf variables (s .line)) (h .more) (k .more) (h .later) (k .later);
           covers = (
             subst (λ (S : List Line). Covered S (resolve v (p .upper .line) (p .lower .line))) (sym (ap lines (k .is) ∙ map-append (λ (x : Step). x .line) mid (k .more)))

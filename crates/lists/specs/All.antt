@@ -6,6 +6,7 @@ use mathlib.Core.List.{List, [], _∷_, _++_, map}
 use Prim.Native.Nat.{ℕ, zero, suc, _<_}
 use native.Mathlib.Omega.{arith}
 use lib.Dec.{T}
+use lib.ListN.{getD, replicate}
 use mir.Facts.{or-yes, or-no, and-yes, yes-and}
 use Rattle.rules.specs.Lists.{any, all, filter, tabulate}
 use Rattle.lists.specs.Tests.{or-l, or-r}
@@ -81,7 +82,8 @@ module _ {A : Type 0} where
   yes-all p [] h = tt
   yes-all p (a ∷ s) h = yes-and (p a) (all p s) (h .0) (yes-all p s (h .1))
 
-  kept-one : (P : A → Type 0) (a : A) (r : List A) (t : Bool) → (T t → P a) → All P r → All P (elim t [ true ↦ a ∷ r | false ↦ r ])
+  -- one element, kept where a test says so
+  pub kept-one : (P : A → Type 0) (a : A) (r : List A) (t : Bool) → (T t → P a) → All P r → All P (elim t [ true ↦ a ∷ r | false ↦ r ])
   kept-one P a r true f h = (f tt, h)
   kept-one P a r false f h = h
 
@@ -90,7 +92,7 @@ module _ {A : Type 0} where
   filter-all P p [] h = tt
   filter-all P p (a ∷ s) h = kept-one P a (filter p s) (p a) (h .0) (filter-all P p s (h .1))
 
-  one-kept : (P : A → Type 0) (a : A) (r : List A) (t : Bool) → All P (elim t [ true ↦ a ∷ r | false ↦ r ]) → (T t → P a) × All P r
+  pub one-kept : (P : A → Type 0) (a : A) (r : List A) (t : Bool) → All P (elim t [ true ↦ a ∷ r | false ↦ r ]) → (T t → P a) × All P r
   one-kept P a r true h = (λ z. h .0, h .1)
   one-kept P a r false h = (λ z. absurd z, h)
 
@@ -98,6 +100,15 @@ module _ {A : Type 0} where
   unfolding filter
   all-filter P p [] h = tt
   all-filter P p (a ∷ s) h = let r = one-kept P a (filter p s) (p a) h in (r .0, all-filter P p s (r .1))
+
+  pub filter-append : (p : A → Bool) (s t : List A) → filter p (s ++ t) ≡ filter p s ++ filter p t
+  unfolding filter
+  filter-append p [] t = refl
+  filter-append p (a ∷ s) t = by (p a) (filter-append p s t)
+    where
+      by : (b : Bool) → filter p (s ++ t) ≡ filter p s ++ filter p t → elim b [ true ↦ a ∷ filter p (s ++ t) | false ↦ filter p (s ++ t) ] ≡ elim b [ true ↦ a ∷ filter p s | false ↦ filter p s ] ++ filter p t
+      by true e = ap (λ (l : List A). a ∷ l) e
+      by false e = e
 
 -- ---- made lists
 module _ {A : Type 0} (P : A → Type 0) where
@@ -126,6 +137,11 @@ module _ {A B : Type 0} (P : B → Type 0) (f : A → B) where
   pub all-mapped : (s : List A) → All (λ a. P (f a)) s → All P (map f s)
   all-mapped [] h = tt
   all-mapped (a ∷ s) h = (h .0, all-mapped s (h .1))
+
+pub getD-replicate-same : {A : Type 0} (n i : ℕ) (a : A) → getD (replicate n a) i a ≡ a
+getD-replicate-same zero i a = refl
+getD-replicate-same (suc n) zero a = refl
+getD-replicate-same (suc n) (suc i) a = getD-replicate-same n i a
 
 module _ {A B : Type 0} (f : A → B) where
   pub map-append : (s t : List A) → map f (s ++ t) ≡ map f s ++ map f t

@@ -20,6 +20,10 @@ module _ {A : Type 0} where
   pub dropped-holds : (P : A → Type 0) {X : Type 0} (o : Option A) → X ↔ DroppedOr P o → o ≡ none → X
   dropped-holds P o h e = h .1 (subst (DroppedOr P) (sym e) tt)
 
+  -- what is not dropped is so
+  pub dropped-is : (P : A → Type 0) {o : Option A} {a : A} → o ≡ some a → DroppedOr P o → P a
+  dropped-is P e h = subst (DroppedOr P) e h
+
 -- what is made of what is not dropped
 pub dropped-then : {A B : Type 0} (P : A → Type 0) (R : B → Type 0) (f : A → Option B) (o : Option A) → DroppedOr P o → ((a : A) → P a → DroppedOr R (f a))
     → DroppedOr R (elim o [ none ↦ none | some a ↦ f a ])

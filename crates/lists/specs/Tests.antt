@@ -67,6 +67,9 @@ or-left-comm true true c = refl
 or-left-comm true false c = refl
 or-left-comm false b c = refl
 
+pub or-or-comm : (a b c d : Bool) → (a || b) || (c || d) ≡ (a || c) || (b || d)
+or-or-comm a b c d = simp (or-assoc, or-left-comm)
+
 -- an alternative that is part of another one
 pub or-absorb : (a b c : Bool) → b || ((a && b) || c) ≡ b || c
 or-absorb a true c = refl

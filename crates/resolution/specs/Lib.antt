@@ -1,5 +1,6 @@
 pub mod Members
 pub mod Holds
+pub mod Choosing
 pub mod Settled
 pub mod NormalLine
 pub mod Resolution

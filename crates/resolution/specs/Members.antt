@@ -7,9 +7,10 @@ use mathlib.Core.List.{[], _∷_}
 use Prim.Native.Nat.{ℕ, zero, suc, _<_, max}
 use native.Mathlib.Omega.{arith}
 use lib.Dec.{T}
-use lib.ListN.{length, getD, set, replicate, length-set}
+use lib.ListN.{length, getD, set, length-set}
 use mir.Facts.{or-yes, and-yes, yes-and}
-use Rattle.lists.specs.Tests.{or-l, or-r, or-else, or-left-comm, or-absorb, and-or-both}
+use Rattle.lists.specs.Tests.{or-l, or-r, or-else, or-left-comm, or-or-comm, or-absorb, and-or-both}
+use Rattle.lists.specs.All.{getD-replicate-same}
 use Rattle.rules.specs.Lines.{Booleans, noBooleans, including, excluding, union, meet, someYes}
 
 abbrev pub has : Booleans → ℕ → Bool
@@ -48,14 +49,13 @@ including-has zero (a ∷ s) (suc j) h = inr h
 including-has (suc i) (a ∷ s) zero h = inr h
 including-has (suc i) (a ∷ s) (suc j) h = ⊎-elim (λ e. inl (ap suc e)) (λ k. inr k) (including-has i s j h)
 
-replicate-has : (n i : ℕ) → T (has (replicate n false) i) → ⊥
-replicate-has zero i h = h
-replicate-has (suc n) zero h = h
-replicate-has (suc n) (suc i) h = replicate-has n i h
-
 pub none-has : (i : ℕ) → T (has noBooleans i) → ⊥
 unfolding noBooleans
-none-has i h = replicate-has 32 i h
+none-has i h = rw (getD-replicate-same 32 i false) at h
+
+-- every member is so
+abbrev pub Within : (ℕ → Type 0) → Booleans → Type 0
+Within P s = (i : ℕ) → T (has s i) → P i
 
 pub excluding-union : (i : ℕ) (s t : Booleans) → excluding i (union s t) ≡ union (excluding i s) (excluding i t)
 unfolding excluding union
@@ -91,6 +91,10 @@ yes-union [] t f = refl
 yes-union (a ∷ s) [] f = sym (or-false (someYes (a ∷ s) f))
 yes-union (a ∷ s) (b ∷ t) f = rw (yes-union s t (λ i. f (suc i))) (and-or-both a b (f 0) (someYes s (λ i. f (suc i))) (someYes t (λ i. f (suc i))))
 
+-- two sets under each of two choices: the literals of two lines
+pub unions-yes : (s t s′ t′ : Booleans) (f g : ℕ → Bool) → someYes (union s t) f || someYes (union s′ t′) g ≡ (someYes s f || someYes s′ g) || (someYes t f || someYes t′ g)
+unions-yes s t s′ t′ f g = rw (yes-union s t f, yes-union s′ t′ g) (or-or-comm (someYes s f) (someYes t f) (someYes s′ g) (someYes t′ g))
+
 pub none-yes : (f : ℕ → Bool) → someYes noBooleans f ≡ false
 unfolding someYes noBooleans
 none-yes f = refl
@@ -105,6 +109,16 @@ yes-at (suc i) (a ∷ s) f = rw (yes-at i s (λ j. f (suc j))) (or-left-comm (a 
 -- it is not this one, so it is another
 pub yes-else : (i : ℕ) (s : Booleans) (f : ℕ → Bool) → T (not (has s i && f i)) → T (someYes s f) → T (someYes (excluding i s) f)
 yes-else i s f n h = or-else (has s i && f i) (someYes (excluding i s) f) n (rw (yes-at i s f) at h)
+
+pub else-yes : (i : ℕ) (s : Booleans) (f : ℕ → Bool) → T (someYes (excluding i s) f) → T (someYes s f)
+else-yes i s f h = rw (yes-at i s f) (or-r (has s i && f i) (someYes (excluding i s) f) h)
+
+-- only the members' values count
+pub yes-agree : (s : Booleans) (f g : ℕ → Bool) → Within (λ i. f i ≡ g i) s → someYes s f ≡ someYes s g
+unfolding someYes
+yes-agree [] f g w = refl
+yes-agree (true ∷ s) f g w = rw (w 0 tt, yes-agree s (λ i. f (suc i)) (λ i. g (suc i)) (λ i. w (suc i)))
+yes-agree (false ∷ s) f g w = yes-agree s (λ i. f (suc i)) (λ i. g (suc i)) (λ i. w (suc i))
 
 pub yes-including : (i : ℕ) (s : Booleans) (f : ℕ → Bool) → i < length s → someYes (including i s) f ≡ f i || someYes s f
 unfolding someYes including

@@ -1,4 +1,4 @@
--- Normalizing a line keeps its meaning, brings in no variable and no length, and leaves no Boolean variable in both signs.
+-- Normalizing a line keeps its meaning, and leaves no Boolean variable in both signs.
 use mathlib.Core.Path.{_≡_, refl, sym, subst}
 use mathlib.Core.Bool.{Bool}
 use mathlib.Core.Logic.{_↔_, ⊎-elim}
@@ -10,7 +10,7 @@ use Rattle.rules.specs.Problem.{Constraint}
 use Rattle.rules.specs.Meaning.{Assignment, constraintHolds}
 use Rattle.rules.specs.Lines.{Line, meet, aLiteralHolds, theConstraintHolds, lineHolds}
 use Rattle.rules.specs.Normalize.{Settled, always, never, kept, settled, settledLine, normalLine}
-use Rattle.lists.specs.Dropped.{DroppedOr, dropped-holds}
+use Rattle.lists.specs.Dropped.{DroppedOr}
 use Rattle.resolution.specs.Holds.{Consistent, line-map, by-literal, by-constraint, by-positive, by-negative, both-signs}
 use Rattle.resolution.specs.Settled.{SettledHolds, settled-holds}
 
@@ -54,9 +54,6 @@ normal-line-holds χ d l =
     (λ h. (λ k. tt, λ k. by-literal χ l (⊎-elim (by-positive χ l) (by-negative χ l) (both-signs χ (l .positive) (l .negative) h))))
     (λ n e. (λ h. h, λ h. h))
     (λ n c e. settled-line χ l (settled c) (with-constraint χ (l .constraint) c e (settled-holds χ d c)))
-
-pub dropped-line-holds : (χ : Assignment) → 0 < χ .denominator → (l : Line) → normalLine l ≡ none → T (lineHolds χ l)
-dropped-line-holds χ d l = dropped-holds (λ m. T (lineHolds χ m)) (normalLine l) (normal-line-holds χ d l)
 
 -- ---- its form
 settled-consistent : (l : Line) (s : Settled) → Consistent l → DroppedOr Consistent (settledLine l s)

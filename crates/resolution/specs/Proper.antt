@@ -14,7 +14,7 @@ use Rattle.rules.specs.Lines.{Line, Variable}
 use Rattle.rules.specs.Normalize.{settled, settledLine, reduced, normalLine}
 use Rattle.rules.specs.Resolve.{resolvent, resolve}
 use Rattle.vectors.specs.Sign.{isZero-quot}
-use Rattle.vectors.specs.Gcd.{gcdAll-dvd, gcdAll-nonzero, gcd-positiveʳ}
+use Rattle.vectors.specs.Gcd.{gcdAll-dvd, gcdAll-proper}
 use Rattle.vectors.specs.Constraint.{quotients}
 use Rattle.lists.specs.Dropped.{DroppedOr}
 use Rattle.resolution.specs.Settled.{settled-cases}
@@ -31,21 +31,21 @@ quotients-zero g [] z d = refl
 quotients-zero g (c ∷ cs) z d = rw (isZero-quot g c z (d 0), quotients-zero g cs z (λ i. d (suc i)))
 
 pub reduced-proper : (c : Constraint) → Proper (some c) → Proper (some (reduced c))
-unfolding reduced gcdAll
+unfolding reduced
 reduced-proper c n =
     let cs = c .bound ∷ c .coefficients in
-    rw (quotients-zero (gcdAll cs) (c .coefficients) (gcd-positiveʳ (natAbs (c .bound)) (gcdAll (c .coefficients)) (gcdAll-nonzero (c .coefficients) n)) (λ i. gcdAll-dvd cs (suc i))) n
+    rw (quotients-zero (gcdAll cs) (c .coefficients) (gcdAll-proper (c .bound) (c .coefficients) n) (λ i. gcdAll-dvd cs (suc i))) n
 
-abbrev ProperLine : Line → Type 0
+abbrev pub ProperLine : Line → Type 0
 ProperLine l = Proper (l .constraint)
 
 settled-proper : (l : Line) (c : Constraint) → DroppedOr ProperLine (settledLine l (settled c))
 unfolding settledLine
 settled-proper l c = settled-cases (λ s. DroppedOr ProperLine (settledLine l s)) c (λ z r. tt) (λ z r. tt) (reduced-proper c)
 
-pub normal-line-proper : (l : Line) → DroppedOr (λ m. Proper (m .constraint)) (normalLine l)
+pub normal-line-proper : (l : Line) → DroppedOr ProperLine (normalLine l)
 normal-line-proper l = line-ends (DroppedOr ProperLine) l (λ h. tt) (λ n e. rw e tt) (λ n c e. settled-proper l c)
 
-pub resolve-proper : (v : Variable) (u l : Line) → DroppedOr (λ m. Proper (m .constraint)) (resolve v u l)
+pub resolve-proper : (v : Variable) (u l : Line) → DroppedOr ProperLine (resolve v u l)
 unfolding resolve
 resolve-proper v u l = normal-line-proper (resolvent v u l)

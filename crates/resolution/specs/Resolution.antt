@@ -1,4 +1,5 @@
 -- A step is sound: where its parents hold, a resolvent is dropped or holds.
+use mathlib.Core.Path.{_≡_}
 use mathlib.Core.Bool.{Bool, not, _||_, _&&_, Bool·not-not}
 use mathlib.Core.Logic.{⊎-elim}
 use mathlib.Core.Option.{Option, none, some}
@@ -9,12 +10,13 @@ use Rattle.lists.specs.Tests.{split, clash, or-l, or-r, and-noˡ, and-noʳ}
 use Rattle.rules.specs.Arithmetic.{isPositive, isNegative}
 use Rattle.rules.specs.Problem.{Constraint}
 use Rattle.rules.specs.Meaning.{Assignment}
-use Rattle.rules.specs.Lines.{Booleans, Line, Variable, rational, boolean, union, excluding, meet, someYes, aLiteralHolds, theConstraintHolds, lineHolds, coefficient, positively, negatively, noConstraint}
+use Rattle.rules.specs.Lines.{Line, Variable, rational, boolean, excluding, meet, aLiteralHolds, theConstraintHolds, lineHolds, coefficient, positively, negatively, noConstraint}
 use Rattle.rules.specs.Resolve.{combination, combinationOf, oneOf, resolvent, resolve}
+use Rattle.rules.specs.Values.{withoutBoolean}
 use Rattle.rules.specs.Checker.{pairable}
 use Rattle.vectors.specs.Constraint.{constraint-yes, yes-constraint}
 use Rattle.vectors.specs.Combination.{combination-holds}
-use Rattle.resolution.specs.Members.{has, yes-union, yes-else, excluding-union, meet-member}
+use Rattle.resolution.specs.Members.{has, unions-yes, yes-else, excluding-union, meet-member}
 use Rattle.lists.specs.Dropped.{DroppedOr}
 use Rattle.resolution.specs.Holds.{Consistent, line-cases, by-literal, literals-map, line-map, no-constraint}
 use Rattle.resolution.specs.NormalLine.{normal-line-holds}
@@ -24,38 +26,42 @@ abbrev pub Resolvable : Variable → Line → Line → Type 0
 Resolvable (rational f) u l = Unit {0}
 Resolvable (boolean i) u l = Consistent u × Consistent l × T (pairable (boolean i) u l)
 
--- ---- literals: one that is not the variable's own stays
+-- ---- literals: a resolvent has those of its parents, without the variable's own
+-- a line without the variable's literals; a rational variable has none
+abbrev pub withoutLiteral : Variable → Line → Line
+withoutLiteral (rational f) l = l
+withoutLiteral (boolean i) l = withoutBoolean i l
+
+pub resolvent-literals : (χ : Assignment) (v : Variable) (u l : Line) → aLiteralHolds χ (resolvent v u l) ≡ aLiteralHolds χ (withoutLiteral v u) || aLiteralHolds χ (withoutLiteral v l)
+unfolding aLiteralHolds resolvent withoutBoolean
+resolvent-literals χ (rational f) u l = unions-yes (u .positive) (l .positive) (u .negative) (l .negative) (χ .booleans) (λ j. not (χ .booleans j))
+resolvent-literals χ (boolean i) u l =
+    rw (excluding-union i (u .positive) (l .positive), excluding-union i (u .negative) (l .negative))
+    (unions-yes (excluding i (u .positive)) (excluding i (l .positive)) (excluding i (u .negative)) (excluding i (l .negative)) (χ .booleans) (λ j. not (χ .booleans j)))
+
+-- where the variable's own literal fails, another one holds
 abbrev Idle : Assignment → Variable → Line → Type 0
 Idle χ (rational f) l = Unit {0}
 Idle χ (boolean i) l = T (not (has (l .positive) i && χ .booleans i)) × T (not (has (l .negative) i && not (χ .booleans i)))
 
-module _ (s t : Booleans) (f : ℕ → Bool) where
-  yes-left : T (someYes s f) → T (someYes (union s t) f)
-  yes-left h = rw (yes-union s t f) (or-l (someYes s f) (someYes t f) h)
+another-literal : (χ : Assignment) (v : Variable) (l : Line) → Idle χ v l → T (aLiteralHolds χ l) → T (aLiteralHolds χ (withoutLiteral v l))
+unfolding withoutBoolean
+another-literal χ (rational f) l n h = h
+another-literal χ (boolean i) l n h =
+    literals-map χ χ l (withoutBoolean i l) (yes-else i (l .positive) (χ .booleans) (n .0)) (yes-else i (l .negative) (λ j. not (χ .booleans j)) (n .1)) h
 
-  yes-right : T (someYes t f) → T (someYes (union s t) f)
-  yes-right h = rw (yes-union s t f) (or-r (someYes s f) (someYes t f) h)
+module _ (χ : Assignment) (u l : Line) (v : Variable) where
+  abbrev U : Bool
+  U = aLiteralHolds χ (withoutLiteral v u)
 
-module _ (i : ℕ) (s t : Booleans) (f : ℕ → Bool) where
-  else-left : T (not (has s i && f i)) → T (someYes s f) → T (someYes (excluding i (union s t)) f)
-  else-left n h = rw (excluding-union i s t) (yes-left (excluding i s) (excluding i t) f (yes-else i s f n h))
+  abbrev L : Bool
+  L = aLiteralHolds χ (withoutLiteral v l)
 
-  else-right : T (not (has t i && f i)) → T (someYes t f) → T (someYes (excluding i (union s t)) f)
-  else-right n h = rw (excluding-union i s t) (yes-right (excluding i s) (excluding i t) f (yes-else i t f n h))
+  upper-literal : Idle χ v u → T (aLiteralHolds χ u) → T (aLiteralHolds χ (resolvent v u l))
+  upper-literal n h = rw (resolvent-literals χ v u l) (or-l U L (another-literal χ v u n h))
 
-module _ (χ : Assignment) (u l : Line) where
-  abbrev no : ℕ → Bool
-  no j = not (χ .booleans j)
-
-  upper-literal : (v : Variable) → Idle χ v u → T (aLiteralHolds χ u) → T (aLiteralHolds χ (resolvent v u l))
-  unfolding resolvent
-  upper-literal (rational f) n = literals-map χ χ u (resolvent (rational f) u l) (yes-left (u .positive) (l .positive) (χ .booleans)) (yes-left (u .negative) (l .negative) no)
-  upper-literal (boolean i) n = literals-map χ χ u (resolvent (boolean i) u l) (else-left i (u .positive) (l .positive) (χ .booleans) (n .0)) (else-left i (u .negative) (l .negative) no (n .1))
-
-  lower-literal : (v : Variable) → Idle χ v l → T (aLiteralHolds χ l) → T (aLiteralHolds χ (resolvent v u l))
-  unfolding resolvent
-  lower-literal (rational f) n = literals-map χ χ l (resolvent (rational f) u l) (yes-right (u .positive) (l .positive) (χ .booleans)) (yes-right (u .negative) (l .negative) no)
-  lower-literal (boolean i) n = literals-map χ χ l (resolvent (boolean i) u l) (else-right i (u .positive) (l .positive) (χ .booleans) (n .0)) (else-right i (u .negative) (l .negative) no (n .1))
+  lower-literal : Idle χ v l → T (aLiteralHolds χ l) → T (aLiteralHolds χ (resolvent v u l))
+  lower-literal n h = rw (resolvent-literals χ v u l) (or-r U L (another-literal χ v l n h))
 
 -- ---- constraints
 combined-constraint : (χ : Assignment) (f : ℕ) (u l : Option Constraint) → T (isPositive (coefficient f u)) → T (isNegative (coefficient f l))

@@ -6,18 +6,18 @@ use mathlib.Core.List.{_∷_}
 use mathlib.Core.Option.{Option, none, some}
 use Prim.Native.Nat.{ℕ, zero, suc}
 use lib.IntN.{ℤ, pos, negsuc, natAbs}
+use lib.Signed.{quotZ}
 use lib.Dec.{T, not-T}
 use lib.ListN.{getD}
 use mir.Facts.{or-yes}
+use Rattle.integers.specs.Quotient.{quot-zero}
 use Rattle.lists.specs.Tests.{split, clash, or-l, or-r}
-use Rattle.rules.specs.Lists.{all}
 use Rattle.rules.specs.Arithmetic.{gcdAll, isPositive, isNegative, isZero}
 use Rattle.rules.specs.Problem.{Constraint}
 use Rattle.rules.specs.Lines.{Line, Variable, rational, boolean, union, coefficient, positively, negatively, contains}
 use Rattle.rules.specs.Normalize.{settled, settledLine, reduced, normalLine}
 use Rattle.rules.specs.Resolve.{combination, combinationOf, oneOf, resolvent, resolve}
-use Rattle.vectors.specs.Sign.{zero-yes, yes-zero, isZero-quot}
-use Rattle.vectors.specs.Gcd.{gcdAll-dvd, gcdAll-nonzero, gcd-positiveʳ}
+use Rattle.vectors.specs.Sign.{zero-yes, yes-zero}
 use Rattle.vectors.specs.Dot.{combine-zero}
 use Rattle.vectors.specs.Constraint.{getD-quotients}
 use Rattle.vectors.specs.Combination.{combination-without}
@@ -46,7 +46,7 @@ unfolding contains positively negatively
 contains-boolean i l = refl
 
 -- ---- normalizing brings in none
-abbrev Fewer : Line → Line → Type 0
+abbrev pub Fewer : Line → Line → Type 0
 Fewer l m = (w : Variable) → T (contains w m) → T (contains w l)
 
 having-fewer : (l : Line) (o : Option Constraint) → ((f : ℕ) → T (nonzero (coefficient f o)) → T (nonzero (coefficient f (l .constraint)))) → Fewer l (having l o)
@@ -57,23 +57,24 @@ none-nonzero : (f : ℕ) {X : Type 0} → T (nonzero (coefficient f none)) → X
 unfolding coefficient isZero
 none-nonzero f h = absurd h
 
-reduced-nonzero : (c : Constraint) → T (not (all isZero (c .coefficients))) → (f : ℕ) → T (nonzero (coefficient f (some (reduced c)))) → T (nonzero (coefficient f (some c)))
-unfolding coefficient reduced gcdAll
-reduced-nonzero c n f h =
-    let cs = c .bound ∷ c .coefficients in
-    rw (← isZero-quot (gcdAll cs) (getD (c .coefficients) f (pos 0)) (gcd-positiveʳ (natAbs (c .bound)) (gcdAll (c .coefficients)) (gcdAll-nonzero (c .coefficients) n)) (gcdAll-dvd cs (suc f)))
-    (rw (getD-quotients (gcdAll cs) (c .coefficients) f) at h)
+-- a quotient of 0 is 0
+reduced-nonzero : (c : Constraint) (f : ℕ) → T (nonzero (coefficient f (some (reduced c)))) → T (nonzero (coefficient f (some c)))
+unfolding coefficient reduced
+reduced-nonzero c f h =
+    let g = gcdAll (c .bound ∷ c .coefficients) in
+    let a = getD (c .coefficients) f (pos 0) in
+    not-T (isZero a) (λ z. clash (isZero (quotZ a (pos g))) (yes-zero (rw (zero-yes a z) (quot-zero g))) (rw (getD-quotients g (c .coefficients) f) at h))
 
 settled-fewer : (l : Line) (c : Constraint) → l .constraint ≡ some c → DroppedOr (Fewer l) (settledLine l (settled c))
 unfolding settledLine
 settled-fewer l c e =
     settled-cases (λ s. DroppedOr (Fewer l) (settledLine l s)) c (λ z r. tt) (λ z r. having-fewer l none (λ f h. none-nonzero f h))
-    (λ z. having-fewer l (some (reduced c)) (λ f h. rw e (reduced-nonzero c z f h)))
+    (λ z. having-fewer l (some (reduced c)) (λ f h. rw e (reduced-nonzero c f h)))
 
-pub normal-line-variables : (l : Line) → DroppedOr (λ m. (w : Variable) → T (contains w m) → T (contains w l)) (normalLine l)
+pub normal-line-variables : (l : Line) → DroppedOr (Fewer l) (normalLine l)
 normal-line-variables l = line-ends (DroppedOr (Fewer l)) l (λ h. tt) (λ n e w h. h) (λ n c e. settled-fewer l c e)
 
--- ---- the resolvent before that
+-- ---- a resolvent has its parents' variables, but its own
 combination-nonzero : (f g : ℕ) (u l : Option Constraint) → T (nonzero (coefficient g (combinationOf f u l))) → T (nonzero (coefficient g u)) ⊎ T (nonzero (coefficient g l))
 unfolding combinationOf combination coefficient
 combination-nonzero f g none l h = none-nonzero g h
@@ -123,7 +124,7 @@ unfolding resolvent negatively isZero
 resolvent-without (rational f) u l n = rw (contains-rational f (resolvent (rational f) u l), combination-zero f (u .constraint) (l .constraint) n) tt
 resolvent-without (boolean i) u l n = rw (contains-boolean i (resolvent (boolean i) u l), excluded i (union (u .positive) (l .positive)), excluded i (union (u .negative) (l .negative))) tt
 
--- ---- and after
+-- ---- so after it is normalized
 pub resolve-variables : (v : Variable) (u l : Line) → DroppedOr (λ m. (w : Variable) → T (contains w m) → T (contains w u) ⊎ T (contains w l)) (resolve v u l)
 unfolding resolve
 resolve-variables v u l =

@@ -74,7 +74,7 @@ pub record Pair : Type 0 where
   pub upper : Numbered
   pub lower : Numbered
 
--- the lines that pass a test, partSteps from n on
+-- the lines that pass a test, numbered from n on
 unfoldable pub select : (Line → Bool) → ℕ → List Step → List Numbered
 select test n [] = []
 select test n (s ∷ ss) =
@@ -103,7 +103,7 @@ unfoldable pub loadable : ℕ → ℕ → List Clause → List Step
 loadable c k [] = []
 loadable c k (x ∷ xs) = partSteps c 0 (partsOf k x) ++ loadable (suc c) (k + splitsOf x) xs
 
--- "links, new marks partSteps from b upward in clause order"
+-- "links, new marks numbered from b upward in clause order"
 unfoldable pub loadableOf : Problem → List Step
 loadableOf p = loadable 0 (p .booleans) (p .clauses)
 

@@ -1,97 +1,78 @@
--- A resolvent by a Boolean says enough: where every pair's combination holds, the rule's yes or no makes every line with the Boolean
+-- A resolvent by a Boolean says enough: where the resolvent of every pair holds, the rule's yes or no makes every line with the Boolean
 -- hold, and a line without it does not see it.
-use mathlib.Core.Path.{_≡_, refl}
-use mathlib.Core.Bool.{Bool, true, false, not, _||_, _&&_}
-use mathlib.Core.Logic.{⊎-elim}
+use mathlib.Core.Path.{_≡_, refl, sym}
+use mathlib.Core.Bool.{Bool, true, false, not, _&&_}
+use mathlib.Core.Logic.{_⊎_, inl, inr, ⊎-elim, ⊎-map}
 use mathlib.Core.List.{List}
 use mathlib.Core.Option.{Option, none, some}
 use Prim.Native.Nat.{ℕ}
 use lib.Dec.{T}
-use lib.ListN.{getD}
 use mir.Facts.{and-yes, or-yes, or-no}
+use Rattle.rules.specs.Lists.{put}
 use Rattle.rules.specs.Problem.{Constraint}
-use Rattle.rules.specs.Meaning.{Assignment, constraintHolds}
-use Rattle.rules.specs.Lines.{excluding, someYes, Line, boolean, aLiteralHolds, theConstraintHolds, lineHolds, positively, negatively, contains}
+use Rattle.rules.specs.Meaning.{Assignment}
+use Rattle.rules.specs.Lines.{Booleans, Line, boolean, aLiteralHolds, theConstraintHolds, lineHolds, positively, negatively, contains}
 use Rattle.rules.specs.Resolve.{oneOf, resolvent}
 use Rattle.rules.specs.Values.{withoutBoolean, booleanValue, withBoolean}
-use Rattle.lists.specs.Tests.{of-true, of-false, is-true, is-false, clash, or-r, or-else, or-map, unless}
+use Rattle.lists.specs.Tests.{of-true, of-false, is-false, clash, unless}
 use Rattle.lists.specs.All.{All, all-any, all-map, any-yes, any-no}
-use Rattle.saturation.specs.Booleans.{excluding-union, unions-yes, put-yes, member-yes}
-use Rattle.saturation.specs.Holds.{holds-by, by-literal, by-constraint, neither-holds, PairsHold, ContainersHold}
-
--- ---- a Boolean's literal and the others
-abbrev others⁺ : ℕ → Assignment → Line → Bool
-others⁺ i χ l = someYes (excluding i (l .positive)) (χ .booleans)
-
-abbrev others⁻ : ℕ → Assignment → Line → Bool
-others⁻ i χ l = someYes (excluding i (l .negative)) (λ j. not (χ .booleans j))
-
-with-literals : (i : ℕ) (a : Bool) (χ : Assignment) (l : Line)
-    → aLiteralHolds (withBoolean i a χ) l ≡ (getD (l .positive) i false && a || others⁺ i χ l) || (getD (l .negative) i false && not a || others⁻ i χ l)
-unfolding aLiteralHolds withBoolean
-with-literals i a χ l = rw (put-yes (λ x. x) i a (l .positive) (χ .booleans), put-yes not i a (l .negative) (χ .booleans))
-
-literals-at : (i : ℕ) (χ : Assignment) (l : Line)
-    → aLiteralHolds χ l ≡ (getD (l .positive) i false && χ .booleans i || others⁺ i χ l) || (getD (l .negative) i false && not (χ .booleans i) || others⁻ i χ l)
-unfolding aLiteralHolds
-literals-at i χ l = rw (member-yes i (l .positive) (χ .booleans), member-yes i (l .negative) (λ j. not (χ .booleans j)))
-
-with-constraint : (i : ℕ) (a : Bool) (χ : Assignment) (k : Option Constraint) → theConstraintHolds (withBoolean i a χ) k ≡ theConstraintHolds χ k
-unfolding theConstraintHolds constraintHolds withBoolean
-with-constraint i a χ none = refl
-with-constraint i a χ (some c) = refl
+use Rattle.vectors.specs.Put.{put-same, put-other}
+use Rattle.resolution.specs.Members.{has, Within, excluded, else-yes, member-yes}
+use Rattle.resolution.specs.Holds.{line-cases, by-literal, by-constraint, by-positive, by-negative, literals-map, line-map}
+use Rattle.resolution.specs.Choosing.{Same, line-choosing}
+use Rattle.resolution.specs.Resolution.{resolvent-literals}
+use Rattle.saturation.specs.Rule.{PairsHold, ContainersHold}
 
 -- ---- a line without the Boolean
-pub boolean-keeps : (i : ℕ) (a : Bool) (χ : Assignment) (l : Line) → T (not (contains (boolean i) l)) → lineHolds (withBoolean i a χ) l ≡ lineHolds χ l
-unfolding lineHolds contains positively negatively
-boolean-keeps i a χ l n =
-    let r = or-no (getD (l .positive) i false) (getD (l .negative) i false) n in
-    rw (with-literals i a χ l, literals-at i χ l, with-constraint i a χ (l .constraint), is-false (getD (l .positive) i false) (r .0), is-false (getD (l .negative) i false) (r .1))
+module _ (i : ℕ) (a : Bool) (χ : Assignment) where
+  -- the others keep their values
+  others-same : (s : Booleans) → has s i ≡ false → Within (Same χ (put i a (χ .booleans))) s
+  others-same s e j h = sym (put-other i a (χ .booleans) j (λ q. rw (q, e) at h))
 
--- ---- a line with it
--- what holds without it holds with any value of it
-without-holds : (i : ℕ) (a : Bool) (χ : Assignment) (l : Line) → T (lineHolds χ (withoutBoolean i l)) → T (lineHolds (withBoolean i a χ) l)
-unfolding lineHolds aLiteralHolds withoutBoolean
-without-holds i a χ l h =
-    rw (with-constraint i a χ (l .constraint))
-    (or-map (others⁺ i χ l || others⁻ i χ l) (theConstraintHolds χ (l .constraint)) (aLiteralHolds (withBoolean i a χ) l) (theConstraintHolds χ (l .constraint)) literals (λ k. k) h)
-  where
-    literals : T (others⁺ i χ l || others⁻ i χ l) → T (aLiteralHolds (withBoolean i a χ) l)
-    literals k =
-        rw (with-literals i a χ l)
-        (or-map (others⁺ i χ l) (others⁻ i χ l) (getD (l .positive) i false && a || others⁺ i χ l) (getD (l .negative) i false && not a || others⁻ i χ l)
-        (or-r (getD (l .positive) i false && a) (others⁺ i χ l)) (or-r (getD (l .negative) i false && not a) (others⁻ i χ l)) k)
+  keeps : (l : Line) → has (l .positive) i ≡ false → has (l .negative) i ≡ false → lineHolds (withBoolean i a χ) l ≡ lineHolds χ l
+  unfolding withBoolean
+  keeps l p n = sym (line-choosing χ (put i a (χ .booleans)) l (others-same (l .positive) p) (others-same (l .negative) n))
+
+  pub boolean-keeps : (l : Line) → T (not (contains (boolean i) l)) → lineHolds (withBoolean i a χ) l ≡ lineHolds χ l
+  unfolding contains positively negatively
+  boolean-keeps l n =
+      let r = or-no (has (l .positive) i) (has (l .negative) i) n in
+      keeps l (is-false (has (l .positive) i) (r .0)) (is-false (has (l .negative) i) (r .1))
+
+  -- ---- a line with it: what holds without it holds with any value of it
+  without-holds : (l : Line) → T (lineHolds χ (withoutBoolean i l)) → T (lineHolds (withBoolean i a χ) l)
+  unfolding withoutBoolean
+  without-holds l h =
+      let ψ = withBoolean i a χ in
+      line-map ψ ψ (withoutBoolean i l) l
+      (literals-map ψ ψ (withoutBoolean i l) l (else-yes i (l .positive) (ψ .booleans)) (else-yes i (l .negative) (λ j. not (ψ .booleans j)))) (λ k. k)
+      (rw (keeps (withoutBoolean i l) (excluded i (l .positive)) (excluded i (l .negative))) h)
 
 yes-holds : (i : ℕ) (χ : Assignment) (l : Line) → T (positively (boolean i) l) → T (lineHolds (withBoolean i true χ) l)
-unfolding positively
-yes-holds i χ l h = by-literal (withBoolean i true χ) l (rw (with-literals i true χ l, is-true (getD (l .positive) i false) h) tt)
+unfolding positively withBoolean
+yes-holds i χ l h =
+    let ψ = withBoolean i true χ in
+    by-literal ψ l (by-positive ψ l (member-yes (l .positive) (ψ .booleans) i h (rw (put-same i true (χ .booleans)) tt)))
 
 no-holds : (i : ℕ) (χ : Assignment) (l : Line) → T (negatively (boolean i) l) → T (lineHolds (withBoolean i false χ) l)
-unfolding negatively
+unfolding negatively withBoolean
 no-holds i χ l h =
-    by-literal (withBoolean i false χ) l
-    (rw (with-literals i false χ l, is-true (getD (l .negative) i false) h) (or-r (getD (l .positive) i false && false || others⁺ i χ l) true tt))
+    let ψ = withBoolean i false χ in
+    by-literal ψ l (by-negative ψ l (member-yes (l .negative) (λ j. not (ψ .booleans j)) i h (rw (put-same i false (χ .booleans)) tt)))
 
--- ---- what is resolvent says that one parent holds without it
-resolvent-literals : (i : ℕ) (χ : Assignment) (u l : Line) → aLiteralHolds χ (resolvent (boolean i) u l) ≡ aLiteralHolds χ (withoutBoolean i u) || aLiteralHolds χ (withoutBoolean i l)
-unfolding aLiteralHolds resolvent withoutBoolean
-resolvent-literals i χ u l =
-    rw (excluding-union i (u .positive) (l .positive), excluding-union i (u .negative) (l .negative))
-    (unions-yes (excluding i (u .positive)) (excluding i (l .positive)) (excluding i (u .negative)) (excluding i (l .negative)) (χ .booleans) (λ j. not (χ .booleans j)))
-
-oneOf-holds : (χ : Assignment) (u l : Option Constraint) → T (not (theConstraintHolds χ u)) → T (theConstraintHolds χ (oneOf u l)) → T (theConstraintHolds χ l)
+-- ---- a resolvent says that one parent holds without it
+oneOf-holds : (χ : Assignment) (u l : Option Constraint) → T (theConstraintHolds χ (oneOf u l)) → T (theConstraintHolds χ u) ⊎ T (theConstraintHolds χ l)
 unfolding oneOf
-oneOf-holds χ none l n h = h
-oneOf-holds χ (some u) l n h = clash (theConstraintHolds χ (some u)) h n
+oneOf-holds χ none l h = inr h
+oneOf-holds χ (some u) l h = inl h
 
--- the upper does not hold without it, so the lower does
-lower-holds : (i : ℕ) (χ : Assignment) (u l : Line) → T (lineHolds χ (resolvent (boolean i) u l)) → T (not (lineHolds χ (withoutBoolean i u))) → T (lineHolds χ (withoutBoolean i l))
+one-parent : (i : ℕ) (χ : Assignment) (u l : Line) → T (lineHolds χ (resolvent (boolean i) u l)) → T (lineHolds χ (withoutBoolean i u)) ⊎ T (lineHolds χ (withoutBoolean i l))
 unfolding resolvent withoutBoolean
-lower-holds i χ u l h n =
-    let z = neither-holds χ (withoutBoolean i u) n in
-    ⊎-elim (λ k. by-literal χ (withoutBoolean i l) (or-else (aLiteralHolds χ (withoutBoolean i u)) (aLiteralHolds χ (withoutBoolean i l)) (z .0) (rw (resolvent-literals i χ u l) at k)))
-    (λ k. by-constraint χ (withoutBoolean i l) (oneOf-holds χ (u .constraint) (l .constraint) (z .1) k))
-    (holds-by χ (resolvent (boolean i) u l) h)
+one-parent i χ u l h =
+    let U = withoutBoolean i u in
+    let L = withoutBoolean i l in
+    ⊎-elim (λ k. ⊎-map (by-literal χ U) (by-literal χ L) (or-yes (aLiteralHolds χ U) (aLiteralHolds χ L) (rw (resolvent-literals χ (boolean i) u l) at k)))
+    (λ k. ⊎-map (by-constraint χ U) (by-constraint χ L) (oneOf-holds χ (u .constraint) (l .constraint) k)) (line-cases χ (resolvent (boolean i) u l) h)
 
 -- ---- the rule's yes or no
 needed : ℕ → Assignment → Line → Bool
@@ -103,7 +84,7 @@ value-enough i χ ls true e ps =
     all-any (λ u. All (λ l. T (positively (boolean i) u) → T (negatively (boolean i) l) → T (lineHolds χ (resolvent (boolean i) u l))) ls) (λ u. T (needed i χ u)) ls
     (λ u h t. let r = and-yes (positively (boolean i) u) (not (lineHolds χ (withoutBoolean i u))) t in
     all-map (λ l. T (positively (boolean i) u) → T (negatively (boolean i) l) → T (lineHolds χ (resolvent (boolean i) u l))) (λ l. T (contains (boolean i) l) → T (lineHolds (withBoolean i true χ) l)) ls
-    (λ l f c. ⊎-elim (yes-holds i χ l) (λ k. without-holds i true χ l (lower-holds i χ u l (f (r .0) k) (r .1))) (or-yes (positively (boolean i) l) (negatively (boolean i) l) c)) h)
+    (λ l f c. ⊎-elim (yes-holds i χ l) (λ k. without-holds i true χ l (⊎-elim (λ t. clash (lineHolds χ (withoutBoolean i u)) t (r .1)) (λ t. t) (one-parent i χ u l (f (r .0) k)))) (or-yes (positively (boolean i) l) (negatively (boolean i) l) c)) h)
     ps (any-yes (needed i χ) ls (of-true (booleanValue χ i ls) e))
 value-enough i χ ls false e ps =
     all-map (λ l. T (not (needed i χ l))) (λ l. T (contains (boolean i) l) → T (lineHolds (withBoolean i false χ) l)) ls

@@ -1,8 +1,9 @@
--- A resolvent that is dropped or covered holds where the later rounds' lines hold; so does every pair of a round that is done.
+-- A resolvent that is dropped or covered holds where the later rounds' lines hold; so does that of every pair of a round that is done.
 use mathlib.Core.Path.{_≡_}
-use mathlib.Core.Bool.{Bool}
+use mathlib.Core.Bool.{Bool, not}
+use mathlib.Core.Logic.{_⊎_}
 use mathlib.Core.List.{List}
-use mathlib.Core.Option.{Option, none, some}
+use mathlib.Core.Option.{Option}
 use Prim.Native.Nat.{ℕ, suc, _≤_, _<_}
 use native.Mathlib.Omega.{arith}
 use lib.Dec.{T, eqb}
@@ -10,15 +11,14 @@ use mir.Facts.{not-T, eqb-yes}
 use Rattle.rules.specs.Lists.{filter}
 use Rattle.rules.specs.Meaning.{Assignment}
 use Rattle.rules.specs.Lines.{Line, Variable, lineHolds, positively, negatively, contains}
-use Rattle.rules.specs.Normalize.{normalLine}
 use Rattle.rules.specs.Resolve.{resolvent, resolve}
 use Rattle.rules.specs.Elimination.{roundOf}
 use Rattle.lists.specs.Tests.{clash}
 use Rattle.lists.specs.All.{All, Any, all-any, all-map, filter-all}
-use Rattle.saturation.specs.Holds.{PairsHold}
-use Rattle.saturation.specs.Variables.{resolvent-contains, resolvent-without}
-use Rattle.saturation.specs.Within.{Within, normal-within}
-use Rattle.saturation.specs.Normal.{NormalSame, normal-same}
+use Rattle.lists.specs.Dropped.{DroppedOr, dropped-map, dropped-both}
+use Rattle.resolution.specs.NormalLine.{normal-line-holds}
+use Rattle.resolution.specs.Variables.{resolve-variables, resolve-without}
+use Rattle.saturation.specs.Rule.{PairsHold}
 use Rattle.saturation.specs.Rounds.{At, round-later}
 
 -- j says all that r says, of no other variables
@@ -28,8 +28,7 @@ pub record Covers (j r : Line) : Type 0 where
 
 -- a resolvent: dropped, or covered by a line of S
 abbrev pub Covered : List Line → Option Line → Type 0
-Covered S none = Unit {0}
-Covered S (some r) = Any (λ j. Covers j r) S
+Covered S o = DroppedOr (λ r. Any (λ j. Covers j r) S) o
 
 -- an upper and a lower of round t, whose variable is v: their resolvent is dropped or covered by a line of S
 abbrev pub PairDone : List Line → List Variable → ℕ → Variable → Line → Line → Type 0
@@ -42,34 +41,32 @@ RoundDone S variables t v = All (λ u. All (PairDone S variables t v u) S) S
 abbrev pub HoldFrom : List Variable → ℕ → Assignment → List Line → Type 0
 HoldFrom variables t χ S = All (λ l. t ≤ roundOf variables l → T (lineHolds χ l)) S
 
--- ---- a resolvent belongs to a later round
-abbrev pub DroppedOrLater : List Variable → ℕ → Option Line → Type 0
-DroppedOrLater variables t none = Unit {0}
-DroppedOrLater variables t (some r) = t < roundOf variables r
-
+-- ---- a resolvent belongs to a later round, and so does what covers it
 module _ (variables : List Variable) (t : ℕ) (v : Variable) (a : At variables t v) (u l : Line) (hu : t ≤ roundOf variables u) (hl : t ≤ roundOf variables l) (n : T (negatively v l)) where
-  within-later : (j : Line) → ((w : Variable) → T (contains w j) → T (contains w (resolvent v u l))) → t < roundOf variables j
-  within-later j f =
-      round-later variables t v u l j a hu hl (λ w h. resolvent-contains v w u l (f w h)) (not-T (contains v j) (λ h. clash (contains v (resolvent v u l)) (f v h) (resolvent-without v u l n)))
+  -- of the parents' variables, without the round's
+  abbrev Derived : Line → Type 0
+  Derived r = ((w : Variable) → T (contains w r) → T (contains w u) ⊎ T (contains w l)) × T (not (contains v r))
 
-  pub resolve-later : DroppedOrLater variables t (resolve v u l)
-  unfolding resolve
-  resolve-later = by (normalLine (resolvent v u l)) (normal-within (resolvent v u l))
-    where
-      by : (o : Option Line) → Within (resolvent v u l) o → DroppedOrLater variables t o
-      by none f = tt
-      by (some r) f = within-later r f
+  resolve-derived : DroppedOr Derived (resolve v u l)
+  resolve-derived = dropped-both (λ r. (w : Variable) → T (contains w r) → T (contains w u) ⊎ T (contains w l)) (λ r. T (not (contains v r))) (resolve v u l) (resolve-variables v u l) (resolve-without v u l n)
 
-  -- ---- what covers it is a line of a later round, which holds
+  later : (r : Line) → Derived r → t < roundOf variables r
+  later r d = round-later variables t v u l r a hu hl (d .0) (d .1)
+
+  covers-derived : (j r : Line) → Covers j r → Derived r → Derived j
+  covers-derived j r c d = ((λ w h. d .0 w (c .only w h)), not-T (contains v j) (λ h. clash (contains v r) (c .only v h) (d .1)))
+
+  pub resolve-later : DroppedOr (λ r. t < roundOf variables r) (resolve v u l)
+  resolve-later = dropped-map Derived (λ r. t < roundOf variables r) (resolve v u l) later resolve-derived
+
+  -- a line of a later round, which holds
   covered-holds : (S : List Line) (χ : Assignment) → 1 ≤ χ .denominator → HoldFrom variables (suc t) χ S → Covered S (resolve v u l) → T (lineHolds χ (resolvent v u l))
   unfolding resolve
-  covered-holds S χ z h c = by (normalLine (resolvent v u l)) (normal-within (resolvent v u l)) (normal-same χ z (resolvent v u l)) c
-    where
-      by : (o : Option Line) → Within (resolvent v u l) o → NormalSame χ (resolvent v u l) o → Covered S o → T (lineHolds χ (resolvent v u l))
-      by none f s c = s
-      by (some r) f s c =
-          all-any (λ j. suc t ≤ roundOf variables j → T (lineHolds χ j)) (λ j. Covers j r) S
-          (λ j k q. s .1 (q .gives χ z (k (within-later j (λ w y. f w (q .only w y)))))) h c
+  covered-holds S χ z h c =
+      normal-line-holds χ z (resolvent v u l) .1
+      (dropped-map (λ r. Derived r × Any (λ j. Covers j r) S) (λ r. T (lineHolds χ r)) (resolve v u l)
+      (λ r p. all-any (λ j. suc t ≤ roundOf variables j → T (lineHolds χ j)) (λ j. Covers j r) S (λ j k q. q .gives χ z (k (later j (covers-derived j r q (p .0))))) h (p .1))
+      (dropped-both Derived (λ r. Any (λ j. Covers j r) S) (resolve v u l) resolve-derived c))
 
 pub round-holds : (S : List Line) (variables : List Variable) (t : ℕ) (v : Variable) (χ : Assignment) → 1 ≤ χ .denominator → At variables t v → RoundDone S variables t v → HoldFrom variables (suc t) χ S → PairsHold χ v (filter (λ l. eqb (roundOf variables l) t) S)
 round-holds S variables t v χ z a done h =

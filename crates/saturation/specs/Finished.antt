@@ -2,7 +2,7 @@
 use mathlib.Core.Path.{_≡_, subst}
 use mathlib.Core.Logic.{⊎-elim}
 use mathlib.Core.List.{List, _++_}
-use mathlib.Core.Option.{Option, none, some}
+use mathlib.Core.Option.{Option}
 use Prim.Native.Nat.{ℕ, suc, _≤_, _<_}
 use native.Mathlib.Omega.{arith}
 use lib.Dec.{eqb}
@@ -12,8 +12,10 @@ use Rattle.rules.specs.Lines.{Line, Variable}
 use Rattle.rules.specs.Resolve.{resolve}
 use Rattle.rules.specs.Elimination.{roundOf}
 use Rattle.lists.specs.Tests.{split}
-use Rattle.lists.specs.All.{All, all-map, all-append, any-left, every}
-use Rattle.saturation.specs.Rounds.{At, at-below, at-unique}
+use Rattle.lists.specs.All.{All, Any, all-map, all-append, any-left, every}
+use Rattle.lists.specs.Places.{place-below}
+use Rattle.lists.specs.Dropped.{dropped-map}
+use Rattle.saturation.specs.Rounds.{At, at-unique}
 use Rattle.saturation.specs.Covered.{Covers, Covered, PairDone, RoundDone}
 use Rattle.saturation.specs.Saturation.{AllPairs}
 
@@ -32,12 +34,11 @@ finished-next S variables t v a f done i w h b =
     here e b = rw e (subst (RoundDone S variables t) (at-unique variables t v w a (rw e at b)) done)
 
 pub finished-all : (S : List Line) (variables : List Variable) → Finished S variables (length variables) → AllPairs S variables
-finished-all S variables f t v a = f t v (at-below variables t v a) a
+finished-all S variables f t v a = f t v (place-below (λ w. w ≡ v) variables t a) a
 
 -- ---- more lines
 pub covered-more : (S R : List Line) (o : Option Line) → Covered S o → Covered (S ++ R) o
-covered-more S R none c = tt
-covered-more S R (some r) c = any-left (λ j. Covers j r) S R c
+covered-more S R o c = dropped-map (λ r. Any (λ j. Covers j r) S) (λ r. Any (λ j. Covers j r) (S ++ R)) o (λ r h. any-left (λ j. Covers j r) S R h) c
 
 module _ (variables : List Variable) (t : ℕ) (v : Variable) (S R : List Line) (later : All (λ s. t < roundOf variables s) R) where
   -- a line of a later round is in no pair of round t

@@ -1,27 +1,27 @@
 -- What the premise "contains a variable of the order" is for: "is not empty" does not do, not even for lines of full form. The line
 -- 0 ≤ -1 is not empty, is in no pair, and never holds.
-use mathlib.Core.Path.{_≡_, refl}
+use mathlib.Core.Path.{refl}
 use mathlib.Core.Bool.{false, not}
 use mathlib.Core.Logic.{⊎-elim}
 use mathlib.Core.List.{List, [], _∷_}
 use mathlib.Core.Option.{some}
-use Prim.Native.Nat.{ℕ, zero, suc, _≤_}
+use Prim.Native.Nat.{_≤_}
 use lib.IntN.{pos, negsuc}
 use lib.Dec.{T}
-use lib.ListN.{getD, replicate}
+use lib.ListN.{replicate}
 use Rattle.rules.specs.Lists.{any, all}
 use Rattle.rules.specs.Arithmetic.{related, isPositive, isZero}
 use Rattle.rules.specs.Problem.{Constraint}
-use Rattle.rules.specs.Meaning.{Assignment, constraintHolds}
+use Rattle.rules.specs.Meaning.{Assignment}
 use Rattle.rules.specs.Lines.{noBooleans, someYes, Line, Variable, rational, boolean, aLiteralHolds, theConstraintHolds, lineHolds, coefficient, positively, noConstraint, isEmpty}
+use Rattle.rules.specs.Normalize.{settled}
 use Rattle.rules.specs.Elimination.{order}
 use Rattle.rules.specs.Values.{walk}
-use Rattle.lists.specs.Tests.{clash}
-use Rattle.lists.specs.All.{All}
-use Rattle.saturation.specs.Holds.{holds-by}
-use Rattle.saturation.specs.Normal.{constant-no}
+use Rattle.lists.specs.All.{All, getD-replicate-same}
+use Rattle.resolution.specs.Holds.{line-cases}
+use Rattle.resolution.specs.Settled.{settled-holds}
+use Rattle.resolution.specs.Formed.{Formed}
 use Rattle.saturation.specs.Saturation.{AllPairs, LinesHold}
-use Rattle.saturation.specs.Formed.{Formed}
 
 zeros : Constraint
 zeros = record { strict = false; coefficients = replicate 8 (pos 0); bound = negsuc 0 }
@@ -29,23 +29,18 @@ zeros = record { strict = false; coefficients = replicate 8 (pos 0); bound = neg
 bad : Line
 bad = record { positive = noBooleans; negative = noBooleans; constraint = some zeros }
 
-alone : {A : Type 0} (n i : ℕ) (a : A) → getD (replicate n a) i a ≡ a
-alone zero i a = refl
-alone (suc n) zero a = refl
-alone (suc n) (suc i) a = alone n i a
-
 never-upper : (v : Variable) → T (positively v bad) → ⊥
 unfolding bad zeros noBooleans positively coefficient isPositive
-never-upper (rational f) h = rw (alone 8 f (pos 0)) at h
-never-upper (boolean i) h = rw (alone 32 i false) at h
+never-upper (rational f) h = rw (getD-replicate-same 8 f (pos 0)) at h
+never-upper (boolean i) h = rw (getD-replicate-same 32 i false) at h
 
 never-holds : (χ : Assignment) → 1 ≤ χ .denominator → T (lineHolds χ bad) → ⊥
-unfolding bad zeros noBooleans aLiteralHolds someYes theConstraintHolds all isZero related
-never-holds χ z h = ⊎-elim (λ t. t) (λ t. clash (constraintHolds χ zeros) t (constant-no χ z zeros tt tt)) (holds-by χ bad h)
+unfolding bad zeros noBooleans aLiteralHolds someYes theConstraintHolds settled all isZero related
+never-holds χ z h = ⊎-elim (λ t. t) (settled-holds χ z zeros .0) (line-cases χ bad h)
 
 formed : Formed bad
 unfolding bad zeros noBooleans
-formed = record { positive = refl; negative = refl; coefficients = refl }
+formed = record { positive = refl; negative = refl; constraint = refl }
 
 not-empty : T (not (isEmpty bad))
 unfolding bad isEmpty noConstraint noBooleans any

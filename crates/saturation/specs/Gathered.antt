@@ -1,11 +1,9 @@
 -- The bounds that lines give on a rational: facts of all of them are facts of the lines, and their denominators are positive.
-use mathlib.Core.Bool.{Bool, true, false, not, _&&_}
+use mathlib.Core.Bool.{Bool, not, _&&_}
+use mathlib.Core.Logic.{_⊎_, inl, inr, ⊎-elim}
 use mathlib.Core.List.{List, [], _∷_}
 use mathlib.Core.Option.{Option, none, some}
-use Prim.Native.Nat.{ℕ, _*_, _≤_}
-use native.Mathlib.Nat.{mul-pos}
-use native.Mathlib.Omega.{arith}
-use lib.IntN.{pos, _+ℤ_, _*ℤ_}
+use Prim.Native.Nat.{ℕ, _≤_}
 use lib.Dec.{T}
 use mir.Facts.{and-yes}
 use Rattle.rules.specs.Lists.{filter}
@@ -13,11 +11,12 @@ use Rattle.rules.specs.Arithmetic.{isPositive, isNegative}
 use Rattle.rules.specs.Problem.{Constraint}
 use Rattle.rules.specs.Meaning.{Assignment}
 use Rattle.rules.specs.Lines.{Line, Variable, rational, aLiteralHolds, coefficient, positively, negatively}
-use Rattle.rules.specs.Values.{midpoint, Bound, absent, present, value, boundOf, Gathered, boundsOf, gather, tightest, rationalValue}
+use Rattle.rules.specs.Values.{boundOf, Gathered, boundsOf, gather, tightest, rationalValue}
 use Rattle.lists.specs.All.{All, filter-all, all-filter, every}
 use Rattle.bounds.specs.Below.{Positive}
-use Rattle.bounds.specs.Arithmetic.{reduce-positive, quotient-positive, quotient-negative, plus-one-above, minus-one-below}
-use Rattle.bounds.specs.Tightest.{Each, Sound, tightest-sound}
+use Rattle.bounds.specs.Arithmetic.{quotient-positive, quotient-negative}
+use Rattle.bounds.specs.Tightest.{Sound, tightest-sound}
+use Rattle.bounds.specs.Value.{value-positive}
 use Rattle.bounds.specs.Meets.{rest}
 
 -- what holds of the bound that a constraint gives, if there is one
@@ -57,42 +56,30 @@ module _ (P : Gathered → Type 0) (χ : Assignment) (f : ℕ) where
   all-gather side ls h = all-filter (λ l. OfBound P χ f (l .constraint)) (gives side χ f) ls (all-bounds (filter (gives side χ f) ls) h)
 
 -- ---- positive denominators
-value-sound : (L U : Bound) → Each (λ l s. Positive l) L → Each (λ u t. Positive u) U → Positive (value L U)
-unfolding value midpoint
-value-sound absent absent p q = omega arith
-value-sound absent (present u false) p q = q
-value-sound absent (present u true) p q = minus-one-below u q .left
-value-sound (present l false) U p q = p
-value-sound (present l true) absent p q = plus-one-above l p .right
-value-sound (present l true) (present u false) p q = q
-value-sound (present l true) (present u true) p q =
-    reduce-positive (l .numerator *ℤ pos (u .denominator) +ℤ u .numerator *ℤ pos (l .denominator)) (2 * (l .denominator * u .denominator)) (mul-pos (omega arith) (mul-pos p q))
-
 module _ (χ : Assignment) (z : 1 ≤ χ .denominator) (f : ℕ) (ls : List Line) where
-  upper-sound : (k : Option Constraint) → T (isPositive (coefficient f k)) → OfBound (λ g. Positive (g .at)) χ f k
+  bound-sound : (k : Option Constraint) → T (isPositive (coefficient f k)) ⊎ T (isNegative (coefficient f k)) → OfBound (λ g. Positive (g .at)) χ f k
   unfolding boundOf
-  upper-sound none p = tt
-  upper-sound (some c) p = quotient-positive (rest f (c .coefficients) (c .bound) (χ .numerators) (χ .denominator)) (coefficient f (some c)) (χ .denominator) p z .up .right
+  bound-sound none s = tt
+  bound-sound (some c) s =
+      let n = rest f (c .coefficients) (c .bound) (χ .numerators) (χ .denominator) in
+      let a = coefficient f (some c) in
+      ⊎-elim (λ p. quotient-positive n a (χ .denominator) p z .up .right) (λ p. quotient-negative n a (χ .denominator) p z .up .right) s
 
-  lower-sound : (k : Option Constraint) → T (isNegative (coefficient f k)) → OfBound (λ g. Positive (g .at)) χ f k
-  unfolding boundOf
-  lower-sound none n = tt
-  lower-sound (some c) n = quotient-negative (rest f (c .coefficients) (c .bound) (χ .numerators) (χ .denominator)) (coefficient f (some c)) (χ .denominator) n z .up .right
+  gathered-sound : (side : Variable → Line → Bool) → ((l : Line) → T (side (rational f) l) → T (isPositive (coefficient f (l .constraint))) ⊎ T (isNegative (coefficient f (l .constraint)))) → Sound (gather side χ f ls)
+  gathered-sound side s =
+      gather-all (λ g. Positive (g .at)) χ f side ls
+      (every (λ l. T (gives side χ f l) → OfBound (λ g. Positive (g .at)) χ f (l .constraint)) ls (λ l h. bound-sound (l .constraint) (s l (and-yes (side (rational f) l) (not (aLiteralHolds χ l)) h .0))))
 
   pub uppers-sound : Sound (gather positively χ f ls)
   unfolding positively
-  uppers-sound =
-      gather-all (λ g. Positive (g .at)) χ f positively ls
-      (every (λ l. T (gives positively χ f l) → OfBound (λ g. Positive (g .at)) χ f (l .constraint)) ls (λ l h. upper-sound (l .constraint) (and-yes (isPositive (coefficient f (l .constraint))) (not (aLiteralHolds χ l)) h .0)))
+  uppers-sound = gathered-sound positively (λ l h. inl h)
 
   pub lowers-sound : Sound (gather negatively χ f ls)
   unfolding negatively
-  lowers-sound =
-      gather-all (λ g. Positive (g .at)) χ f negatively ls
-      (every (λ l. T (gives negatively χ f l) → OfBound (λ g. Positive (g .at)) χ f (l .constraint)) ls (λ l h. lower-sound (l .constraint) (and-yes (isNegative (coefficient f (l .constraint))) (not (aLiteralHolds χ l)) h .0)))
+  lowers-sound = gathered-sound negatively (λ l h. inr h)
 
   -- whether or not the bounds agree
   pub rational-sound : Positive (rationalValue χ f ls)
   unfolding rationalValue
   rational-sound =
-      value-sound (tightest _ (gather negatively χ f ls)) (tightest _ (gather positively χ f ls)) (tightest-sound _ (gather negatively χ f ls) lowers-sound) (tightest-sound _ (gather positively χ f ls) uppers-sound)
+      value-positive (tightest _ (gather negatively χ f ls)) (tightest _ (gather positively χ f ls)) (tightest-sound _ (gather negatively χ f ls) lowers-sound) (tightest-sound _ (gather positively χ f ls) uppers-sound)

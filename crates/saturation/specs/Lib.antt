@@ -1,8 +1,4 @@
-pub mod Booleans
-pub mod Holds
-pub mod Variables
-pub mod Within
-pub mod Normal
+pub mod Rule
 pub mod Boolean
 pub mod Gathered
 pub mod Rational

@@ -1,5 +1,5 @@
--- A resolvent by a rational says enough: where every pair's combination holds, the bounds gathered agree, so the rule's value meets them
--- all, and every line with the rational holds. A line without it does not see it.
+-- A resolvent by a rational says enough: where the resolvent of every pair holds, the bounds gathered agree, so the rule's value meets
+-- them all, and every line with the rational holds. A line without it does not see it.
 use mathlib.Core.Path.{_≡_, refl}
 use mathlib.Core.Bool.{not, _||_, or-comm}
 use mathlib.Core.Logic.{⊎-elim}
@@ -9,8 +9,8 @@ use Prim.Native.Nat.{ℕ, _≤_}
 use lib.IntN.{pos}
 use lib.Dec.{T}
 use lib.ListN.{getD}
-use mir.Facts.{and-yes, yes-and, or-yes}
-use Rattle.rules.specs.Arithmetic.{isPositive, isNegative}
+use mir.Facts.{and-yes, yes-and, or-yes, T-not-not}
+use Rattle.rules.specs.Arithmetic.{isPositive, isNegative, isZero}
 use Rattle.rules.specs.Problem.{Constraint}
 use Rattle.rules.specs.Meaning.{Assignment, constraintHolds}
 use Rattle.rules.specs.Lines.{Line, rational, aLiteralHolds, theConstraintHolds, lineHolds, coefficient, positively, negatively, contains}
@@ -18,34 +18,32 @@ use Rattle.rules.specs.Resolve.{combination, combinationOf, resolvent}
 use Rattle.rules.specs.Values.{Fraction, boundOf, gather, rationalValue, withRational}
 use Rattle.lists.specs.Tests.{split, clash, or-else, tests-agree}
 use Rattle.lists.specs.All.{All, all-map, all-both}
+use Rattle.vectors.specs.Sign.{zero-yes}
 use Rattle.vectors.specs.Constraint.{constraint-yes, yes-constraint}
 use Rattle.bounds.specs.Below.{Positive, Below}
 use Rattle.bounds.specs.Value.{Agree, value-meets-lowers, value-meets-uppers}
 use Rattle.bounds.specs.Meets.{bounds-agree, with-keeps, with-upper, with-lower}
-use Rattle.saturation.specs.Booleans.{unions-yes}
-use Rattle.saturation.specs.Holds.{holds-by, by-literal, by-constraint, PairsHold, ContainersHold}
-use Rattle.saturation.specs.Variables.{signed, unsigned-zero}
+use Rattle.resolution.specs.Holds.{line-cases, by-literal, by-constraint}
+use Rattle.resolution.specs.Resolution.{resolvent-literals}
+use Rattle.resolution.specs.Variables.{nonzero, contains-rational}
+use Rattle.saturation.specs.Rule.{PairsHold, ContainersHold}
 use Rattle.saturation.specs.Gathered.{OfBound, gives, gather-all, all-gather, lowers-sound, uppers-sound, rational-sound}
-
--- ---- the literals of what is resolvent
-resolvent-literals : (f : ℕ) (χ : Assignment) (u l : Line) → aLiteralHolds χ (resolvent (rational f) u l) ≡ aLiteralHolds χ u || aLiteralHolds χ l
-unfolding aLiteralHolds resolvent
-resolvent-literals f χ u l = unions-yes (u .positive) (l .positive) (u .negative) (l .negative) (χ .booleans) (λ j. not (χ .booleans j))
 
 module _ (f : ℕ) (χ : Assignment) (z : 1 ≤ χ .denominator) where
   -- ---- a line without the rational
   module _ (q : Fraction) (p : Positive q) where
-    constraint-keeps : (k : Option Constraint) → T (not (signed (coefficient f k))) → theConstraintHolds (withRational f q χ) k ≡ theConstraintHolds χ k
+    constraint-keeps : (k : Option Constraint) → T (not (nonzero (coefficient f k))) → theConstraintHolds (withRational f q χ) k ≡ theConstraintHolds χ k
     unfolding theConstraintHolds coefficient
     constraint-keeps none n = refl
     constraint-keeps (some c) n =
-        let r = with-keeps f q χ z p {s = c .strict} (c .coefficients) (c .bound) (unsigned-zero (getD (c .coefficients) f (pos 0)) n) in
+        let a = getD (c .coefficients) f (pos 0) in
+        let r = with-keeps f q χ z p {s = c .strict} (c .coefficients) (c .bound) (zero-yes a (T-not-not (isZero a) n)) in
         tests-agree (constraintHolds (withRational f q χ) c) (constraintHolds χ c)
         (λ h. yes-constraint χ c (r .0 (constraint-yes (withRational f q χ) c h))) (λ h. yes-constraint (withRational f q χ) c (r .1 (constraint-yes χ c h)))
 
     pub rational-keeps : (l : Line) → T (not (contains (rational f) l)) → lineHolds (withRational f q χ) l ≡ lineHolds χ l
-    unfolding lineHolds aLiteralHolds contains positively negatively withRational
-    rational-keeps l n = rw (constraint-keeps (l .constraint) n)
+    unfolding lineHolds aLiteralHolds withRational
+    rational-keeps l n = rw (constraint-keeps (l .constraint) (rw (contains-rational f l) at n))
 
     -- ---- a line with it: a value that meets its bound makes it hold
     upper-holds : (k : Option Constraint) → T (isPositive (coefficient f k)) → OfBound (λ g. Below (g .strict) q (g .at)) χ f k → T (theConstraintHolds (withRational f q χ) k)
@@ -90,8 +88,8 @@ module _ (f : ℕ) (χ : Assignment) (z : 1 ≤ χ .denominator) where
   lines-agree u l gu gl h =
       let p = and-yes (isPositive (coefficient f (u .constraint))) (not (aLiteralHolds χ u)) gu in
       let n = and-yes (isNegative (coefficient f (l .constraint))) (not (aLiteralHolds χ l)) gl in
-      ⊎-elim (λ t. clash (aLiteralHolds χ l) (or-else (aLiteralHolds χ u) (aLiteralHolds χ l) (p .1) (rw (resolvent-literals f χ u l) at t)) (n .1))
-      (λ t. constraints-agree (u .constraint) (l .constraint) (p .0) (n .0) t) (holds-by χ (resolvent (rational f) u l) (h (p .0) (n .0)))
+      ⊎-elim (λ t. clash (aLiteralHolds χ l) (or-else (aLiteralHolds χ u) (aLiteralHolds χ l) (p .1) (rw (resolvent-literals χ (rational f) u l) at t)) (n .1))
+      (λ t. constraints-agree (u .constraint) (l .constraint) (p .0) (n .0) t) (line-cases χ (resolvent (rational f) u l) (h (p .0) (n .0)))
 
   module _ (ls : List Line) (ps : PairsHold χ (rational f) ls) where
     lowers-agree : (k : Option Constraint) → All (λ l. T (gives negatively χ f l) → Agrees k (l .constraint)) ls → OfBound (λ g. All (λ h. Below (h .strict || g .strict) (h .at) (g .at)) (gather negatively χ f ls)) χ f k

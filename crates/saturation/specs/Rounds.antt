@@ -1,6 +1,6 @@
 -- A line's round is the place of the first variable that it contains; what has only variables of two lines, without the variable of
 -- their round, belongs to a later one.
-use mathlib.Core.Path.{_≡_, sym, subst}
+use mathlib.Core.Path.{_≡_, sym, _∙_, subst}
 use mathlib.Core.Bool.{not}
 use mathlib.Core.Logic.{_⊎_, ⊎-elim}
 use mathlib.Core.List.{List, [], _∷_}
@@ -12,23 +12,15 @@ use mir.Facts.{not-T}
 use Rattle.rules.specs.Lists.{any}
 use Rattle.rules.specs.Lines.{Line, Variable, contains}
 use Rattle.rules.specs.Elimination.{roundOf}
+use Rattle.lists.specs.Places.{AtPlace, place-both}
 use Rattle.lists.specs.Tests.{split, is-true, is-false, clash, or-else}
 
 -- ---- variable v at place t
 abbrev pub At : List Variable → ℕ → Variable → Type 0
-At [] t v = ⊥
-At (w ∷ ws) zero v = w ≡ v
-At (w ∷ ws) (suc t) v = At ws t v
-
-pub at-below : (vs : List Variable) (t : ℕ) (v : Variable) → At vs t v → t < length vs
-at-below [] t v a = absurd a
-at-below (w ∷ ws) zero v a = omega arith
-at-below (w ∷ ws) (suc t) v a = let h = at-below ws t v a in omega arith
+At vs t v = AtPlace (λ w. w ≡ v) vs t
 
 pub at-unique : (vs : List Variable) (t : ℕ) (v w : Variable) → At vs t v → At vs t w → v ≡ w
-at-unique [] t v w a b = absurd a
-at-unique (z ∷ vs) zero v w a b = cc
-at-unique (z ∷ vs) (suc t) v w a b = at-unique vs t v w a b
+at-unique vs t v w a b = place-both (λ z. z ≡ v) (λ z. z ≡ w) vs t (λ z e f. sym e ∙ f) a b
 
 no-variable {ℓ} : {X : Type ℓ} {v : Variable} {vs : List Variable} → [] ≡ v ∷ vs → X
 no-variable e = absurd (let z : _≡_ {A = ℕ} 0 1 = cc in omega arith)

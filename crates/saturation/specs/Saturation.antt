@@ -1,7 +1,8 @@
 -- Saturation: where every pair is dropped or covered, the walk backwards makes every line hold. By induction from the end of the order:
--- the lines of later rounds hold already, hence so does every pair of this round, and the rule makes this round's lines hold.
+-- the lines of later rounds hold already, hence so does the resolvent of every pair of this round, and the rule makes this round's
+-- lines hold.
 use mathlib.Core.Path.{_≡_, refl, sym, subst}
-use mathlib.Core.Bool.{Bool, not}
+use mathlib.Core.Bool.{Bool}
 use mathlib.Core.Logic.{⊎-elim}
 use mathlib.Core.List.{List, [], _∷_}
 use Prim.Native.Nat.{ℕ, suc, _≤_}
@@ -16,16 +17,10 @@ use Rattle.rules.specs.Elimination.{roundOf}
 use Rattle.rules.specs.Values.{assign, start, walkFrom, walk}
 use Rattle.lists.specs.Tests.{split}
 use Rattle.lists.specs.All.{All, all-map, all-both, all-filter}
-use Rattle.saturation.specs.Holds.{PairsHold, ContainersHold}
-use Rattle.saturation.specs.Assign.{assign-denominator, assign-keeps, assign-enough}
+use Rattle.saturation.specs.Rule.{Rule}
+use Rattle.saturation.specs.Assign.{assign-rule}
 use Rattle.saturation.specs.Rounds.{At, drop-at, drop-next, drop-none, round-below, round-contains, round-before}
 use Rattle.saturation.specs.Covered.{RoundDone, HoldFrom, round-holds}
-
--- ---- a rule for one variable more
-pub record Rule (next : Variable → List Line → Assignment → Assignment) : Type 0 where
-  pub denominator : (v : Variable) (ls : List Line) (χ : Assignment) → 1 ≤ χ .denominator → 1 ≤ next v ls χ .denominator
-  pub keeps : (v : Variable) (ls : List Line) (χ : Assignment) → 1 ≤ χ .denominator → (l : Line) → T (not (contains v l)) → lineHolds (next v ls χ) l ≡ lineHolds χ l
-  pub enough : (v : Variable) (ls : List Line) (χ : Assignment) → 1 ≤ χ .denominator → PairsHold χ v ls → ContainersHold (next v ls χ) v ls
 
 -- every line contains a variable of the order, so that it has a round
 abbrev pub HaveRounds : List Line → List Variable → Type 0
@@ -79,9 +74,6 @@ module _ (next : Variable → List Line → Assignment → Assignment) (rule : R
         }
 
 -- ---- 01's rule and walk
-pub assign-rule : Rule assign
-assign-rule = record { denominator = assign-denominator; keeps = assign-keeps; enough = assign-enough }
-
 walk-is : (variables : List Variable) (S : List Line) (t : ℕ) (vs : List Variable) → walkFrom variables S t vs .assignment ≡ walkBy assign variables S t vs
 unfolding walkFrom walkBy
 walk-is variables S t [] = refl

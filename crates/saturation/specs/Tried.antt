@@ -1,5 +1,5 @@
 -- The pairs that a round tries are all of its pairs: where each of them is dropped or covered, every upper and lower of the round is.
-use mathlib.Core.Bool.{Bool, true, false, _&&_}
+use mathlib.Core.Bool.{Bool, _&&_}
 use mathlib.Core.Logic.{⊎-elim}
 use mathlib.Core.List.{List, [], _∷_, map}
 use Prim.Native.Nat.{ℕ, suc}
@@ -10,7 +10,7 @@ use Rattle.rules.specs.Resolve.{resolve}
 use Rattle.rules.specs.Steps.{Step}
 use Rattle.rules.specs.Elimination.{roundOf, Numbered, Pair, select, pairUp, sideOf}
 use Rattle.lists.specs.Tests.{split, clash}
-use Rattle.lists.specs.All.{All, all-map, append-all, every, mapped-all}
+use Rattle.lists.specs.All.{All, all-map, append-all, one-kept, every, mapped-all}
 use Rattle.saturation.specs.Covered.{Covered, PairDone}
 
 pairs-all : (P : Pair → Type 0) (us ls : List Numbered) → All P (pairUp us ls) → All (λ u. All (λ l. P (record { upper = u; lower = l })) ls) us
@@ -23,11 +23,9 @@ pairs-all P (u ∷ us) ls h =
 select-all : (P : Line → Type 0) (test : Line → Bool) (n : ℕ) (steps : List Step) → All (λ x. P (x .line)) (select test n steps) → All (λ l. T (test l) → P l) (map (λ s. s .line) steps)
 unfolding select
 select-all P test n [] h = tt
-select-all P test n (s ∷ ss) h = let r = by (test (s .line)) h in (r .0, select-all P test (suc n) ss (r .1))
-  where
-    by : (b : Bool) → All {A = Numbered} (λ x. P (x .line)) (elim b [ true ↦ record { number = n; line = s .line } ∷ select test (suc n) ss | false ↦ select test (suc n) ss ]) → (T b → P (s .line)) × All (λ x. P (x .line)) (select test (suc n) ss)
-    by true h = (λ t. h .0, h .1)
-    by false h = (λ t. absurd t, h)
+select-all P test n (s ∷ ss) h =
+    let r = one-kept (λ x. P (x .line)) (record { number = n; line = s .line }) (select test (suc n) ss) (test (s .line)) h in
+    (r .0, select-all P test (suc n) ss (r .1))
 
 pub pairs-tried : (variables : List Variable) (t : ℕ) (v : Variable) (C : List Line) (steps : List Step)
     → All (λ p. Covered C (resolve v (p .upper .line) (p .lower .line))) (pairUp (sideOf positively variables v t steps) (sideOf negatively variables v t steps))

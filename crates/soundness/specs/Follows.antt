@@ -1,4 +1,4 @@
--- What the check takes for a line of a proof statedLine: a claim true of the loadable lines, and of every resolvent of lines of which it
+-- What the check takes for a line of a proof follows: a claim true of the loadable lines, and of every resolvent of lines of which it
 -- is true, is true of every line that the check accepts.
 use mathlib.Core.Path.{_≡_, refl}
 use mathlib.Core.Bool.{Bool, true, false, cond, _&&_}

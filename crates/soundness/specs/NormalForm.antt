@@ -12,16 +12,12 @@ use Rattle.lists.specs.All.{All}
 use Rattle.rules.specs.Problem.{Literal, Constraint, Clause}
 use Rattle.rules.specs.Lines.{Booleans, noBooleans, including, meet}
 use Rattle.rules.specs.Normalize.{membersOf, Settled, always, never, kept, settled, Normal, settledAll, normalClause}
-use Rattle.resolution.specs.Members.{has, including-has, none-has}
+use Rattle.resolution.specs.Members.{Within, including-has, none-has}
 use Rattle.lists.specs.Dropped.{DroppedOr, dropped-then}
 use Rattle.resolution.specs.Settled.{settled-cases}
 use Rattle.resolution.specs.Formed.{Eight, length-reduced}
 use Rattle.resolution.specs.Proper.{Proper, reduced-proper}
 use Rattle.soundness.specs.NormalClause.{normalOf, meets, clause-ends, length-members}
-
--- every member is so
-abbrev pub Within : (ℕ → Type 0) → Booleans → Type 0
-Within P s = (i : ℕ) → T (has s i) → P i
 
 pub within-none : (P : ℕ → Type 0) → Within P noBooleans
 within-none P i h = absurd (none-has i h)

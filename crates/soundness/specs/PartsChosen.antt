@@ -20,7 +20,8 @@ use Rattle.rules.specs.Normalize.{Normal}
 use Rattle.rules.specs.Split.{chain, parts}
 use Rattle.vectors.specs.Put.{put-same, put-other}
 use Rattle.resolution.specs.Members.{length-none, yes-including}
-use Rattle.soundness.specs.Choosing.{choosing, line-choosing, constraints-choosing}
+use Rattle.resolution.specs.Choosing.{choosing, line-choosing}
+use Rattle.soundness.specs.Choosing.{constraints-choosing}
 use Rattle.soundness.specs.NormalClause.{normalHolds}
 use Rattle.soundness.specs.NormalForm.{NormalForm, Below, below-none, below-link}
 use Rattle.soundness.specs.Pieces.{piece, whole, normal-cases, by-literals, by-constraints, piece-cases, piece-literal, piece-constraint}
@@ -61,7 +62,7 @@ module _ (χ : Assignment) (k : ℕ) (p n : Booleans) (c : Constraint) where
       let D = any (constraintHolds χ) ds in
       let fails : T (not without) = of-false without e in
       by-constraints (next false) noBooleans (including k noBooleans) ds
-      (constraints-choosing χ (put k true (χ .booleans)) ds
+      (rw (← constraints-choosing χ (put k true (χ .booleans)) ds)
       (⊎-elim (λ t. clash without (piece-literal χ p n (some c) t) fails)
       (λ t. ⊎-elim (λ y. clash without (piece-constraint χ p n (some c) y) fails) (λ y. y) (or-yes C D t)) (normal-cases χ p n (c ∷ ds) h)))
 
@@ -72,7 +73,7 @@ module _ (χ : Assignment) (k : ℕ) (p n : Booleans) (c : Constraint) where
       let ψ = choosing g χ in
       let P = someYes p g in
       let N = someYes n (λ i. not (g i)) in
-      let h = line-choosing χ g (piece p n (some c)) (λ i m. a i (wp i m)) (λ i m. a i (wn i m)) (of-true without e) in
+      let h = subst T (line-choosing χ g (piece p n (some c)) (λ i m. a i (wp i m)) (λ i m. a i (wn i m))) (of-true without e) in
       ⊎-elim (λ t. piece-literal ψ (including k p) n (some c) (or-map P N (someYes (including k p) g) N (others k p g z) (λ y. y) t))
       (piece-constraint ψ (including k p) n (some c)) (piece-cases ψ p n (some c) h)
   this-holds g false e v a z wp wn =

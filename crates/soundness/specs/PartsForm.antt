@@ -14,11 +14,11 @@ use Rattle.rules.specs.Problem.{Constraint}
 use Rattle.rules.specs.Lines.{Booleans, Line, noBooleans, including, meet}
 use Rattle.rules.specs.Normalize.{Normal}
 use Rattle.rules.specs.Split.{chain, parts}
-use Rattle.resolution.specs.Members.{Common, none-has, including-has, length-none, length-including, meet-member, member-meet}
+use Rattle.resolution.specs.Members.{Within, Common, none-has, including-has, length-none, length-including, meet-member, member-meet}
 use Rattle.resolution.specs.Holds.{Consistent}
 use Rattle.resolution.specs.Formed.{Formed}
 use Rattle.resolution.specs.Proper.{Proper}
-use Rattle.soundness.specs.NormalForm.{Kept, Within, Below, below-link, within-none, within-including, NormalForm}
+use Rattle.soundness.specs.NormalForm.{Kept, Below, below-link, within-none, within-including, NormalForm}
 use Rattle.soundness.specs.Pieces.{whole}
 
 -- a line whose Boolean variables are so

@@ -13,7 +13,7 @@ use Rattle.types.specs.declared.answers.Refusal.{Refusal}
 use Rattle.types.specs.declared.answers.Refusal.the-variants as refusal
 use Rattle.types.specs.Limits as limit
 use Rattle.lists.specs.Tests.{split, is-true, is-false}
-use Rattle.lists.specs.All.{All, all-append}
+use Rattle.lists.specs.All.{All, all-append, getD-replicate-same}
 use Rattle.rules.specs.Bytes.{fromUnsigned}
 use Rattle.rules.specs.Problem.{Clause, Problem, Read, fault, got, inRange, amount, literal, constraint, clause, end, problem}
 use Rattle.rules.specs.Split.{splitsOf, overSplit}
@@ -38,13 +38,8 @@ zeros-small : (n : ℕ) → All Small (replicate n (pos 0))
 zeros-small zero = tt
 zeros-small (suc n) = (omega arith, zeros-small n)
 
-getD-zeros : (n i : ℕ) → getD (replicate n (pos 0)) i (pos 0) ≡ pos 0
-getD-zeros zero i = refl
-getD-zeros (suc n) zero = refl
-getD-zeros (suc n) (suc i) = getD-zeros n i
-
 getD-padded : (cs : List ℤ) (n i : ℕ) → length cs ≤ i → getD (cs ++ replicate n (pos 0)) i (pos 0) ≡ pos 0
-getD-padded [] n i h = getD-zeros n i
+getD-padded [] n i h = getD-replicate-same n i (pos 0)
 getD-padded (c ∷ cs) n zero h = absurd (omega arith)
 getD-padded (c ∷ cs) n (suc i) h = getD-padded cs n i (omega arith)
 

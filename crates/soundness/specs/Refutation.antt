@@ -24,7 +24,7 @@ use Rattle.resolution.specs.Holds.{Consistent, empty-fails}
 use Rattle.resolution.specs.Resolution.{Resolvable, resolve-holds}
 use Rattle.resolution.specs.Formed.{resolve-consistent}
 use Rattle.soundness.specs.WellFormed.{WellFormed}
-use Rattle.soundness.specs.Choosing.{choosing}
+use Rattle.resolution.specs.Choosing.{choosing}
 use Rattle.soundness.specs.PartsForm.{LineForm}
 use Rattle.soundness.specs.SplitProblem.{loadable-formed, splitting-keeps}
 use Rattle.soundness.specs.Follows.{Closed, stated-so}

@@ -1,6 +1,6 @@
 -- Splitting keeps the question: an assignment satisfies a problem exactly if some values of the splitting variables make every loadable
 -- line hold.
-use mathlib.Core.Path.{_≡_, sym, _∙_}
+use mathlib.Core.Path.{_≡_, sym, _∙_, subst}
 use mathlib.Core.Bool.{Bool}
 use mathlib.Core.Logic.{_↔_}
 use mathlib.Core.List.{List, [], _∷_}
@@ -15,7 +15,8 @@ use Rattle.rules.specs.Split.{partsOf, splitsOf}
 use Rattle.rules.specs.Steps.{Step}
 use Rattle.rules.specs.Elimination.{partSteps, loadable, loadableOf}
 use Rattle.soundness.specs.WellFormed.{WellFormedClause, splitsIn, WellFormed}
-use Rattle.soundness.specs.Choosing.{choosing, line-choosing, clause-choosing}
+use Rattle.resolution.specs.Choosing.{choosing, line-choosing}
+use Rattle.soundness.specs.Choosing.{clause-choosing}
 use Rattle.soundness.specs.PartsChosen.{Chosen, chosen-same}
 use Rattle.soundness.specs.PartsForm.{LineForm}
 use Rattle.soundness.specs.SplitClause.{AllHold, clause-chosen, clause-given, clause-form}
@@ -51,13 +52,13 @@ module _ (b r : ℕ) where
     clauses-keep : (xs : List Clause) → All (WellFormedClause b r) xs → b ≤ k → All (λ x. T (clauseHolds χ x)) xs → All (λ x. T (clauseHolds (choosing g χ) x)) xs
     clauses-keep xs w z h =
         all-map (λ x. WellFormedClause b r x × T (clauseHolds χ x)) (λ x. T (clauseHolds (choosing g χ) x)) xs
-        (λ x t. clause-choosing χ g x (all-map (λ l. l .boolean < b) (λ l. χ .booleans (l .boolean) ≡ g (l .boolean)) (x .literals) (λ l m. a (l .boolean) (omega arith)) (t .0 .literals)) (t .1))
+        (λ x t. subst T (clause-choosing χ g x (all-map (λ l. l .boolean < b) (λ l. χ .booleans (l .boolean) ≡ g (l .boolean)) (x .literals) (λ l m. a (l .boolean) (omega arith)) (t .0 .literals))) (t .1))
         (all-both (WellFormedClause b r) (λ x. T (clauseHolds χ x)) xs w h)
 
     lines-keep : (ls : List Line) → All (LineForm (λ i. i < k)) ls → AllHold χ ls → AllHold (choosing g χ) ls
     lines-keep ls f h =
         all-map (λ l. LineForm (λ i. i < k) l × T (lineHolds χ l)) (λ l. T (lineHolds (choosing g χ) l)) ls
-        (λ l t. line-choosing χ g l (λ i m. a i (t .0 .positive i m)) (λ i m. a i (t .0 .negative i m)) (t .1)) (all-both (LineForm (λ i. i < k)) (λ l. T (lineHolds χ l)) ls f h)
+        (λ l t. subst T (line-choosing χ g l (λ i m. a i (t .0 .positive i m)) (λ i m. a i (t .0 .negative i m))) (t .1)) (all-both (LineForm (λ i. i < k)) (λ l. T (lineHolds χ l)) ls f h)
 
   loadable-chosen : (χ : Assignment) → 0 < χ .denominator → (c k : ℕ) (xs : List Clause) → All (WellFormedClause b r) xs → b ≤ k → k + splitsIn xs ≤ 32 → All (λ x. T (clauseHolds χ x)) xs
       → Chosen χ k (k + splitsIn xs) (λ ψ. StepsHold ψ (loadable c k xs))

@@ -46,7 +46,7 @@ module _ (i : ℕ) (us : List ℤ) (β : ℤ) (ls : List ℤ) (γ : ℤ) where
   pub combination-holds : {s t : Bool} (x : ℕ → ℤ) (d : ℤ) → T (isPositive a) → T (isNegative (getD ls i (pos 0))) → Holds s us β x d → Holds t ls γ x d → Holds (s || t) (combine c us a ls) (c *ℤ β +ℤ a *ℤ γ) x d
   combination-holds x d p n h k = combine-holds c us β a ls γ x d (pos-mono-< (0<abs-negative (getD ls i (pos 0)) n)) (positive-yes a p) h k
 
-  -- where the resolvent holds, the lower bound (γ × d - the other terms) / -c agrees with the upper one (β × d - the other terms) / a:
+  -- where the combination holds, the lower bound (γ × d - the other terms) / -c agrees with the upper one (β × d - the other terms) / a:
   -- the terms of i cancel, and the rest is the two numerators' comparison, crossed
   pub combination-agrees : {s : Bool} (x : ℕ → ℤ) (d : ℤ) → T (isNegative (getD ls i (pos 0))) → Holds s (combine c us a ls) (c *ℤ β +ℤ a *ℤ γ) x d
       → Rel s (a *ℤ negℤ (γ *ℤ d -ℤ sum (set ls i (pos 0)) x)) (c *ℤ (β *ℤ d -ℤ sum (set us i (pos 0)) x))

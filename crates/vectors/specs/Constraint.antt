@@ -17,7 +17,7 @@ use Rattle.rules.specs.Lists.{all, put}
 use Rattle.rules.specs.Arithmetic.{gcdAll, sum, scale, isZero}
 use Rattle.rules.specs.Problem.{Constraint}
 use Rattle.rules.specs.Meaning.{Assignment, constraintHolds}
-use Rattle.vectors.specs.Gcd.{gcdAll-dvd, gcdAll-nonzero, gcd-positiveʳ}
+use Rattle.vectors.specs.Gcd.{gcdAll-dvd, gcdAll-proper}
 use Rattle.vectors.specs.Dot.{sum-scale, sum-zero, sum-put, sum-without, sum-*}
 use Rattle.vectors.specs.Relation.{Rel, related-yes, yes-related, rel-*ˡ, rel-*ʳ, rel-*-cancelˡ, rel-*-cancelʳ, rel-minus, minus-rel}
 
@@ -72,8 +72,7 @@ divide-holds {s} g cs β x d z b h =
 
 -- by the greatest one of bound and coefficients
 pub reduce-holds : {s : Bool} (cs : List ℤ) (β : ℤ) (x : ℕ → ℤ) (d : ℤ) → T (not (all isZero cs)) → Holds s cs β x d ↔ Holds s (quotients (gcdAll (β ∷ cs)) cs) (quotZ β (pos (gcdAll (β ∷ cs)))) x d
-unfolding gcdAll
-reduce-holds cs β x d n = divide-holds (gcdAll (β ∷ cs)) cs β x d (gcd-positiveʳ (natAbs β) (gcdAll cs) (gcdAll-nonzero cs n)) (gcdAll-dvd (β ∷ cs) 0) (λ i. gcdAll-dvd (β ∷ cs) (suc i))
+reduce-holds cs β x d n = divide-holds (gcdAll (β ∷ cs)) cs β x d (gcdAll-proper β cs n) (gcdAll-dvd (β ∷ cs) 0) (λ i. gcdAll-dvd (β ∷ cs) (suc i))
 
 -- ---- variable i gets the value y / (d × k), and the others keep theirs over the new denominator
 sides : (S k β d : ℤ) → (β *ℤ d -ℤ S) *ℤ k ≡ β *ℤ (d *ℤ k) -ℤ S *ℤ k

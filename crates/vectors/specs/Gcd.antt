@@ -1,7 +1,7 @@
 -- The greatest common divisor: it divides both numbers, and every common divisor divides it. So it is of several integers.
 use mathlib.Core.Path.{_≡_, refl, sym, _∙_}
-use mathlib.Core.Bool.{Bool, true, false, not, _&&_}
-use mathlib.Core.Logic.{_⊎_, inl, inr, ⊎-elim}
+use mathlib.Core.Bool.{not}
+use mathlib.Core.Logic.{⊎-elim}
 use mathlib.Core.List.{List, [], _∷_}
 use Prim.Native.Nat.{ℕ, zero, suc, _*_, _/_, _%_, _≤_, _<_, _∣_}
 use native.Mathlib.Nat.{mod-lt, dvd-refl, dvd-zero, dvd-trans, dvd-mod-iff, dvd-antisymm, dvd-mul-left, dvd-mul-right, mul-dvd-mul-left, dvd-of-mul-dvd-mul-left, mul-div-cancel', pos-of-dvd-of-pos, eq-of-mul-eq-mul-left, mul-one}
@@ -9,6 +9,7 @@ use native.Mathlib.Omega.{arith}
 use lib.IntN.{ℤ, pos, natAbs}
 use lib.Dec.{T}
 use lib.ListN.{getD}
+use mir.Facts.{and-no}
 use Rattle.rules.specs.Lists.{all}
 use Rattle.rules.specs.Arithmetic.{gcdWithin, gcd, gcdAll, isZero}
 use Rattle.vectors.specs.Sign.{0<abs-nonzero}
@@ -122,12 +123,13 @@ gcdAll-greatest d (z ∷ zs) h = gcd-greatest d (h 0) (gcdAll-greatest d zs (λ 
 pub gcdAll-positive : (zs : List ℤ) (i : ℕ) → 0 < natAbs (getD zs i (pos 0)) → 0 < gcdAll zs
 gcdAll-positive zs i h = pos-of-dvd-of-pos (gcdAll-dvd zs i) h
 
-and-no : (a b : Bool) → T (not (a && b)) → T (not a) ⊎ T (not b)
-and-no true b h = inr h
-and-no false b h = inl tt
-
 pub gcdAll-nonzero : (zs : List ℤ) → T (not (all isZero zs)) → 0 < gcdAll zs
 unfolding all gcdAll
 gcdAll-nonzero [] h = absurd h
 gcdAll-nonzero (z ∷ zs) h =
     ⊎-elim (λ k. gcd-positiveˡ (natAbs z) (gcdAll zs) (0<abs-nonzero z k)) (λ k. gcd-positiveʳ (natAbs z) (gcdAll zs) (gcdAll-nonzero zs k)) (and-no (isZero z) (all isZero zs) h)
+
+-- of a bound and coefficients
+pub gcdAll-proper : (β : ℤ) (cs : List ℤ) → T (not (all isZero cs)) → 0 < gcdAll (β ∷ cs)
+unfolding gcdAll
+gcdAll-proper β cs n = gcd-positiveʳ (natAbs β) (gcdAll cs) (gcdAll-nonzero cs n)

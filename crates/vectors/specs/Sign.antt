@@ -1,6 +1,6 @@
 -- The tests of an integer's sign, and of equality, decide what they say.
 use mathlib.Core.Path.{_≡_, refl, sym, ap, _∙_, subst}
-use mathlib.Core.Bool.{Bool, true, false, not}
+use mathlib.Core.Bool.{not}
 use mathlib.Core.Logic.{_⊎_, inl, inr}
 use Prim.Native.Nat.{ℕ, zero, suc, _<_, _∣_}
 use native.Mathlib.Omega.{arith}
@@ -11,6 +11,7 @@ use Rattle.integers.specs.Natural.{0<pos-suc, negsuc<0, pos-mono-<, pos-cancel-
 use Rattle.integers.specs.Product.{*-positive, *-monoˡ-<}
 use Rattle.integers.specs.Ring.{*-zeroʳ}
 use Rattle.integers.specs.Quotient.{*-quot, quot-zero, quot-positive, quot-negative}
+use Rattle.lists.specs.Tests.{tests-agree}
 use Rattle.rules.specs.Arithmetic.{isPositive, isNegative, isZero, equal}
 
 -- ---- positive
@@ -71,6 +72,13 @@ nonzero-sign (pos zero) h = absurd h
 nonzero-sign (pos (suc n)) h = inl tt
 nonzero-sign (negsuc n) h = inr tt
 
+-- and not two of them
+pub one-sign : (z : ℤ) → T (isPositive z) → T (isNegative z) → ⊥
+unfolding isPositive isNegative
+one-sign (pos zero) h k = h
+one-sign (pos (suc n)) h k = k
+one-sign (negsuc n) h k = h
+
 -- the size is positive exactly for what is not zero
 pub 0<abs-positive : (z : ℤ) → T (isPositive z) → 0 < natAbs z
 unfolding isPositive
@@ -112,12 +120,6 @@ pub yes-equal : {a b : ℤ} → a ≡ b → T (equal a b)
 yes-equal {a} e = subst (λ (c : ℤ). T (equal a c)) e (equal-refl a)
 
 -- ---- an exact quotient has its dividend's sign
-tests-agree : (a b : Bool) → (T a → T b) → (T b → T a) → a ≡ b
-tests-agree true true f g = refl
-tests-agree true false f g = absurd (f tt)
-tests-agree false true f g = absurd (g tt)
-tests-agree false false f g = refl
-
 module _ (g : ℕ) (z : ℤ) (p : 0 < g) (d : g ∣ natAbs z) where
   abbrev q : ℤ
   q = quotZ z (pos g)
