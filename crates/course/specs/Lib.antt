@@ -16,3 +16,5 @@ pub mod Saturated
 pub mod Origins
 pub mod Ends
 pub mod Loaded
+pub mod Sound
+pub mod Pairable

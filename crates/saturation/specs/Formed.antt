@@ -24,10 +24,10 @@ use Rattle.resolution.specs.Proper.{Proper, ProperLine}
 use Rattle.saturation.specs.Saturation.{AllPairs, LinesHold, saturation}
 
 -- ---- a place below n with the property
-record Place (P : ℕ → Bool) (n : ℕ) : Type 0 where
-  at : ℕ
-  below : at < n
-  holds : T (P at)
+pub record Place (P : ℕ → Bool) (n : ℕ) : Type 0 where
+  pub at : ℕ
+  pub below : at < n
+  pub holds : T (P at)
 
 next : {P : ℕ → Bool} {n : ℕ} → Place (λ i. P (suc i)) n → Place P (suc n)
 next p = record { at = suc (p .at); below = omega (arith, p .below); holds = p .holds }
@@ -56,7 +56,7 @@ by-boolean l i b h = in-order l (inr (any-tabulate (λ v. T (contains v l)) 32 b
 by-rational : (l : Line) (i : ℕ) → i < 8 → T (nonzero (coefficient i (l .constraint))) → T (any (λ v. contains v l) order)
 by-rational l i b h = in-order l (inl (any-tabulate (λ v. T (contains v l)) 8 rational i b (rw (contains-rational i l) h)))
 
-constraint-place : (k : Option Constraint) → Eight k → Proper k → T (not (noConstraint k)) → Place (λ i. nonzero (coefficient i k)) 8
+pub constraint-place : (k : Option Constraint) → Eight k → Proper k → T (not (noConstraint k)) → Place (λ i. nonzero (coefficient i k)) 8
 unfolding noConstraint coefficient
 constraint-place none e n h = absurd h
 constraint-place (some c) e n h = let p = nonzero-place (c .coefficients) n in record { at = p .at; below = omega (arith, p .below); holds = p .holds }
