@@ -1,0 +1,64 @@
+-- A course with an empty line refutes its question: every line holds wherever the question is satisfied, and the empty one nowhere.
+use mathlib.Core.Path.{_≡_, subst}
+use mathlib.Core.Logic.{inl, inr}
+use mathlib.Core.List.{List, [], _∷_, _++_}
+use Prim.Native.Nat.{ℕ, _<_}
+use lib.Dec.{T}
+use Rattle.rules.specs.Problem.{Problem}
+use Rattle.rules.specs.Meaning.{Assignment, Satisfies}
+use Rattle.rules.specs.Lines.{Line, lineHolds}
+use Rattle.rules.specs.Steps.{Step}
+use Rattle.rules.specs.Elimination.{Stops, order, loadableOf, course}
+use Rattle.rules.specs.Needs.{stepsOf}
+use Rattle.lists.specs.Tests.{clash}
+use Rattle.lists.specs.All.{All, all-any, all-both, all-append, append-all}
+use Rattle.lists.specs.Dropped.{dropped-is}
+use Rattle.lists.specs.Places.{all-place}
+use Rattle.resolution.specs.Holds.{empty-fails}
+use Rattle.resolution.specs.Resolution.{resolve-holds}
+use Rattle.soundness.specs.WellFormed.{WellFormed}
+use Rattle.resolution.specs.Choosing.{choosing}
+use Rattle.soundness.specs.SplitProblem.{splitting-keeps}
+use Rattle.course.specs.Pairs.{LineAt}
+use Rattle.course.specs.Origins.{Each, Derived, Justified, course-origins}
+use Rattle.course.specs.Ends.{LastEmpty}
+use Rattle.course.specs.Sound.{Sound, resolve-sound, loadable-sound}
+use Rattle.course.specs.Pairable.{resolvable}
+
+module _ (χ : Assignment) (d : 0 < χ .denominator) where
+  -- holds, and has the form of the course's lines
+  abbrev Right : Line → Type 0
+  Right l = T (lineHolds χ l) × Sound l
+
+  at : (earlier : List Step) (i : ℕ) (l : Line) → All (λ x. Right (x .line)) earlier → LineAt earlier i l → Right l
+  at earlier i l h a = all-place (λ x. Right (x .line)) (λ s. s .line ≡ l) earlier i (λ s r e. subst Right e r) h a
+
+  derived-right : (earlier : List Step) (s : Step) → All (λ x. Right (x .line)) earlier → Derived order earlier s → Right (s .line)
+  derived-right earlier s h k =
+      let u = at earlier (k .first) (k .upper) h (k .atFirst) in
+      let l = at earlier (k .second) (k .lower) h (k .atSecond) in (
+        dropped-is (λ m. T (lineHolds χ m)) (k .result)
+            (resolve-holds χ d (k .variable) (k .upper) (k .lower) (resolvable (k .variable) (k .round) (k .upper) (k .lower) (u .1) (l .1) (k .place) (k .ofUpper) (k .ofLower)) (k .positive) (k .negative) (u .0) (l .0)),
+        resolve-sound (k .variable) (k .upper) (k .lower) (s .line) (u .1) (l .1) (k .positive) (k .negative) (k .result),
+      )
+
+  justified-right : (parts earlier : List Step) (s : Step) → All (λ x. Right (x .line)) parts → All (λ x. Right (x .line)) earlier → Justified order parts earlier s → Right (s .line)
+  justified-right parts earlier s p h (inl k) = all-any (λ x. Right (x .line)) (λ x. x ≡ s) parts (λ x r e. subst (λ (y : Step). Right (y .line)) e r) p k
+  justified-right parts earlier s p h (inr k) = derived-right earlier s h k
+
+  each-right : (parts earlier ss : List Step) → All (λ x. Right (x .line)) parts → All (λ x. Right (x .line)) earlier → Each (Justified order parts) earlier ss → All (λ x. Right (x .line)) ss
+  each-right parts earlier [] p h k = tt
+  each-right parts earlier (s ∷ ss) p h k =
+      let r = justified-right parts earlier s p h (k .0) in
+      (r, each-right parts (earlier ++ (s ∷ [])) ss p (all-append (λ x. Right (x .line)) earlier (s ∷ []) h (r, tt)) (k .1))
+
+-- ---- the theorem, under any stops
+pub empty-refutes : (stops : Stops) (p : Problem) → WellFormed p → LastEmpty (stepsOf (course stops p)) → (χ : Assignment) → Satisfies χ p → ⊥
+unfolding course
+empty-refutes stops p w e χ s =
+    let c = splitting-keeps p w χ (s .denominator) .0 s in
+    let ψ = choosing (c .values) χ in
+    let parts = all-both (λ x. T (lineHolds ψ (x .line))) (λ x. Sound (x .line)) (loadableOf p) (c .holds) (loadable-sound p w) in
+    let all = each-right ψ (s .denominator) (loadableOf p) [] (stepsOf (course stops p)) parts tt (course-origins order (loadableOf p) stops) in
+    let last = append-all (λ x. Right ψ (s .denominator) (x .line)) (e .before) (e .last ∷ []) (subst (All (λ x. Right ψ (s .denominator) (x .line))) (e .is) all) .1 .0 in
+    clash (lineHolds ψ (e .last .line)) (last .0) (empty-fails ψ (e .last .line) (e .blank))

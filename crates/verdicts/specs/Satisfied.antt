@@ -1,0 +1,55 @@
+-- A course that runs to its end without an empty line: the walk's choice satisfies the question.
+use mathlib.Core.Path.{_≡_, subst}
+use mathlib.Core.Bool.{not}
+use mathlib.Core.List.{List}
+use Prim.Native.Nat.{ℕ}
+use lib.Dec.{T}
+use Rattle.rules.specs.Problem.{Problem}
+use Rattle.rules.specs.Meaning.{Assignment, Satisfies}
+use Rattle.rules.specs.Lines.{lineHolds, isEmpty}
+use Rattle.rules.specs.Steps.{Step}
+use Rattle.rules.specs.Elimination.{Stops, State, running, order, loadableOf, eliminate}
+use Rattle.rules.specs.Needs.{stepsOf}
+use Rattle.rules.specs.Values.{walk}
+use Rattle.lists.specs.All.{All, all-map, all-any, all-mapped, mapped-all}
+use Rattle.resolution.specs.Formed.{Formed}
+use Rattle.resolution.specs.Proper.{ProperLine}
+use Rattle.soundness.specs.WellFormed.{WellFormed}
+use Rattle.soundness.specs.PartsChosen.{chosen-same}
+use Rattle.soundness.specs.SplitProblem.{StepsHold, splitting-keeps}
+use Rattle.saturation.specs.Covered.{Covers}
+use Rattle.saturation.specs.Saturation.{LinesHold}
+use Rattle.saturation.specs.Formed.{saturation-formed}
+use Rattle.course.specs.Sound.{Sound, course-sound}
+use Rattle.course.specs.Ends.{EndsRight, course-ends}
+use Rattle.course.specs.Loaded.{Held, HeldAll, course-loaded}
+use Rattle.course.specs.Saturated.{lines, SaturatedTo, course-saturated}
+
+-- the choice of the walk over these lines
+abbrev pub chosen : List Step → Assignment
+chosen steps = walk order (lines steps) .assignment
+
+module _ (p : Problem) (w : WellFormed p) (stops : Stops) (steps : List Step) (n : ℕ) (e : eliminate stops order (loadableOf p) ≡ running steps n) where
+  -- every line of the book holds
+  book-holds : LinesHold (chosen steps) (lines steps)
+  unfolding stepsOf
+  book-holds =
+      let s = subst (λ (state : State). All (λ x. Sound (x .line)) (stepsOf state)) e (course-sound p w stops order) in
+      saturation-formed (lines steps)
+      (all-mapped Formed (λ x. x .line) steps (all-map (λ x. Sound (x .line)) (λ x. Formed (x .line)) steps (λ x h. h .formed) s))
+      (all-mapped ProperLine (λ x. x .line) steps (all-map (λ x. Sound (x .line)) (λ x. ProperLine (x .line)) steps (λ x h. h .proper) s))
+      (all-mapped (λ l. T (not (isEmpty l))) (λ x. x .line) steps (subst EndsRight e (course-ends stops order (loadableOf p))))
+      (subst (SaturatedTo order) e (course-saturated stops order (loadableOf p)))
+
+  -- so does every piece, which one of them covers
+  pieces-hold : StepsHold (chosen steps) (loadableOf p)
+  pieces-hold =
+      let b = book-holds in
+      all-map (λ x. Held steps (x .line)) (λ x. T (lineHolds (chosen steps) (x .line))) (loadableOf p)
+      (λ x h. all-any (λ s. T (lineHolds (chosen steps) (s .line))) (λ s. Covers (s .line) (x .line)) steps (λ s t c. c .gives (chosen steps) (b .denominator) t) (mapped-all (λ l. T (lineHolds (chosen steps) l)) (λ s. s .line) steps (b .lines)) h)
+      (subst (HeldAll (loadableOf p)) e (course-loaded stops order (loadableOf p)))
+
+  pub walk-satisfies : Satisfies (chosen steps) p
+  walk-satisfies =
+      splitting-keeps p w (chosen steps) (book-holds .denominator) .1
+      (chosen-same (chosen steps) (p .booleans) _ (λ ψ. StepsHold ψ (loadableOf p)) pieces-hold)
