@@ -1,0 +1,1 @@
+// Laws of the encodings: specs/. There is no code here.

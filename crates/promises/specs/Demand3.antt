@@ -1,0 +1,75 @@
+-- Demand 3, sentence by sentence, about the definition of solving: for every question Q read without fault, full-size buffers
+-- whatever they hold, and every limit N of lines up to 65,536. Document 01's limit is 1,024, and N × N / 4 is then 262,144.
+use mathlib.Core.Path.{_≡_, sym, subst}
+use mathlib.Core.Logic.{_↔_}
+use mathlib.Core.List.{List, _++_}
+use mathlib.Core.Option.{none}
+use Prim.Native.Nat.{ℕ, _*_, _-_, _/_, _≤_}
+use native.Mathlib.Omega.{arith}
+use lib.ListN.{length, replicate, take, drop}
+use Rattle.types.specs.declared.answers.Verdict.{Verdict}
+use Rattle.types.specs.declared.answers.Verdict.the-variants.{Satisfiable, Unsatisfiable, Unwritten}
+use Rattle.types.specs.declared.answers.Checked.the-variants.{Accepted}
+use Rattle.types.specs.declared.limits.Limits.{Limits}
+use Rattle.types.specs.Limits as limit
+use Rattle.types.specs.Answers.{answerValue}
+use Rattle.rules.specs.Problem.{Problem}
+use Rattle.rules.specs.Steps.{encodeProof}
+use Rattle.rules.specs.Elimination.{limited, unlimited, order, loadableOf, course}
+use Rattle.rules.specs.Needs.{stepsOf, pairsOf, Fits}
+use Rattle.rules.specs.Calls.{sound, read, Solving, solve, proofChecked}
+use Rattle.course.specs.Events.{events}
+use Rattle.course.specs.Cut.{cut}
+use Rattle.verdicts.specs.Decided.{NoChoice}
+use Rattle.soundness.specs.Reading.{read-well-formed}
+use Rattle.soundness.specs.ProofChecked.{proof-checked-refutes}
+use Rattle.promises.specs.Words.{SomeChoice, sheetOf, GivesSheet, OurSheet, Comes, WideOrFull, FullSize}
+use Rattle.promises.specs.Outcomes.{cannot-exactly, agrees-exactly, unwritten-exactly, otherwise}
+use Rattle.promises.specs.Reported.{solve-is, course-cut, reported-lines, reported-pairs, at-most, book-holds}
+use Rattle.promises.specs.Evidence.{our-sheet, our-book}
+
+pub record Demand3 (limits : Limits) (input : List ℕ) (p : Problem) (book sheet : List ℕ) (ours : Solving) : Type 0 where
+  -- "Suppose Q's course, to its first empty line or its end, needs at most 1,024 lines and no amount in a tidied result beyond
+  -- 1,000,000,000 in size. Then "cannot agree" comes exactly when no choice of marks and rational figures satisfies Q."
+  pub cannot : Fits limits p → Comes Unsatisfiable (ours .solved .answer) ↔ NoChoice p
+  -- ""Agrees" comes exactly when one does and 01's value rule gives a sheet; ours is that sheet, and the choice on it satisfies Q."
+  pub agrees : Fits limits p → Comes Satisfiable (ours .solved .answer) ↔ (SomeChoice p × GivesSheet p)
+  pub sheetIs : Comes Satisfiable (ours .solved .answer) → OurSheet p ours sheet
+  -- ""Unwritten" comes exactly when one does and the rule says so."
+  pub unwritten : Fits limits p → Comes Unwritten (ours .solved .answer) ↔ (SomeChoice p × (sheetOf p ≡ none))
+  -- "Otherwise, and only otherwise, "wide" or "full" comes, whichever the course meets first."
+  pub otherwise : WideOrFull (ours .solved .answer) ↔ (Fits limits p → ⊥)
+  pub first : course (limited limits) p ≡ cut (limited limits) (events order (loadableOf p)) (course unlimited p)
+  -- "In every case the lines and pairs reported are those the course holds and tries, the pairs at most 262,144,"
+  pub lines : answerValue (ours .solved .answer) ≡ length (stepsOf (course (limited limits) p))
+  pub pairs : ours .solved .pairs ≡ pairsOf (course (limited limits) p)
+  pub atMost : ours .solved .pairs ≤ limits .steps * limits .steps / 4
+  -- "and after a verdict the book holds just those lines as 01 writes them."
+  pub holds : (v : Verdict) → Comes v (ours .solved .answer)
+      → ours .proof ≡ encodeProof (stepsOf (course (limited limits) p)) ++ replicate (limit.proofBytes limits - limit.stepBytes * length (stepsOf (course (limited limits) p))) 0 ++ drop (limit.proofBytes limits) book
+  -- "And whenever the check accepts a book for Q, as it does the used lines of ours after "cannot agree", no choice satisfies Q,
+  -- whoever wrote the book."
+  pub refutes : (other : List ℕ) → proofChecked limits input other ≡ Accepted → NoChoice p
+  pub accepted : Comes Unsatisfiable (ours .solved .answer) → proofChecked limits input (take (limit.stepBytes * answerValue (ours .solved .answer)) (ours .proof)) ≡ Accepted
+
+pub demand3 : (limits : Limits) → limits .steps ≤ 65536 → (input : List ℕ) (p : Problem) → read input ≡ sound p → (book sheet : List ℕ) → FullSize limits book sheet → Demand3 limits input p book sheet (solve limits input book sheet)
+demand3 limits few input p e book sheet full =
+    subst (Demand3 limits input p book sheet) (sym (solve-is limits input p e book sheet full))
+    (record {
+      cannot = cannot-exactly limits p (read-well-formed input p e);
+      agrees = agrees-exactly limits p (read-well-formed input p e);
+      sheetIs = our-sheet limits input p e book sheet;
+      unwritten = unwritten-exactly limits p (read-well-formed input p e);
+      otherwise = otherwise limits p (read-well-formed input p e);
+      first = course-cut limits p;
+      lines = reported-lines p (course (limited limits) p);
+      pairs = reported-pairs p (course (limited limits) p);
+      atMost = at-most limits p (read-well-formed input p e);
+      holds = book-holds limits p book (course (limited limits) p);
+      refutes = λ other a. proof-checked-refutes limits input other a p e;
+      accepted = our-book limits input p e few book;
+    })
+
+-- with document 01's limit
+pub pairs-262144 : (input : List ℕ) (p : Problem) → read input ≡ sound p → (book sheet : List ℕ) → FullSize limit.standard book sheet → solve limit.standard input book sheet .solved .pairs ≤ 262144
+pairs-262144 input p e book sheet full = demand3 limit.standard (omega arith) input p e book sheet full .atMost

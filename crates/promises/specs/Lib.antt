@@ -1,0 +1,12 @@
+pub mod Words
+pub mod Outcomes
+pub mod Reported
+pub mod Evidence
+pub mod Course
+pub mod Checked
+pub mod Memory
+pub mod Left
+pub mod Demand1
+pub mod Demand3
+pub mod HandedBack
+pub mod Demand2

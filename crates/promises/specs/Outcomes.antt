@@ -1,0 +1,144 @@
+-- What solving comes to for a question read without fault, by the state in which its course ends.
+use mathlib.Core.Path.{_≡_, refl, sym, ap, _∙_, subst}
+use mathlib.Core.Logic.{_↔_, inl, inr, ⊎-elim}
+use mathlib.Core.List.{List, map}
+use mathlib.Core.Option.{Option, none, some}
+use Prim.Native.Nat.{ℕ}
+use native.Mathlib.Omega.{arith}
+use lib.Dec.{ltb}
+use lib.ListN.{length}
+use mir.Facts.{no-ltb}
+use Rattle.types.specs.declared.answers.Answer.{Answer}
+use Rattle.types.specs.declared.answers.Verdict.the-variants.{Satisfiable, Unsatisfiable, Unwritten}
+use Rattle.types.specs.declared.limits.Limits.{Limits}
+use Rattle.types.specs.Limits as limit
+use Rattle.rules.specs.Problem.{Problem}
+use Rattle.rules.specs.Steps.{Step}
+use Rattle.rules.specs.Elimination.{limited, State, running, ended, empty, overflow, outOfSteps, order, course}
+use Rattle.rules.specs.Needs.{stepsOf, Fits}
+use Rattle.rules.specs.Values.{walk}
+use Rattle.rules.specs.Model.{written}
+use Rattle.rules.specs.Calls.{sound, Outcome, decided, read, noModel, concluded, outcome, lent, said}
+use Rattle.lists.specs.Tests.{is-false}
+use Rattle.soundness.specs.WellFormed.{WellFormed}
+use Rattle.course.specs.Limits.{Stopped, fits-same, fits-or-stopped, fits-unstopped}
+use Rattle.verdicts.specs.Satisfied.{chosen}
+use Rattle.verdicts.specs.Decided.{NoChoice, running-satisfies, empty-none}
+use Rattle.promises.specs.Words.{SomeChoice, sheetOf, GivesSheet, Comes, WideOrFull, FullSize}
+
+-- ---- the call reaches the course
+pub lent-is : (limits : Limits) (input proof model : List ℕ) (p : Problem) → read input ≡ sound p → FullSize limits proof model → lent limits input proof model ≡ concluded p (course (limited limits) p)
+unfolding lent outcome
+lent-is limits input proof model p e full =
+    rw (is-false (ltb (length proof) (limit.proofBytes limits)) (no-ltb {a = length proof} {b = limit.proofBytes limits} (full .book)), lent, is-false (ltb (length model) limit.modelBytes) (no-ltb {a = length model} {b = limit.modelBytes} (full .sheet)), e, outcome)
+
+-- ---- where the course runs to its end, by the sheet of its walk
+abbrev pub finished : List Step → ℕ → Option (List ℕ) → Outcome
+finished steps n none = decided Unwritten steps n noModel
+finished steps n (some bytes) = decided Satisfiable steps n bytes
+
+abbrev pub walkSheet : Problem → List Step → Option (List ℕ)
+walkSheet p steps = written (p .booleans) (p .rationals) (walk order (map (λ s. s .line) steps))
+
+pub concluded-running : (p : Problem) (steps : List Step) (n : ℕ) → concluded p (running steps n) ≡ finished steps n (walkSheet p steps)
+unfolding concluded
+concluded-running p steps n = by (walkSheet p steps)
+  where
+    by : (o : Option (List ℕ)) → elim o [ none ↦ decided Unwritten steps n noModel | some bytes ↦ decided Satisfiable steps n bytes ] ≡ finished steps n o
+    by none = refl
+    by (some bytes) = refl
+
+abbrev pub answerOf : Outcome → Answer
+answerOf o = said o .answer
+
+pub finished-unsatisfiable : (steps : List Step) (n : ℕ) (o : Option (List ℕ)) → Comes Unsatisfiable (answerOf (finished steps n o)) → ⊥
+unfolding said
+finished-unsatisfiable steps n none h = let z : _≡_ {A = ℕ} 0 1 = cc in omega arith
+finished-unsatisfiable steps n (some bytes) h = let z : _≡_ {A = ℕ} 0 1 = cc in omega arith
+
+pub finished-satisfiable : (steps : List Step) (n : ℕ) (o : Option (List ℕ)) → Comes Satisfiable (answerOf (finished steps n o)) ↔ ((bytes : List ℕ) × (o ≡ some bytes))
+unfolding said
+finished-satisfiable steps n none = (λ h. absurd (let z : _≡_ {A = ℕ} 0 1 = cc in omega arith), λ h. let e = h .1 in absurd (let z : _≡_ {A = ℕ} 0 1 = cc in omega arith))
+finished-satisfiable steps n (some bytes) = (λ h. (bytes, refl), λ h. refl)
+
+finished-unwritten : (steps : List Step) (n : ℕ) (o : Option (List ℕ)) → Comes Unwritten (answerOf (finished steps n o)) ↔ (o ≡ none)
+unfolding said
+finished-unwritten steps n none = (λ h. refl, λ h. refl)
+finished-unwritten steps n (some bytes) = (λ h. absurd (let z : _≡_ {A = ℕ} 0 1 = cc in omega arith), λ e. absurd (let z : _≡_ {A = ℕ} 0 1 = cc in omega arith))
+
+pub finished-not-stopped : (steps : List Step) (n : ℕ) (o : Option (List ℕ)) → WideOrFull (answerOf (finished steps n o)) → ⊥
+unfolding said
+finished-not-stopped steps n none (inl h) = h
+finished-not-stopped steps n none (inr h) = h
+finished-not-stopped steps n (some bytes) (inl h) = h
+finished-not-stopped steps n (some bytes) (inr h) = h
+
+-- a course that runs to its end fits the limits
+pub unstopped-fits : (limits : Limits) (p : Problem) (steps : List Step) (n : ℕ) → course (limited limits) p ≡ running steps n → Fits limits p
+unstopped-fits limits p steps n e = ⊎-elim (λ f. f) (λ h. absurd (subst Stopped e h)) (fits-or-stopped limits p)
+
+-- ---- the answer, by the state in which the limited course ends
+module _ (limits : Limits) (p : Problem) (w : WellFormed p) where
+  abbrev answer : State → Answer
+  answer s = answerOf (concluded p s)
+
+  -- where it fits, its lines are those of the course without limits
+  pub sheet-is : (steps : List Step) (n : ℕ) → course (limited limits) p ≡ running steps n → Fits limits p → sheetOf p ≡ walkSheet p steps
+  unfolding sheetOf stepsOf
+  sheet-is steps n e f = ap (λ (s : State). walkSheet p (stepsOf s)) (sym (fits-same limits p f) ∙ e)
+
+  cannot-by : (s : State) → course (limited limits) p ≡ s → Fits limits p → Comes Unsatisfiable (answer s) ↔ NoChoice p
+  unfolding concluded said
+  cannot-by (running steps n) e f =
+      (λ h. absurd (finished-unsatisfiable steps n (walkSheet p steps) (rw (concluded-running p steps n) at h)), λ h. absurd (h (chosen steps) (running-satisfies p w (limited limits) steps n e)))
+  cannot-by (ended empty steps n) e f = (λ h. empty-none p w (limited limits) steps n e, λ h. refl)
+  cannot-by (ended overflow steps n) e f = absurd (fits-unstopped limits p f (rw e tt))
+  cannot-by (ended outOfSteps steps n) e f = absurd (fits-unstopped limits p f (rw e tt))
+
+  agrees-by : (s : State) → course (limited limits) p ≡ s → Fits limits p → Comes Satisfiable (answer s) ↔ (SomeChoice p × GivesSheet p)
+  unfolding concluded said
+  agrees-by (running steps n) e f =
+      let r = finished-satisfiable steps n (walkSheet p steps) in
+      let q = sheet-is steps n e f in (
+        λ h. ((chosen steps, running-satisfies p w (limited limits) steps n e), (let k = r .0 (rw (concluded-running p steps n) at h) in (k .0, q ∙ k .1))),
+        λ h. rw (concluded-running p steps n) (r .1 (h .1 .0, sym q ∙ h .1 .1)),
+      )
+  agrees-by (ended empty steps n) e f =
+      (λ h. absurd (let z : _≡_ {A = ℕ} 0 1 = cc in omega arith), λ h. absurd (empty-none p w (limited limits) steps n e (h .0 .0) (h .0 .1)))
+  agrees-by (ended overflow steps n) e f = absurd (fits-unstopped limits p f (rw e tt))
+  agrees-by (ended outOfSteps steps n) e f = absurd (fits-unstopped limits p f (rw e tt))
+
+  unwritten-by : (s : State) → course (limited limits) p ≡ s → Fits limits p → Comes Unwritten (answer s) ↔ (SomeChoice p × (sheetOf p ≡ none))
+  unfolding concluded said
+  unwritten-by (running steps n) e f =
+      let r = finished-unwritten steps n (walkSheet p steps) in
+      let q = sheet-is steps n e f in (
+        λ h. ((chosen steps, running-satisfies p w (limited limits) steps n e), q ∙ r .0 (rw (concluded-running p steps n) at h)),
+        λ h. rw (concluded-running p steps n) (r .1 (sym q ∙ h .1)),
+      )
+  unwritten-by (ended empty steps n) e f =
+      (λ h. absurd (let z : _≡_ {A = ℕ} 0 1 = cc in omega arith), λ h. absurd (empty-none p w (limited limits) steps n e (h .0 .0) (h .0 .1)))
+  unwritten-by (ended overflow steps n) e f = absurd (fits-unstopped limits p f (rw e tt))
+  unwritten-by (ended outOfSteps steps n) e f = absurd (fits-unstopped limits p f (rw e tt))
+
+  -- ---- otherwise, and only otherwise
+  stopped-by : (s : State) → WideOrFull (answer s) ↔ Stopped s
+  unfolding concluded said
+  stopped-by (running steps n) = (λ h. absurd (finished-not-stopped steps n (walkSheet p steps) (rw (concluded-running p steps n) at h)), λ h. absurd h)
+  stopped-by (ended empty steps n) = (⊎-elim (λ h. absurd h) (λ h. absurd h), λ h. absurd h)
+  stopped-by (ended overflow steps n) = (λ h. tt, λ h. inl refl)
+  stopped-by (ended outOfSteps steps n) = (λ h. tt, λ h. inr refl)
+
+  pub otherwise : WideOrFull (answer (course (limited limits) p)) ↔ (Fits limits p → ⊥)
+  otherwise =
+      let r = stopped-by (course (limited limits) p) in
+      (λ h f. fits-unstopped limits p f (r .0 h), λ n. ⊎-elim (λ f. absurd (n f)) (r .1) (fits-or-stopped limits p))
+
+  pub cannot-exactly : Fits limits p → Comes Unsatisfiable (answer (course (limited limits) p)) ↔ NoChoice p
+  cannot-exactly = cannot-by (course (limited limits) p) refl
+
+  pub agrees-exactly : Fits limits p → Comes Satisfiable (answer (course (limited limits) p)) ↔ (SomeChoice p × GivesSheet p)
+  agrees-exactly = agrees-by (course (limited limits) p) refl
+
+  pub unwritten-exactly : Fits limits p → Comes Unwritten (answer (course (limited limits) p)) ↔ (SomeChoice p × (sheetOf p ≡ none))
+  unwritten-exactly = unwritten-by (course (limited limits) p) refl

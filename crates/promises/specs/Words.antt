@@ -1,0 +1,78 @@
+-- The words of the demands, for their statements.
+use mathlib.Core.Path.{_≡_}
+use mathlib.Core.Logic.{_⊎_}
+use mathlib.Core.Bool.{Bool, false}
+use mathlib.Core.List.{List, [], _∷_, _++_, map}
+use mathlib.Core.Option.{Option, some}
+use Prim.Native.Nat.{ℕ, zero, suc, _≤_}
+use lib.Dec.{T}
+use lib.ListN.{length, take, drop}
+use Rattle.types.specs.declared.answers.Refusal.{Refusal}
+use Rattle.types.specs.declared.answers.Refusal.the-variants as refusal
+use Rattle.types.specs.declared.answers.Verdict.{Verdict}
+use Rattle.types.specs.declared.answers.Answer.{Answer}
+use Rattle.types.specs.declared.answers.Answer.the-variants.{Decided, Refused}
+use Rattle.types.specs.declared.limits.Limits.{Limits}
+use Rattle.types.specs.Limits as limit
+use Rattle.rules.specs.Problem.{Problem, got}
+use Rattle.rules.specs.Meaning.{Assignment, Satisfies}
+use Rattle.rules.specs.Lines.{Line, isEmpty}
+use Rattle.rules.specs.Steps.{Step}
+use Rattle.rules.specs.Checker.{statedLine}
+use Rattle.rules.specs.Elimination.{unlimited, order, course}
+use Rattle.rules.specs.Needs.{stepsOf}
+use Rattle.rules.specs.Values.{walk}
+use Rattle.rules.specs.Model.{written, model}
+use Rattle.rules.specs.Calls.{Solving}
+
+-- "one does", for: some choice satisfies Q
+abbrev pub SomeChoice : Problem → Type 0
+SomeChoice p = (χ : Assignment) × Satisfies χ p
+
+-- what 01's value rule gives for Q: a sheet, or none where it says "unwritten"
+unfoldable pub sheetOf : Problem → Option (List ℕ)
+sheetOf p = written (p .booleans) (p .rationals) (walk order (map (λ s. s .line) (stepsOf (course unlimited p))))
+
+-- "gives a sheet"
+abbrev pub GivesSheet : Problem → Type 0
+GivesSheet p = (bytes : List ℕ) × (sheetOf p ≡ some bytes)
+
+-- a verdict "comes"; a refusal does
+abbrev pub Comes : Verdict → Answer → Type 0
+Comes v (Decided u n) = u ≡ v
+Comes v (Refused f n) = ⊥
+
+abbrev pub IsRefused : Refusal → Answer → Type 0
+IsRefused f (Decided v n) = ⊥
+IsRefused f (Refused g n) = g ≡ f
+
+-- "wide" or "full" comes
+abbrev pub WideOrFull : Answer → Type 0
+WideOrFull a = IsRefused refusal.Overflow a ⊎ IsRefused refusal.OutOfSteps a
+
+-- "full-size buffers": 1 and 2 do not refuse them
+pub record FullSize (limits : Limits) (proof model : List ℕ) : Type 0 where
+  pub book : limit.proofBytes limits ≤ length proof
+  pub sheet : limit.modelBytes ≤ length model
+
+-- "ours is that sheet, and the choice on it satisfies Q": `ours` is what solving leaves, `sheet` what the lent sheet held before
+pub record OurSheet (p : Problem) (ours : Solving) (sheet : List ℕ) : Type 0 where
+  pub bytes : List ℕ
+  pub size : length bytes ≡ limit.modelBytes
+  pub rule : sheetOf p ≡ some bytes
+  pub written : ours .model ≡ bytes ++ drop limit.modelBytes sheet
+  pub choice : Assignment
+  pub rest : List ℕ
+  pub place : ℕ
+  pub stated : model (p .booleans) (p .rationals) bytes 0 ≡ got choice rest place
+  pub satisfies : Satisfies choice p
+
+-- "its lines follow and the last is empty": k lines of 64 bytes, the first of them after `earlier`; `ends` says whether the last of
+-- those is empty
+abbrev pub RefutesFrom : List Step → ℕ → List Line → Bool → List ℕ → Type 0
+RefutesFrom parts zero earlier ends bytes = T ends
+RefutesFrom parts (suc k) earlier ends bytes =
+    (l : Line) × (statedLine parts earlier (take limit.stepBytes bytes) ≡ some l) × RefutesFrom parts k (earlier ++ (l ∷ [])) (isEmpty l) (drop limit.stepBytes bytes)
+
+abbrev pub Refutes : List Step → ℕ → List ℕ → Type 0
+Refutes parts k bytes = RefutesFrom parts k [] false bytes

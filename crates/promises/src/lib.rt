@@ -1,0 +1,1 @@
+// The demands as theorems about the definitions: specs/. There is no code here.
