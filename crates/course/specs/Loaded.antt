@@ -1,4 +1,4 @@
--- No piece is left out: a course that runs to its end holds a line that covers it.
+-- No piece is left out: a course that runs to its end holds a line that equals it.
 use mathlib.Core.Path.{_≡_, refl}
 use mathlib.Core.Bool.{false}
 use mathlib.Core.Logic.{inl}
@@ -10,14 +10,13 @@ use Rattle.rules.specs.Steps.{Step}
 use Rattle.rules.specs.Elimination.{Stops, End, State, running, ended, add, load, rounds, eliminate}
 use Rattle.rules.specs.Needs.{stepsOf}
 use Rattle.lists.specs.All.{All, Any, all-map, any-left, any-right}
-use Rattle.saturation.specs.Covered.{Covers}
-use Rattle.saturation.specs.Equal.{covers-refl, covered-steps}
+use Rattle.saturation.specs.Equal.{covered-steps}
 use Rattle.course.specs.States.{load-ended, rounds-ended, add-cases}
 use Rattle.course.specs.Prefix.{Prefix, load-prefix, rounds-prefix}
 
--- a line of the book covers it
+-- a line of the book equals it
 abbrev pub Held : List Step → Line → Type 0
-Held steps l = Any (λ s. Covers (s .line) l) steps
+Held steps l = Any (λ s. s .line ≡ l) steps
 
 abbrev pub HeldAll : List Step → State → Type 0
 HeldAll parts (running steps n) = All (λ x. Held steps (x .line)) parts
@@ -29,13 +28,13 @@ HeldOne s (ended e steps n) = Unit {0}
 
 -- a book that grows still holds it
 held-more : (steps : List Step) (l : Line) (state : State) → Prefix steps state → Held steps l → Held (stepsOf state) l
-held-more steps l state p h = rw (p .is) (any-left (λ s. Covers (s .line) l) steps (p .more) h)
+held-more steps l state p h = rw (p .is) (any-left (λ s. s .line ≡ l) steps (p .more) h)
 
 module _ (stops : Stops) where
   add-held : (s : Step) (steps : List Step) (n : ℕ) → HeldOne s (add stops false s steps n)
   add-held s steps n =
       add-cases (HeldOne s) s steps n stops false (λ w. tt) (covered-steps (s .line) steps) (λ m. tt) (λ m e. tt)
-      (λ m e. any-right (λ x. Covers (x .line) (s .line)) steps (s ∷ []) (inl (covers-refl (s .line))))
+      (λ m e. any-right (λ x. x .line ≡ s .line) steps (s ∷ []) (inl refl))
 
   never : {X : Type 0} (ss : List Step) (e : End) (mid now : List Step) (k m : ℕ) → load stops ss (ended e mid k) ≡ running now m → X
   never ss e mid now k m b = let a = load-ended stops e mid k ss in absurd (let z : _≡_ {A = ℕ} 0 1 = cc in omega arith)

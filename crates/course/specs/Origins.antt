@@ -1,4 +1,4 @@
--- Each line of a course is the piece or the result that it names, of lines before it; and no piece is left out: a line equals it.
+-- Each line of a course is the piece or the result that it names, of lines before it.
 use mathlib.Core.Path.{_≡_, refl}
 use mathlib.Core.Bool.{Bool, false}
 use mathlib.Core.Logic.{_⊎_, inl, inr}

@@ -25,7 +25,7 @@ module _ (s : Step) where
   unfolding fieldAt fromBytes toBytes encodeStep padded headerBytes
   second-back h = omega arith
 
--- ---- of a result
+-- ---- of a resolvent
 pub variable-back : (v : Variable) (first second : ℕ) → variableNamed (header (resolved v first second) .how) (header (resolved v first second) .which) ≡ some v
 unfolding variableNamed header
 variable-back (rational f) first second = refl

@@ -1,5 +1,5 @@
--- A sheet reads back: its 64 bytes give an assignment that agrees with the written one on the question's marks and figures, and has
--- its denominator.
+-- A model reads back: its 64 bytes give an assignment that agrees with the written one on the problem's variables, and has its
+-- denominator.
 use mathlib.Core.Path.{_≡_, refl}
 use mathlib.Core.Bool.{Bool, true, false, cond, _&&_}
 use mathlib.Core.List.{List, _∷_, _++_, append-assoc}
@@ -10,25 +10,26 @@ use lib.Dec.{T, eqb, leb, eqb-refl}
 use lib.ListN.{length, getD, replicate, length-append}
 use mir.Facts.{yes-leb, yes-and}
 use Rattle.types.specs.declared.answers.Refusal.the-variants as refusal
+use Rattle.types.specs.Limits as limit
 use Rattle.rules.specs.Lists.{tabulate}
 use Rattle.rules.specs.Bytes.{toBytes, amountBytes, padded}
-use Rattle.rules.specs.Problem.{after, repeat, field, inRange, amount}
+use Rattle.rules.specs.Problem.{after, repeat, field, amount}
 use Rattle.rules.specs.Meaning.{Assignment}
 use Rattle.rules.specs.Model.{booleanByte, encodeModel, model}
 use Rattle.lists.specs.All.{All}
-use Rattle.encoding.specs.Bytes.{toBytes-length}
-use Rattle.encoding.specs.Fields.{padded-length}
-use Rattle.encoding.specs.Amounts.{amounts-length}
-use Rattle.encoding.specs.Reading.{Reads, reads-field, reads-byte, reads-amounts, reads-list}
-use Rattle.encoding.specs.Tabulated.{tabulate-length, tabulate-at, tabulate-beyond, all-tabulate}
+use Rattle.lists.specs.Tabulated.{length-tabulate, getD-tabulate, all-tabulate}
+use Rattle.vectors.specs.Amounts.{Small}
+use Rattle.layout.specs.Bytes.{length-toBytes, length-padded}
+use Rattle.layout.specs.Amounts.{length-amountBytes}
+use Rattle.encoding.specs.ReadBack.{Reads, reads-field, reads-byte, reads-amounts, reads-list}
 
--- what a sheet has room for
+-- what a model has room for
 pub record Fitting (b r : ℕ) (χ : Assignment) : Type 0 where
-  pub booleans : b ≤ 16
-  pub rationals : r ≤ 8
+  pub booleans : b ≤ limit.booleans
+  pub rationals : r ≤ limit.rationals
   pub positive : 1 ≤ χ .denominator
-  pub denominator : χ .denominator ≤ 1000000000
-  pub numerators : All (λ z. T (inRange z)) (tabulate r (χ .numerators))
+  pub denominator : χ .denominator ≤ limit.amount
+  pub numerators : All Small (tabulate r (χ .numerators))
 
 -- the assignment that is read back
 unfoldable pub readBack : ℕ → ℕ → Assignment → Assignment
@@ -42,7 +43,7 @@ readBack b r χ =
 module _ (b r : ℕ) (χ : Assignment) where
   pub back-boolean : (i : ℕ) → i < b → readBack b r χ .booleans i ≡ χ .booleans i
   unfolding readBack booleanByte
-  back-boolean i h = rw (tabulate-at b (λ i. booleanByte (χ .booleans i)) i 0 h) (by (χ .booleans i))
+  back-boolean i h = rw (getD-tabulate b (λ i. booleanByte (χ .booleans i)) i 0 h) (by (χ .booleans i))
     where
       by : (a : Bool) → eqb (cond a 1 0) 1 ≡ a
       by true = refl
@@ -50,11 +51,7 @@ module _ (b r : ℕ) (χ : Assignment) where
 
   pub back-numerator : (f : ℕ) → f < r → readBack b r χ .numerators f ≡ χ .numerators f
   unfolding readBack
-  back-numerator f h = tabulate-at r (χ .numerators) f (pos 0) h
-
-  pub back-zero : (f : ℕ) → r ≤ f → readBack b r χ .numerators f ≡ pos 0
-  unfolding readBack
-  back-zero f h = tabulate-beyond r (χ .numerators) f (pos 0) h
+  back-numerator f h = getD-tabulate r (χ .numerators) f (pos 0) h
 
   pub back-denominator : readBack b r χ .denominator ≡ χ .denominator
   unfolding readBack
@@ -79,16 +76,16 @@ module _ (b r : ℕ) (χ : Assignment) where
       by false = tt
 
   reads-bits : (rest : List ℕ) → Reads (repeat b (field 1 (λ n. leb n 1) refusal.BadModel)) (bits ++ rest) bits rest
-  reads-bits rest place = rw (tabulate-length b (λ i. booleanByte (χ .booleans i))) at (reads-list refusal.BadModel (λ n. leb n 1) bits rest bits-small place)
+  reads-bits rest place = rw (length-tabulate b (λ i. booleanByte (χ .booleans i))) at (reads-list refusal.BadModel (λ n. leb n 1) bits rest bits-small place)
 
   module _ (fits : Fitting b r χ) where
     reads-numerators : (rest : List ℕ) → Reads (repeat r (amount refusal.BadModel)) (amounts ++ rest) (tabulate r (χ .numerators)) rest
-    reads-numerators rest place = rw (tabulate-length r (χ .numerators)) at (reads-amounts refusal.BadModel (tabulate r (χ .numerators)) rest (fits .numerators) place)
+    reads-numerators rest place = rw (length-tabulate r (χ .numerators)) at (reads-amounts refusal.BadModel (tabulate r (χ .numerators)) rest (fits .numerators) place)
 
-    reads-denominator : (rest : List ℕ) → Reads (field 4 (λ n. leb 1 n && leb n 1000000000) refusal.BadModel) (toBytes 4 (χ .denominator) ++ rest) (χ .denominator) rest
+    reads-denominator : (rest : List ℕ) → Reads (field 4 (λ n. leb 1 n && leb n limit.amount) refusal.BadModel) (toBytes 4 (χ .denominator) ++ rest) (χ .denominator) rest
     reads-denominator rest =
         let d = χ .denominator in
-        reads-field (λ n. leb 1 n && leb n 1000000000) refusal.BadModel 4 d rest (omega arith) (yes-and (leb 1 d) (leb d 1000000000) (yes-leb (fits .positive)) (yes-leb (fits .denominator)))
+        reads-field (λ n. leb 1 n && leb n limit.amount) refusal.BadModel 4 d rest (omega arith) (yes-and (leb 1 d) (leb d limit.amount) (yes-leb (fits .positive)) (yes-leb (fits .denominator)))
 
     reads-parts : (rest : List ℕ) → Reads (model b r) (b ∷ (bits ++ (r ∷ (toBytes 4 (χ .denominator) ++ (amounts ++ rest))))) (readBack b r χ) rest
     unfolding model readBack after
@@ -104,15 +101,15 @@ module _ (b r : ℕ) (χ : Assignment) where
         let r₅ = reads-numerators rest (r₄ .0) in
         (r₅ .0, rw (r₁ .1, r₂ .1, r₃ .1, r₄ .1, r₅ .1))
 
-    -- ---- the sheet
+    -- ---- the model
     content-length : length content ≤ 64
     content-length =
         rw (length-append (b ∷ bits ++ (r ∷ toBytes 4 (χ .denominator))) amounts, length-append (b ∷ bits) (r ∷ toBytes 4 (χ .denominator)))
-        (omega (arith, tabulate-length b (λ i. booleanByte (χ .booleans i)), toBytes-length 4 (χ .denominator), amounts-length (tabulate r (χ .numerators)), tabulate-length r (χ .numerators)))
+        (omega (arith, length-tabulate b (λ i. booleanByte (χ .booleans i)), length-toBytes 4 (χ .denominator), length-amountBytes (tabulate r (χ .numerators)), length-tabulate r (χ .numerators)))
 
     pub model-length : length (encodeModel b r χ) ≡ 64
     unfolding encodeModel
-    model-length = padded-length 64 content content-length
+    model-length = length-padded 64 content content-length
 
     pub model-back : (rest : List ℕ) → Reads (model b r) (encodeModel b r χ ++ rest) (readBack b r χ) (replicate (64 - length content) 0 ++ rest)
     unfolding encodeModel padded

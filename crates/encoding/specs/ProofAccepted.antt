@@ -1,8 +1,8 @@
--- The check accepts a book whose lines are pieces or results of earlier lines, and whose last line is empty.
+-- The check accepts a proof whose lines are parts or resolvents of earlier lines, and whose last line is empty.
 use mathlib.Core.Path.{_≡_, sym, subst}
 use mathlib.Core.Bool.{Bool, true, false, _&&_}
 use mathlib.Core.Logic.{⊎-elim}
-use mathlib.Core.List.{List, [], _∷_, _++_, map}
+use mathlib.Core.List.{List, [], _∷_, _++_}
 use mathlib.Core.Option.{some}
 use Prim.Native.Nat.{ℕ, _+_, _*_, _/_, _%_, _≤_}
 use native.Mathlib.Omega.{arith}
@@ -13,47 +13,51 @@ use Rattle.types.specs.declared.limits.Limits.{Limits}
 use Rattle.types.specs.declared.answers.Checked.the-variants.{Accepted}
 use Rattle.types.specs.Limits as limit
 use Rattle.rules.specs.Problem.{Problem}
-use Rattle.rules.specs.Lines.{Line, Variable, isEmpty}
+use Rattle.rules.specs.Lines.{Variable, isEmpty}
 use Rattle.rules.specs.Steps.{Step, resolved, encodeStep, encodeProof}
 use Rattle.rules.specs.Elimination.{order, loadableOf}
 use Rattle.rules.specs.Checker.{pairable, statedLine, checkSteps, checkProof}
 use Rattle.rules.specs.Calls.{read, sound, wholeSteps, proofChecked}
 use Rattle.lists.specs.Tests.{is-true}
 use Rattle.lists.specs.All.{All, all-map, map-append}
+use Rattle.lists.specs.Places.{place-below}
 use Rattle.resolution.specs.Formed.{Formed}
+use Rattle.course.specs.Saturated.{lines}
 use Rattle.course.specs.Origins.{Each, Derived, Justified}
 use Rattle.course.specs.Ends.{LastEmpty}
-use Rattle.encoding.specs.Injective.{Encodable}
+use Rattle.encoding.specs.Lines.{Encodable, AllEncodable}
 use Rattle.encoding.specs.Steps.{take-step, drop-step, proof-length}
 use Rattle.encoding.specs.Headers.{named-back, parents-back}
-use Rattle.encoding.specs.Stated.{AllEncodable, stated-part, stated-result, at-element, at-below, derived-line, result-named}
+use Rattle.encoding.specs.Stated.{stated-part, stated-result, at-element, derived-line, result-named}
 
-abbrev linesOf : List Step → List Line
-linesOf ss = map (λ s. s .line) ss
-
--- the two lines that a result names may be paired
+-- the two lines that a resolvent names may be paired
 abbrev pub Pairable : List Variable → List Step → Step → Type 0
 Pairable variables earlier s = (d : Derived variables earlier s) → T (pairable (d .variable) (d .upper) (d .lower))
 
 -- ---- each line is stated
 abbrev Stated : List Step → List Step → Step → Type 0
-Stated parts earlier s = statedLine parts (linesOf earlier) (encodeStep s) ≡ some (s .line)
+Stated parts earlier s = statedLine parts (lines earlier) (encodeStep s) ≡ some (s .line)
 
 module _ (variables : List Variable) (parts : List Step) (known : AllEncodable parts) where
-  stated-derived : (earlier : List Step) (s : Step) → length earlier ≤ 65536 → Encodable (s .line) → (d : Derived variables earlier s) → T (pairable (d .variable) (d .upper) (d .lower)) → Stated parts earlier s
+  stated-derived : (earlier : List Step) (s : Step) → length earlier ≤ 65536 → Encodable (s .line) → (d : Derived variables earlier s) → T (pairable (d .variable) (d .upper) (d .lower))
+      → Stated parts earlier s
   stated-derived earlier s n h d q =
       let v = d .variable in
       let t : Step = record { origin = resolved v (d .first) (d .second); line = s .line } in
       let e : t ≡ s = λ i. record { origin = sym (d .names) i; line = s .line } in
-      let b = parents-back v (d .first) (d .second) (s .line) (omega (arith, at-below earlier (d .first) (d .upper) (d .atFirst))) (omega (arith, at-below earlier (d .second) (d .lower) (d .atSecond))) in
-      let r = result-named v (d .upper) (d .lower) (s .line) (d .first) (d .second) (linesOf earlier) (encodeStep t) (named-back v (d .first) (d .second) (s .line)) (b .0) (b .1) (at-element earlier (d .first) (d .upper) (d .atFirst)) (at-element earlier (d .second) (d .lower) (d .atSecond))
+      let first = place-below (λ x. x .line ≡ d .upper) earlier (d .first) (d .atFirst) in
+      let second = place-below (λ x. x .line ≡ d .lower) earlier (d .second) (d .atSecond) in
+      let b = parents-back v (d .first) (d .second) (s .line) (omega arith) (omega arith) in
+      let r = result-named v (d .upper) (d .lower) (s .line) (d .first) (d .second) (lines earlier) (encodeStep t) (named-back v (d .first) (d .second) (s .line)) (b .0) (b .1)
+      (at-element earlier (d .first) (d .upper) (d .atFirst)) (at-element earlier (d .second) (d .lower) (d .atSecond))
       (derived-line v (d .upper) (d .lower) (s .line) (d .positive) (d .negative) q (d .result) h) in
-      subst (Stated parts earlier) e (stated-result t h parts (linesOf earlier) known r)
+      subst (Stated parts earlier) e (stated-result t h parts (lines earlier) known r)
 
-  each-stated : (earlier ss : List Step) → length earlier + length ss ≤ 65536 → AllEncodable ss → Each (Justified variables parts) earlier ss → Each (Pairable variables) earlier ss → Each (Stated parts) earlier ss
+  each-stated : (earlier ss : List Step) → length earlier + length ss ≤ 65536 → AllEncodable ss → Each (Justified variables parts) earlier ss → Each (Pairable variables) earlier ss
+      → Each (Stated parts) earlier ss
   each-stated earlier [] n h j q = tt
   each-stated earlier (s ∷ ss) n h j q = (
-    ⊎-elim (λ m. stated-part s (h .0) parts (linesOf earlier) known m) (λ d. stated-derived earlier s (omega arith) (h .0) d (q .0 d)) (j .0),
+    ⊎-elim (λ m. stated-part s (h .0) parts (lines earlier) known m) (λ d. stated-derived earlier s (omega arith) (h .0) d (q .0 d)) (j .0),
     each-stated (earlier ++ (s ∷ [])) ss (rw length-append (omega arith)) (h .1) (j .1) (q .1),
   )
 
@@ -66,14 +70,15 @@ last-empty : (ends : Bool) (ss : List Step) (s : Step) → T (isEmpty (s .line))
 last-empty ends [] s h = h
 last-empty ends (x ∷ ss) s h = last-empty (isEmpty (x .line)) ss s h
 
-steps-accepted : (parts earlier ss : List Step) (ends : Bool) → All (λ s. Formed (s .line)) ss → Each (Stated parts) earlier ss → T (endsEmpty ends ss) → checkSteps parts (length ss) (linesOf earlier) ends (encodeProof ss) ≡ Accepted
+steps-accepted : (parts earlier ss : List Step) (ends : Bool) → All (λ s. Formed (s .line)) ss → Each (Stated parts) earlier ss → T (endsEmpty ends ss)
+    → checkSteps parts (length ss) (lines earlier) ends (encodeProof ss) ≡ Accepted
 unfolding checkSteps
 steps-accepted parts earlier [] ends f e t = rw (is-true ends t)
 steps-accepted parts earlier (s ∷ ss) ends f e t =
     let r = steps-accepted parts (earlier ++ (s ∷ [])) ss (isEmpty (s .line)) (f .1) (e .1) t in
     rw (take-step s ss (f .0), checkSteps, e .0, drop-step s ss (f .0)) (rw (map-append (λ (s : Step). s .line) earlier (s ∷ [])) at r)
 
--- ---- the check of a book
+-- ---- the check of a proof
 pub record Refutation (p : Problem) (steps : List Step) : Type 0 where
   pub parts : AllEncodable (loadableOf p)
   pub lines : AllEncodable steps
@@ -98,7 +103,9 @@ module _ (p : Problem) (steps : List Step) (refutation : Refutation p steps) whe
   refutation-accepted =
       let n : length (encodeProof steps) / 64 ≡ length steps = rw refutation-length (omega arith) in
       let ends : T (endsEmpty false steps) = rw (refutation .last .is) (last-empty false (refutation .last .before) (refutation .last .last) (refutation .last .blank)) in
-      rw n (steps-accepted (loadableOf p) [] steps false (all-formed steps (refutation .lines)) (each-stated order (loadableOf p) (refutation .parts) [] steps (omega (arith, refutation .few)) (refutation .lines) (refutation .origins) (refutation .pairs)) ends)
+      rw n
+      (steps-accepted (loadableOf p) [] steps false (all-formed steps (refutation .lines))
+      (each-stated order (loadableOf p) (refutation .parts) [] steps (omega (arith, refutation .few)) (refutation .lines) (refutation .origins) (refutation .pairs)) ends)
 
   module _ (limits : Limits) (q : List ℕ) (few : length steps ≤ limits .steps) where
     whole : wholeSteps limits (length (encodeProof steps)) ≡ true

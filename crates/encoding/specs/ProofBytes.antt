@@ -1,8 +1,8 @@
--- Every element of a course's book is a byte: the figures and marks of the order have numbers below 256.
+-- Every element of a course's proof is a byte: the variables of the order have numbers below 256.
 use mathlib.Core.Path.{_≡_, subst}
 use mathlib.Core.Logic.{inl, inr}
 use mathlib.Core.List.{List, [], _∷_, _++_}
-use Prim.Native.Nat.{ℕ, zero, suc, _+_, _<_}
+use Prim.Native.Nat.{ℕ, suc, _+_, _<_}
 use native.Mathlib.Omega.{arith}
 use Rattle.rules.specs.Lists.{tabulate}
 use Rattle.rules.specs.Problem.{Clause, Problem}
@@ -11,11 +11,11 @@ use Rattle.rules.specs.Split.{partsOf, splitsOf}
 use Rattle.rules.specs.Steps.{Step, Origin, loaded, resolved, header, encodeStep, encodeProof}
 use Rattle.rules.specs.Elimination.{order, partSteps, loadable, loadableOf}
 use Rattle.lists.specs.All.{All, all-any, all-append}
-use Rattle.saturation.specs.Rounds.{At}
+use Rattle.lists.specs.Places.{all-place}
+use Rattle.lists.specs.Tabulated.{all-tabulate}
+use Rattle.layout.specs.Bytes.{AllBytes}
 use Rattle.course.specs.Origins.{Each, Justified}
-use Rattle.encoding.specs.Bytes.{AllBytes}
 use Rattle.encoding.specs.Steps.{step-bytes}
-use Rattle.encoding.specs.Tabulated.{all-tabulate}
 
 how-byte : (o : Origin) → header o .how < 256
 unfolding header
@@ -32,25 +32,20 @@ proof-bytes [] h = tt
 proof-bytes (s ∷ ss) h = all-append (λ n. n < 256) (encodeStep s) (encodeProof ss) (step-bytes s (how-byte (s .origin)) (h .0)) (proof-bytes ss (h .1))
 
 -- ---- of the order
-abbrev Small : Variable → Type 0
-Small (rational f) = f < 256
-Small (boolean i) = i < 256
+abbrev Named : Variable → Type 0
+Named (rational f) = f < 256
+Named (boolean i) = i < 256
 
-order-small : All Small order
+order-named : All Named order
 unfolding order
-order-small = all-append Small (tabulate 8 rational) (tabulate 32 boolean) (all-tabulate Small 8 rational (λ i h. omega arith)) (all-tabulate Small 32 boolean (λ i h. omega arith))
+order-named = all-append Named (tabulate 8 rational) (tabulate 32 boolean) (all-tabulate Named 8 rational (λ i h. omega arith)) (all-tabulate Named 32 boolean (λ i h. omega arith))
 
-at-all : (P : Variable → Type 0) (vs : List Variable) (t : ℕ) (v : Variable) → All P vs → At vs t v → P v
-at-all P [] t v h a = absurd a
-at-all P (w ∷ vs) zero v h a = subst P a (h .0)
-at-all P (w ∷ vs) (suc t) v h a = at-all P vs t v (h .1) a
-
-result-which : (v : Variable) (a b : ℕ) → Small v → header (resolved v a b) .which < 256
+result-which : (v : Variable) (a b : ℕ) → Named v → header (resolved v a b) .which < 256
 unfolding header
 result-which (rational f) a b h = h
 result-which (boolean i) a b h = h
 
--- ---- of the pieces
+-- ---- of the parts
 parts-which : (c p : ℕ) (ls : List Line) → All WhichByte (partSteps c p ls)
 unfolding partSteps header
 parts-which c p [] = tt
@@ -59,14 +54,17 @@ parts-which c p (l ∷ ls) = (omega arith, parts-which c (suc p) ls)
 loadable-which : (c k : ℕ) (xs : List Clause) → All WhichByte (loadable c k xs)
 unfolding loadable
 loadable-which c k [] = tt
-loadable-which c k (x ∷ xs) = all-append WhichByte (partSteps c 0 (partsOf k x)) (loadable (suc c) (k + splitsOf x) xs) (parts-which c 0 (partsOf k x)) (loadable-which (suc c) (k + splitsOf x) xs)
+loadable-which c k (x ∷ xs) =
+    all-append WhichByte (partSteps c 0 (partsOf k x)) (loadable (suc c) (k + splitsOf x) xs) (parts-which c 0 (partsOf k x)) (loadable-which (suc c) (k + splitsOf x) xs)
 
 -- ---- so of a course
 module _ (p : Problem) where
   justified-which : (earlier : List Step) (s : Step) → Justified order (loadableOf p) earlier s → WhichByte s
   unfolding loadableOf
   justified-which earlier s (inl m) = all-any WhichByte (λ x. x ≡ s) (loadableOf p) (λ x h e. subst WhichByte e h) (loadable-which 0 (p .booleans) (p .clauses)) m
-  justified-which earlier s (inr d) = rw (d .names) (result-which (d .variable) (d .first) (d .second) (at-all Small order (d .round) (d .variable) order-small (d .place)))
+  justified-which earlier s (inr d) =
+      rw (d .names)
+      (result-which (d .variable) (d .first) (d .second) (all-place Named (λ v. v ≡ d .variable) order (d .round) (λ v h e. subst Named e h) order-named (d .place)))
 
   each-which : (earlier ss : List Step) → Each (Justified order (loadableOf p)) earlier ss → All WhichByte ss
   each-which earlier [] h = tt

@@ -1,4 +1,4 @@
--- A step's 64 bytes, and the book's: so many, each a byte, a step after another; and the line comes back.
+-- A step's 64 bytes, and the proof's: so many, each a byte, a step after another; and the line comes back.
 use mathlib.Core.Path.{_≡_, refl, ap}
 use mathlib.Core.List.{List, [], _∷_, _++_}
 use mathlib.Core.Option.{Option, none, some}
@@ -12,16 +12,15 @@ use Rattle.rules.specs.Problem.{Constraint}
 use Rattle.rules.specs.Lines.{Line}
 use Rattle.rules.specs.Steps.{Step, Header, header, headerBytes, relationByte, mask, row, lineBytes, encodeStep, encodeProof}
 use Rattle.lists.specs.All.{All, all-append}
+use Rattle.layout.specs.Bytes.{AllBytes, bytes-toBytes, length-padded, bytes-padded}
+use Rattle.layout.specs.Amounts.{length-amountBytes, bytes-amountBytes}
 use Rattle.resolution.specs.Formed.{Formed, Eight}
-use Rattle.encoding.specs.Bytes.{AllBytes, toBytes-bytes}
-use Rattle.encoding.specs.Fields.{padded-length, padded-bytes}
-use Rattle.encoding.specs.Amounts.{amounts-length, amounts-bytes}
-use Rattle.encoding.specs.Injective.{Encodable, row-length, line-injective}
+use Rattle.encoding.specs.Lines.{Encodable, length-row, line-injective}
 
 -- ---- 64 bytes
 line-length : (l : Line) → Eight (l .constraint) → length (lineBytes l) ≡ 46
 unfolding lineBytes toBytes
-line-length l f = omega (arith, amounts-length (row (l .constraint)), row-length (l .constraint) f)
+line-length l f = omega (arith, length-amountBytes (row (l .constraint)), length-row (l .constraint) f)
 
 content-length : (s : Step) → Formed (s .line) → length (headerBytes (header (s .origin)) ++ lineBytes (s .line)) ≡ 52
 unfolding headerBytes toBytes
@@ -29,7 +28,7 @@ content-length s f = omega (arith, line-length (s .line) (f .constraint))
 
 pub step-length : (s : Step) → Formed (s .line) → length (encodeStep s) ≡ 64
 unfolding encodeStep
-step-length s f = padded-length 64 (headerBytes (header (s .origin)) ++ lineBytes (s .line)) (omega (arith, content-length s f))
+step-length s f = length-padded 64 (headerBytes (header (s .origin)) ++ lineBytes (s .line)) (omega (arith, content-length s f))
 
 pub proof-length : (ss : List Step) → All (λ s. Formed (s .line)) ss → length (encodeProof ss) ≡ 64 * length ss
 unfolding encodeProof
@@ -46,7 +45,7 @@ module _ (s : Step) (ss : List Step) (f : Formed (s .line)) where
   unfolding encodeProof
   drop-step = drop-at (encodeStep s) (encodeProof ss) 64 (step-length s f)
 
--- the used part of a book that goes on
+-- the used part of a buffer that goes on
 pub take-proof : (ss : List Step) (rest : List ℕ) → All (λ s. Formed (s .line)) ss → take (64 * length ss) (encodeProof ss ++ rest) ≡ encodeProof ss
 take-proof ss rest f = take-at (encodeProof ss) rest (64 * length ss) (proof-length ss f)
 
@@ -66,18 +65,18 @@ line-bytes l =
     let P : ℕ → Type 0 = λ n. n < 256 in
     let p = toBytes 4 (mask (l .positive)) in
     let n = toBytes 4 (mask (l .negative)) in
-    let a = amountBytes (row (l .constraint)) in
-    all-append P (relationByte (l .constraint) ∷ 0 ∷ p ++ n) a (all-append P (relationByte (l .constraint) ∷ 0 ∷ p) n (relation-byte (l .constraint), (omega arith, toBytes-bytes 4 (mask (l .positive)))) (toBytes-bytes 4 (mask (l .negative)))) (amounts-bytes (row (l .constraint)))
+    let front = all-append P (relationByte (l .constraint) ∷ 0 ∷ p) n (relation-byte (l .constraint), (omega arith, bytes-toBytes 4 (mask (l .positive)))) (bytes-toBytes 4 (mask (l .negative))) in
+    all-append P (relationByte (l .constraint) ∷ 0 ∷ p ++ n) (amountBytes (row (l .constraint))) front (bytes-amountBytes (row (l .constraint)))
 
 header-bytes : (h : Header) → h .how < 256 → h .which < 256 → AllBytes (headerBytes h)
 unfolding headerBytes
-header-bytes h a b = all-append (λ n. n < 256) (h .how ∷ h .which ∷ toBytes 2 (h .first)) (toBytes 2 (h .second)) (a, (b, toBytes-bytes 2 (h .first))) (toBytes-bytes 2 (h .second))
+header-bytes h a b = all-append (λ n. n < 256) (h .how ∷ h .which ∷ toBytes 2 (h .first)) (toBytes 2 (h .second)) (a, (b, bytes-toBytes 2 (h .first))) (bytes-toBytes 2 (h .second))
 
 pub step-bytes : (s : Step) → header (s .origin) .how < 256 → header (s .origin) .which < 256 → AllBytes (encodeStep s)
 unfolding encodeStep
 step-bytes s h w =
     let head = headerBytes (header (s .origin)) in
-    padded-bytes 64 (head ++ lineBytes (s .line)) (all-append (λ n. n < 256) head (lineBytes (s .line)) (header-bytes (header (s .origin)) h w) (line-bytes (s .line)))
+    bytes-padded 64 (head ++ lineBytes (s .line)) (all-append (λ n. n < 256) head (lineBytes (s .line)) (header-bytes (header (s .origin)) h w) (line-bytes (s .line)))
 
 -- ---- the line comes back
 pub step-injective : (s t : Step) → Encodable (s .line) → Encodable (t .line) → encodeStep s ≡ encodeStep t → s .line ≡ t .line

@@ -2,3 +2,5 @@ pub mod Tests
 pub mod All
 pub mod Places
 pub mod Dropped
+pub mod Equal
+pub mod Tabulated

@@ -9,14 +9,16 @@ use Rattle.types.specs.declared.answers.Refusal.the-variants as refusal
 use Rattle.types.specs.declared.answers.Verdict.{Verdict}
 use Rattle.types.specs.declared.answers.Verdict.the-variants.{Satisfiable}
 use Rattle.types.specs.declared.answers.Answer.the-variants.{Refused}
+use Rattle.types.specs.declared.answers.Checked.the-variants as checked
 use Rattle.types.specs.declared.limits.Limits.{Limits}
 use Rattle.types.specs.Limits as limit
 use Rattle.rules.specs.Problem.{Problem}
 use Rattle.rules.specs.Steps.{encodeProof}
 use Rattle.rules.specs.Elimination.{limited, course}
 use Rattle.rules.specs.Needs.{stepsOf}
-use Rattle.rules.specs.Calls.{faulty, sound, read, Solving, solve}
+use Rattle.rules.specs.Calls.{faulty, sound, read, Solving, solve, proofChecked, modelChecked}
 use Rattle.promises.specs.Words.{Comes, WideOrFull, FullSize, OurSheet}
+use Rattle.promises.specs.Checked.{book-refused, sheet-refused}
 use Rattle.promises.specs.Left as left
 
 -- nothing is altered, and there are no pairs to report
@@ -38,6 +40,8 @@ pub record Demand1 (limits : Limits) (input lentBook lentSheet : List ℕ) (ours
   -- "a zeroed book and the old sheet after a refused course."
   pub refusedCourse : FullSize limits lentBook lentSheet → (p : Problem) → read input ≡ sound p → WideOrFull (ours .solved .answer)
       → (ours .proof ≡ replicate (limit.proofBytes limits) 0 ++ drop (limit.proofBytes limits) lentBook) × (ours .model ≡ lentSheet)
+  -- "and names the first fault in 01's order.": the checks too name the question's before they look at book or sheet
+  pub firstFault : (f : Refusal) (place : ℕ) → read input ≡ faulty f place → (bytes : List ℕ) → (proofChecked limits input bytes ≡ checked.Refused f place) × (modelChecked input bytes ≡ checked.Refused f place)
   -- no buffer grows or shrinks
   pub sizes : (length (ours .proof) ≡ length lentBook) × (length (ours .model) ≡ length lentSheet)
 
@@ -51,5 +55,6 @@ demand1 limits input book sheet =
       shortSheet = left.short-sheet limits input book sheet;
       faultyQuestion = left.faulty-question limits input book sheet;
       refusedCourse = left.refused-course limits input book sheet;
+      firstFault = λ f place e bytes. (book-refused input f place e limits bytes, sheet-refused input f place e bytes);
       sizes = left.sizes limits input book sheet;
     }

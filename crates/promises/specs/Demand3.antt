@@ -3,10 +3,11 @@
 use mathlib.Core.Path.{_≡_, sym, subst}
 use mathlib.Core.Logic.{_↔_}
 use mathlib.Core.List.{List, _++_}
-use mathlib.Core.Option.{none}
+use mathlib.Core.Option.{none, some}
 use Prim.Native.Nat.{ℕ, _*_, _-_, _/_, _≤_}
 use native.Mathlib.Omega.{arith}
 use lib.ListN.{length, replicate, take, drop}
+use Rattle.types.specs.declared.answers.Refusal.the-variants as refusal
 use Rattle.types.specs.declared.answers.Verdict.{Verdict}
 use Rattle.types.specs.declared.answers.Verdict.the-variants.{Satisfiable, Unsatisfiable, Unwritten}
 use Rattle.types.specs.declared.answers.Checked.the-variants.{Accepted}
@@ -15,38 +16,39 @@ use Rattle.types.specs.Limits as limit
 use Rattle.types.specs.Answers.{answerValue}
 use Rattle.rules.specs.Problem.{Problem}
 use Rattle.rules.specs.Steps.{encodeProof}
-use Rattle.rules.specs.Elimination.{limited, unlimited, order, loadableOf, course}
+use Rattle.rules.specs.Elimination.{limited, overflow, outOfSteps, order, loadableOf, course}
 use Rattle.rules.specs.Needs.{stepsOf, pairsOf, Fits}
 use Rattle.rules.specs.Calls.{sound, read, Solving, solve, proofChecked}
 use Rattle.course.specs.Events.{events}
-use Rattle.course.specs.Cut.{cut}
 use Rattle.verdicts.specs.Decided.{NoChoice}
 use Rattle.soundness.specs.Reading.{read-well-formed}
 use Rattle.soundness.specs.ProofChecked.{proof-checked-refutes}
-use Rattle.promises.specs.Words.{SomeChoice, sheetOf, GivesSheet, OurSheet, Comes, WideOrFull, FullSize}
+use Rattle.promises.specs.Words.{SomeChoice, sheetOf, GivesSheet, OurSheet, Comes, IsRefused, WideOrFull, firstStop, FullSize}
 use Rattle.promises.specs.Outcomes.{cannot-exactly, agrees-exactly, unwritten-exactly, otherwise}
-use Rattle.promises.specs.Reported.{solve-is, course-cut, reported-lines, reported-pairs, at-most, book-holds}
+use Rattle.promises.specs.Reported.{solve-is, reported-lines, reported-pairs, at-most, book-holds}
+use Rattle.promises.specs.First.{wide-first, full-first}
 use Rattle.promises.specs.Evidence.{our-sheet, our-book}
 
-pub record Demand3 (limits : Limits) (input : List ℕ) (p : Problem) (book sheet : List ℕ) (ours : Solving) : Type 0 where
+pub record Demand3 (limits : Limits) (input : List ℕ) (p : Problem) (lentBook lentSheet : List ℕ) (ours : Solving) : Type 0 where
   -- "Suppose Q's course, to its first empty line or its end, needs at most 1,024 lines and no amount in a tidied result beyond
   -- 1,000,000,000 in size. Then "cannot agree" comes exactly when no choice of marks and rational figures satisfies Q."
   pub cannot : Fits limits p → Comes Unsatisfiable (ours .solved .answer) ↔ NoChoice p
   -- ""Agrees" comes exactly when one does and 01's value rule gives a sheet; ours is that sheet, and the choice on it satisfies Q."
   pub agrees : Fits limits p → Comes Satisfiable (ours .solved .answer) ↔ (SomeChoice p × GivesSheet p)
-  pub sheetIs : Comes Satisfiable (ours .solved .answer) → OurSheet p ours sheet
+  pub sheetIs : Comes Satisfiable (ours .solved .answer) → OurSheet p ours lentSheet
   -- ""Unwritten" comes exactly when one does and the rule says so."
   pub unwritten : Fits limits p → Comes Unwritten (ours .solved .answer) ↔ (SomeChoice p × (sheetOf p ≡ none))
   -- "Otherwise, and only otherwise, "wide" or "full" comes, whichever the course meets first."
   pub otherwise : WideOrFull (ours .solved .answer) ↔ (Fits limits p → ⊥)
-  pub first : course (limited limits) p ≡ cut (limited limits) (events order (loadableOf p)) (course unlimited p)
+  pub wide : IsRefused refusal.Overflow (ours .solved .answer) ↔ (firstStop (limited limits) (events order (loadableOf p)) ≡ some overflow)
+  pub full : IsRefused refusal.OutOfSteps (ours .solved .answer) ↔ (firstStop (limited limits) (events order (loadableOf p)) ≡ some outOfSteps)
   -- "In every case the lines and pairs reported are those the course holds and tries, the pairs at most 262,144,"
   pub lines : answerValue (ours .solved .answer) ≡ length (stepsOf (course (limited limits) p))
   pub pairs : ours .solved .pairs ≡ pairsOf (course (limited limits) p)
   pub atMost : ours .solved .pairs ≤ limits .steps * limits .steps / 4
   -- "and after a verdict the book holds just those lines as 01 writes them."
   pub holds : (v : Verdict) → Comes v (ours .solved .answer)
-      → ours .proof ≡ encodeProof (stepsOf (course (limited limits) p)) ++ replicate (limit.proofBytes limits - limit.stepBytes * length (stepsOf (course (limited limits) p))) 0 ++ drop (limit.proofBytes limits) book
+      → ours .proof ≡ encodeProof (stepsOf (course (limited limits) p)) ++ replicate (limit.proofBytes limits - limit.stepBytes * length (stepsOf (course (limited limits) p))) 0 ++ drop (limit.proofBytes limits) lentBook
   -- "And whenever the check accepts a book for Q, as it does the used lines of ours after "cannot agree", no choice satisfies Q,
   -- whoever wrote the book."
   pub refutes : (other : List ℕ) → proofChecked limits input other ≡ Accepted → NoChoice p
@@ -61,7 +63,8 @@ demand3 limits few input p e book sheet full =
       sheetIs = our-sheet limits input p e book sheet;
       unwritten = unwritten-exactly limits p (read-well-formed input p e);
       otherwise = otherwise limits p (read-well-formed input p e);
-      first = course-cut limits p;
+      wide = wide-first p limits;
+      full = full-first p limits;
       lines = reported-lines p (course (limited limits) p);
       pairs = reported-pairs p (course (limited limits) p);
       atMost = at-most limits p (read-well-formed input p e);

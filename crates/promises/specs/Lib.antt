@@ -1,6 +1,7 @@
 pub mod Words
 pub mod Outcomes
 pub mod Reported
+pub mod First
 pub mod Evidence
 pub mod Course
 pub mod Checked

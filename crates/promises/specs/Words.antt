@@ -3,7 +3,7 @@ use mathlib.Core.Path.{_≡_}
 use mathlib.Core.Logic.{_⊎_}
 use mathlib.Core.Bool.{Bool, false}
 use mathlib.Core.List.{List, [], _∷_, _++_, map}
-use mathlib.Core.Option.{Option, some}
+use mathlib.Core.Option.{Option, none, some}
 use Prim.Native.Nat.{ℕ, zero, suc, _≤_}
 use lib.Dec.{T}
 use lib.ListN.{length, take, drop}
@@ -19,11 +19,13 @@ use Rattle.rules.specs.Meaning.{Assignment, Satisfies}
 use Rattle.rules.specs.Lines.{Line, isEmpty}
 use Rattle.rules.specs.Steps.{Step}
 use Rattle.rules.specs.Checker.{statedLine}
-use Rattle.rules.specs.Elimination.{unlimited, order, course}
+use Rattle.rules.specs.Elimination.{Stops, End, unlimited, order, course}
 use Rattle.rules.specs.Needs.{stepsOf}
 use Rattle.rules.specs.Values.{walk}
 use Rattle.rules.specs.Model.{written, model}
 use Rattle.rules.specs.Calls.{Solving}
+use Rattle.course.specs.Events.{Event}
+use Rattle.course.specs.Cut.{stopAt}
 
 -- "one does", for: some choice satisfies Q
 abbrev pub SomeChoice : Problem → Type 0
@@ -50,6 +52,11 @@ IsRefused f (Refused g n) = g ≡ f
 abbrev pub WideOrFull : Answer → Type 0
 WideOrFull a = IsRefused refusal.Overflow a ⊎ IsRefused refusal.OutOfSteps a
 
+-- "whichever the course meets first": what stops it, where anything does
+unfoldable pub firstStop : Stops → List Event → Option End
+firstStop stops [] = none
+firstStop stops (e ∷ es) = elim (stopAt stops e) [ none ↦ firstStop stops es | some end ↦ some end ]
+
 -- "full-size buffers": 1 and 2 do not refuse them
 pub record FullSize (limits : Limits) (proof model : List ℕ) : Type 0 where
   pub book : limit.proofBytes limits ≤ length proof
@@ -61,6 +68,15 @@ pub record OurSheet (p : Problem) (ours : Solving) (sheet : List ℕ) : Type 0 w
   pub size : length bytes ≡ limit.modelBytes
   pub rule : sheetOf p ≡ some bytes
   pub written : ours .model ≡ bytes ++ drop limit.modelBytes sheet
+  pub choice : Assignment
+  pub rest : List ℕ
+  pub place : ℕ
+  pub stated : model (p .booleans) (p .rationals) bytes 0 ≡ got choice rest place
+  pub satisfies : Satisfies choice p
+
+-- "every clause holds": bytes enough for a sheet, and the choice that they write satisfies Q
+pub record WritesChoice (p : Problem) (bytes : List ℕ) : Type 0 where
+  pub size : limit.modelBytes ≤ length bytes
   pub choice : Assignment
   pub rest : List ℕ
   pub place : ℕ

@@ -26,16 +26,16 @@ pub record Covers (j r : Line) : Type 0 where
   pub only : (w : Variable) → T (contains w j) → T (contains w r)
   pub gives : (χ : Assignment) → 1 ≤ χ .denominator → T (lineHolds χ j) → T (lineHolds χ r)
 
--- a resolvent: dropped, or covered by a line of S
-abbrev pub Covered : List Line → Option Line → Type 0
-Covered S o = DroppedOr (λ r. Any (λ j. Covers j r) S) o
+-- a resolvent: dropped, or a line of S equals it, or covers it, or whatever R says
+abbrev pub Found : (Line → Line → Type 0) → List Line → Option Line → Type 0
+Found R S o = DroppedOr (λ r. Any (λ j. R j r) S) o
 
--- an upper and a lower of round t, whose variable is v: their resolvent is dropped or covered by a line of S
-abbrev pub PairDone : List Line → List Variable → ℕ → Variable → Line → Line → Type 0
-PairDone S variables t v u l = roundOf variables u ≡ t → roundOf variables l ≡ t → T (positively v u) → T (negatively v l) → Covered S (resolve v u l)
+-- an upper and a lower of round t, whose variable is v: their resolvent is dropped or found in S
+abbrev pub PairDone : (Line → Line → Type 0) → List Line → List Variable → ℕ → Variable → Line → Line → Type 0
+PairDone R S variables t v u l = roundOf variables u ≡ t → roundOf variables l ≡ t → T (positively v u) → T (negatively v l) → Found R S (resolve v u l)
 
-abbrev pub RoundDone : List Line → List Variable → ℕ → Variable → Type 0
-RoundDone S variables t v = All (λ u. All (PairDone S variables t v u) S) S
+abbrev pub RoundDone : (Line → Line → Type 0) → List Line → List Variable → ℕ → Variable → Type 0
+RoundDone R S variables t v = All (λ u. All (PairDone R S variables t v u) S) S
 
 -- the lines from round t on hold
 abbrev pub HoldFrom : List Variable → ℕ → Assignment → List Line → Type 0
@@ -60,7 +60,7 @@ module _ (variables : List Variable) (t : ℕ) (v : Variable) (a : At variables 
   resolve-later = dropped-map Derived (λ r. t < roundOf variables r) (resolve v u l) later resolve-derived
 
   -- a line of a later round, which holds
-  covered-holds : (S : List Line) (χ : Assignment) → 1 ≤ χ .denominator → HoldFrom variables (suc t) χ S → Covered S (resolve v u l) → T (lineHolds χ (resolvent v u l))
+  covered-holds : (S : List Line) (χ : Assignment) → 1 ≤ χ .denominator → HoldFrom variables (suc t) χ S → Found Covers S (resolve v u l) → T (lineHolds χ (resolvent v u l))
   unfolding resolve
   covered-holds S χ z h c =
       normal-line-holds χ z (resolvent v u l) .1
@@ -68,15 +68,15 @@ module _ (variables : List Variable) (t : ℕ) (v : Variable) (a : At variables 
       (λ r p. all-any (λ j. suc t ≤ roundOf variables j → T (lineHolds χ j)) (λ j. Covers j r) S (λ j k q. q .gives χ z (k (later j (covers-derived j r q (p .0))))) h (p .1))
       (dropped-both Derived (λ r. Any (λ j. Covers j r) S) (resolve v u l) resolve-derived c))
 
-pub round-holds : (S : List Line) (variables : List Variable) (t : ℕ) (v : Variable) (χ : Assignment) → 1 ≤ χ .denominator → At variables t v → RoundDone S variables t v → HoldFrom variables (suc t) χ S → PairsHold χ v (filter (λ l. eqb (roundOf variables l) t) S)
+pub round-holds : (S : List Line) (variables : List Variable) (t : ℕ) (v : Variable) (χ : Assignment) → 1 ≤ χ .denominator → At variables t v → RoundDone Covers S variables t v → HoldFrom variables (suc t) χ S → PairsHold χ v (filter (λ l. eqb (roundOf variables l) t) S)
 round-holds S variables t v χ z a done h =
     let mine : Line → Bool = λ l. eqb (roundOf variables l) t in
     let K = filter mine S in
     let is : (l : Line) → T (mine l) → roundOf variables l ≡ t = λ l m. eqb-yes m in
     filter-all (λ u. All (λ l. T (positively v u) → T (negatively v l) → T (lineHolds χ (resolvent v u l))) K) mine S
-    (all-map (λ u. All (PairDone S variables t v u) S)
+    (all-map (λ u. All (PairDone Covers S variables t v u) S)
     (λ u. T (mine u) → All (λ l. T (positively v u) → T (negatively v l) → T (lineHolds χ (resolvent v u l))) K) S
     (λ u du mu. filter-all (λ l. T (positively v u) → T (negatively v l) → T (lineHolds χ (resolvent v u l))) mine S
-    (all-map (PairDone S variables t v u)
+    (all-map (PairDone Covers S variables t v u)
     (λ l. T (mine l) → T (positively v u) → T (negatively v l) → T (lineHolds χ (resolvent v u l))) S
     (λ l f ml p n. let eu = is u mu in let el = is l ml in covered-holds variables t v a u l (omega arith) (omega arith) n S χ z h (f eu el p n)) du)) done)

@@ -1,7 +1,7 @@
--- Equal lines cover: what the course drops as known is covered by the line that it equals.
+-- The tests decide whether lines are equal, and equal lines cover.
 use mathlib.Core.Path.{_≡_, refl, subst}
 use mathlib.Core.Bool.{Bool, true, false, _&&_, Bool·beq}
-use mathlib.Core.List.{List, [], _∷_, map}
+use mathlib.Core.List.{List, map}
 use mathlib.Core.Option.{Option, none, some}
 use lib.Dec.{T}
 use mir.Facts.{and-yes}
@@ -11,20 +11,12 @@ use Rattle.rules.specs.Problem.{Constraint}
 use Rattle.rules.specs.Lines.{Line, sameConstraint, sameLine}
 use Rattle.rules.specs.Steps.{Step}
 use Rattle.rules.specs.Elimination.{covered}
+use Rattle.lists.specs.Equal.{same-yes}
 use Rattle.lists.specs.All.{Any, any-map, any-yes, any-mapped}
 use Rattle.vectors.specs.Sign.{equal-yes}
 use Rattle.saturation.specs.Covered.{Covers}
 
 -- ---- the tests decide equality
-same-yes : {A : Type 0} (eq : A → A → Bool) → ((a b : A) → T (eq a b) → a ≡ b) → (s t : List A) → T (same eq s t) → s ≡ t
-unfolding same
-same-yes eq yes-eq [] [] h = refl
-same-yes eq yes-eq [] (b ∷ t) h = absurd h
-same-yes eq yes-eq (a ∷ s) [] h = absurd h
-same-yes eq yes-eq (a ∷ s) (b ∷ t) h =
-    let r = and-yes (eq a b) (same eq s t) h in
-    λ i. yes-eq a b (r .0) i ∷ same-yes eq yes-eq s t (r .1) i
-
 beq-yes : (a b : Bool) → T (Bool·beq a b) → a ≡ b
 beq-yes true true h = refl
 beq-yes true false h = absurd h
@@ -49,16 +41,16 @@ sameLine-yes l m t =
     λ i. record { positive = same-yes Bool·beq beq-yes (l .positive) (m .positive) (q .1) i; negative = same-yes Bool·beq beq-yes (l .negative) (m .negative) (r .1) i; constraint = sameConstraint-yes (l .constraint) (m .constraint) (q .0) i }
 
 -- ---- so they cover
-pub covers-refl : (l : Line) → Covers l l
+covers-refl : (l : Line) → Covers l l
 covers-refl l = record { only = λ w h. h; gives = λ χ z h. h }
 
-pub same-covers : (j r : Line) → T (sameLine j r) → Covers j r
-same-covers j r t = subst (λ (m : Line). Covers j m) (sameLine-yes j r t) (covers-refl j)
+pub equal-covers : (j r : Line) → j ≡ r → Covers j r
+equal-covers j r e = subst (λ (m : Line). Covers j m) e (covers-refl j)
 
-pub covered-steps : (r : Line) (steps : List Step) → T (covered r steps) → Any (λ s. Covers (s .line) r) steps
+-- ---- what the course drops as known equals a line
+pub covered-steps : (r : Line) (steps : List Step) → T (covered r steps) → Any (λ s. s .line ≡ r) steps
 unfolding covered
-covered-steps r steps t =
-    any-map (λ s. T (sameLine (s .line) r)) (λ s. Covers (s .line) r) steps (λ s h. same-covers (s .line) r h) (any-yes (λ s. sameLine (s .line) r) steps t)
+covered-steps r steps t = any-map (λ s. T (sameLine (s .line) r)) (λ s. s .line ≡ r) steps (λ s h. sameLine-yes (s .line) r h) (any-yes (λ s. sameLine (s .line) r) steps t)
 
-pub covered-yes : (r : Line) (steps : List Step) → T (covered r steps) → Any (λ j. Covers j r) (map (λ s. s .line) steps)
-covered-yes r steps t = any-mapped (λ j. Covers j r) (λ s. s .line) steps (covered-steps r steps t)
+pub covered-yes : (r : Line) (steps : List Step) → T (covered r steps) → Any (λ j. j ≡ r) (map (λ s. s .line) steps)
+covered-yes r steps t = any-mapped (λ j. j ≡ r) (λ s. s .line) steps (covered-steps r steps t)

@@ -21,6 +21,7 @@ use Rattle.lists.specs.All.{All, getD-replicate-same}
 use Rattle.resolution.specs.Holds.{line-cases}
 use Rattle.resolution.specs.Settled.{settled-holds}
 use Rattle.resolution.specs.Formed.{Formed}
+use Rattle.saturation.specs.Covered.{Covers}
 use Rattle.saturation.specs.Saturation.{AllPairs, LinesHold}
 
 zeros : Constraint
@@ -46,7 +47,7 @@ not-empty : T (not (isEmpty bad))
 unfolding bad isEmpty noConstraint noBooleans any
 not-empty = tt
 
-pub not-empty-is-too-weak : ((S : List Line) → All (λ l. Formed l) S → All (λ l. T (not (isEmpty l))) S → AllPairs S order → LinesHold (walk order S .assignment) S) → ⊥
+pub not-empty-is-too-weak : ((S : List Line) → All (λ l. Formed l) S → All (λ l. T (not (isEmpty l))) S → AllPairs Covers S order → LinesHold (walk order S .assignment) S) → ⊥
 not-empty-is-too-weak claim =
     let r = claim (bad ∷ []) (formed, tt) (not-empty, tt) (λ t v a. (((λ e f p n. absurd (never-upper v p)), tt), tt)) in
     never-holds (walk order (bad ∷ []) .assignment) (r .denominator) (r .lines .0)

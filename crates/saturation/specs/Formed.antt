@@ -21,6 +21,7 @@ use Rattle.resolution.specs.Members.{has}
 use Rattle.resolution.specs.Variables.{nonzero, contains-rational, contains-boolean}
 use Rattle.resolution.specs.Formed.{Eight, Formed}
 use Rattle.resolution.specs.Proper.{Proper, ProperLine}
+use Rattle.saturation.specs.Covered.{Covers}
 use Rattle.saturation.specs.Saturation.{AllPairs, LinesHold, saturation}
 
 -- ---- a place below n with the property
@@ -76,7 +77,7 @@ has-variable l f n h =
     (λ k. let p = constraint-place (l .constraint) (f .constraint) n k in by-rational l (p .at) (p .below) (p .holds))
     (not-empty l h)
 
-pub saturation-formed : (S : List Line) → All (λ l. Formed l) S → All ProperLine S → All (λ l. T (not (isEmpty l))) S → AllPairs S order → LinesHold (walk order S .assignment) S
+pub saturation-formed : (S : List Line) → All (λ l. Formed l) S → All ProperLine S → All (λ l. T (not (isEmpty l))) S → AllPairs Covers S order → LinesHold (walk order S .assignment) S
 saturation-formed S f n e p =
     saturation S order
     (all-map (λ l. Formed l × (ProperLine l × T (not (isEmpty l)))) (λ l. T (any (λ v. contains v l) order)) S (λ l h. has-variable l (h .0) (h .1 .0) (h .1 .1))

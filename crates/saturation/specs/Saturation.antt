@@ -20,15 +20,15 @@ use Rattle.lists.specs.All.{All, all-map, all-both, all-filter}
 use Rattle.saturation.specs.Rule.{Rule}
 use Rattle.saturation.specs.Assign.{assign-rule}
 use Rattle.saturation.specs.Rounds.{At, drop-at, drop-next, drop-none, round-below, round-contains, round-before}
-use Rattle.saturation.specs.Covered.{RoundDone, HoldFrom, round-holds}
+use Rattle.saturation.specs.Covered.{Covers, RoundDone, HoldFrom, round-holds}
 
 -- every line contains a variable of the order, so that it has a round
 abbrev pub HaveRounds : List Line → List Variable → Type 0
 HaveRounds S variables = All (λ l. T (any (λ v. contains v l) variables)) S
 
--- of every round all pairs are dropped or covered
-abbrev pub AllPairs : List Line → List Variable → Type 0
-AllPairs S variables = (t : ℕ) (v : Variable) → At variables t v → RoundDone S variables t v
+-- of every round all pairs are dropped or found
+abbrev pub AllPairs : (Line → Line → Type 0) → List Line → List Variable → Type 0
+AllPairs R S variables = (t : ℕ) (v : Variable) → At variables t v → RoundDone R S variables t v
 
 pub record LinesHold (χ : Assignment) (S : List Line) : Type 0 where
   pub denominator : 1 ≤ χ .denominator
@@ -45,7 +45,7 @@ module _ (next : Variable → List Line → Assignment → Assignment) (rule : R
   walk-denominator t [] = omega arith
   walk-denominator t (v ∷ vs) = rule .denominator v (filter (λ l. eqb (roundOf variables l) t) S) (walkBy next variables S (suc t) vs) (walk-denominator (suc t) vs)
 
-  one-round : (t : ℕ) (v : Variable) (χ : Assignment) → 1 ≤ χ .denominator → At variables t v → RoundDone S variables t v → HoldFrom variables (suc t) χ S → HoldFrom variables t (next v (filter (λ l. eqb (roundOf variables l) t) S) χ) S
+  one-round : (t : ℕ) (v : Variable) (χ : Assignment) → 1 ≤ χ .denominator → At variables t v → RoundDone Covers S variables t v → HoldFrom variables (suc t) χ S → HoldFrom variables t (next v (filter (λ l. eqb (roundOf variables l) t) S) χ) S
   one-round t v χ z a done h =
       let mine : Line → Bool = λ l. eqb (roundOf variables l) t in
       let K = filter mine S in
@@ -56,7 +56,7 @@ module _ (next : Variable → List Line → Assignment → Assignment) (rule : R
       (λ m. let k′ : suc t ≤ roundOf variables l = omega (arith, eqb-no {a = roundOf variables l} {b = t} m) in rw (rule .keeps v K χ z l (round-before variables t v l a k′)) (f .1 k′)) (split (mine l)))
       (all-both (λ l. T (mine l) → T (contains v l) → T (lineHolds χ′ l)) (λ l. suc t ≤ roundOf variables l → T (lineHolds χ l)) S now h)
 
-  module _ (placed : HaveRounds S variables) (pairs : AllPairs S variables) where
+  module _ (placed : HaveRounds S variables) (pairs : AllPairs Covers S variables) where
     walk-holds : (t : ℕ) (vs : List Variable) → drop t variables ≡ vs → HoldFrom variables t (walkBy next variables S t vs) S
     unfolding walkBy
     walk-holds t [] e =
@@ -79,6 +79,6 @@ unfolding walkFrom walkBy
 walk-is variables S t [] = refl
 walk-is variables S t (v ∷ vs) = rw (walk-is variables S (suc t) vs)
 
-pub saturation : (S : List Line) (variables : List Variable) → HaveRounds S variables → AllPairs S variables → LinesHold (walk variables S .assignment) S
+pub saturation : (S : List Line) (variables : List Variable) → HaveRounds S variables → AllPairs Covers S variables → LinesHold (walk variables S .assignment) S
 unfolding walk
 saturation S variables placed pairs = subst (λ (χ : Assignment). LinesHold χ S) (sym (walk-is variables S 0 variables)) (saturation-by assign assign-rule S variables placed pairs)

@@ -1,9 +1,9 @@
 -- Other values for some Boolean variables: a clause without these variables keeps its meaning.
 use mathlib.Core.Path.{_≡_, refl}
 use mathlib.Core.Bool.{Bool}
-use mathlib.Core.List.{List, [], _∷_}
+use mathlib.Core.List.{List}
 use Prim.Native.Nat.{ℕ}
-use Rattle.lists.specs.All.{All}
+use Rattle.lists.specs.All.{All, all-map, any-agree}
 use Rattle.rules.specs.Lists.{any}
 use Rattle.rules.specs.Problem.{Literal, Constraint, Clause}
 use Rattle.rules.specs.Meaning.{Assignment, literalHolds, constraintHolds, clauseHolds}
@@ -18,11 +18,9 @@ module _ (χ : Assignment) (g : ℕ → Bool) where
   unfolding literalHolds
   literal-choosing l e = rw e
 
-  literals-choosing : (ls : List Literal) → All (λ l. Same χ g (l .boolean)) ls → any (literalHolds χ) ls ≡ any (literalHolds (choosing g χ)) ls
-  unfolding any
-  literals-choosing [] e = refl
-  literals-choosing (l ∷ ls) e = rw (literal-choosing l (e .0), literals-choosing ls (e .1))
-
   pub clause-choosing : (c : Clause) → All (λ l. Same χ g (l .boolean)) (c .literals) → clauseHolds χ c ≡ clauseHolds (choosing g χ) c
   unfolding clauseHolds
-  clause-choosing c e = rw (literals-choosing (c .literals) e, constraints-choosing (c .constraints))
+  clause-choosing c e =
+      let ψ = choosing g χ in
+      let ls = c .literals in
+      rw (any-agree (literalHolds χ) (literalHolds ψ) ls (all-map (λ l. Same χ g (l .boolean)) (λ l. literalHolds χ l ≡ literalHolds ψ l) ls literal-choosing e), constraints-choosing (c .constraints))

@@ -5,7 +5,7 @@ use mathlib.Core.Logic.{_↔_, ⊎-elim}
 use mathlib.Core.List.{List, [], _∷_}
 use Prim.Native.Nat.{ℕ, suc, _≤_}
 use native.Mathlib.Omega.{arith}
-use lib.Dec.{T, leb, ltb, leb→le}
+use lib.Dec.{T, leb, ltb, leb→le, nltb→le}
 use lib.ListN.{length}
 use mir.Facts.{and-yes, no-ltb}
 use Rattle.types.specs.declared.answers.Refusal.the-variants as refusal
@@ -20,7 +20,8 @@ use Rattle.rules.specs.Model.{model}
 use Rattle.rules.specs.Checker.{checkClauses}
 use Rattle.rules.specs.Calls.{Reading, faulty, sound, read, modelChecked}
 use Rattle.soundness.specs.Readers.{Gives, Yields, field-yields, field-then, repeat-then}
-use Rattle.soundness.specs.Reading.{Small, amount-yields}
+use Rattle.vectors.specs.Amounts.{Small}
+use Rattle.soundness.specs.Reading.{amount-yields}
 use Rattle.soundness.specs.ProofChecked.{refused-not}
 
 -- ---- clauses
@@ -51,6 +52,7 @@ model-denominator b r =
 pub record CheckedModel (question bytes : List ℕ) : Type 0 where
   pub problem : Problem
   pub reads : read question ≡ sound problem
+  pub size : limit.modelBytes ≤ length bytes
   pub assignment : Assignment
   pub rest : List ℕ
   pub place : ℕ
@@ -72,7 +74,7 @@ model-checked-satisfies question bytes a = by (read question) refl
     stated : (p : Problem) → read question ≡ sound p → T (not short) → (m : Read Assignment) → model (p .booleans) (p .rationals) bytes 0 ≡ m → CheckedModel question bytes
     stated p e t (fault f place) d = absurd (refused-not f place (rw (e, modelChecked, is-false short t, d) at a))
     stated p e t (got χ rest place) d =
-        record { problem = p; reads = e; assignment = χ; rest = rest; place = place; states = d; satisfies = read-model p bytes χ rest place d (rw (e, modelChecked, is-false short t, d) at a) }
+        record { problem = p; reads = e; size = nltb→le (length bytes) limit.modelBytes t; assignment = χ; rest = rest; place = place; states = d; satisfies = read-model p bytes χ rest place d (rw (e, modelChecked, is-false short t, d) at a) }
 
     by : (r : Reading) → read question ≡ r → CheckedModel question bytes
     by (faulty f place) e = absurd (refused-not f place (rw (e, modelChecked) at a))

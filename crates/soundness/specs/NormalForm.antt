@@ -1,4 +1,5 @@
--- The form of a normal clause: its Boolean variables, each in one sign, are those of the clause, and its constraints keep their length.
+-- The form of a normal clause: its Boolean variables, each in one sign, are those of the clause, and its constraints keep their
+-- length and the range of their amounts.
 use mathlib.Core.Path.{_≡_, sym, _∙_, subst}
 use mathlib.Core.Bool.{Bool, true, false, not, Bool·beq}
 use mathlib.Core.Logic.{⊎-elim}
@@ -12,6 +13,7 @@ use Rattle.lists.specs.All.{All}
 use Rattle.rules.specs.Problem.{Literal, Constraint, Clause}
 use Rattle.rules.specs.Lines.{Booleans, noBooleans, including, meet}
 use Rattle.rules.specs.Normalize.{membersOf, Settled, always, never, kept, settled, Normal, settledAll, normalClause}
+use Rattle.vectors.specs.Amounts.{SmallAmounts, reduced-small}
 use Rattle.resolution.specs.Members.{Within, including-has, none-has}
 use Rattle.lists.specs.Dropped.{DroppedOr, dropped-then}
 use Rattle.resolution.specs.Settled.{settled-cases}
@@ -46,16 +48,22 @@ members-within P g [] h = within-none P
 members-within P g (l ∷ ls) h = one-member P (l .boolean) (Bool·beq (l .negated) g) (membersOf g ls) (h .0) (members-within P g ls (h .1))
 
 -- ---- constraints
-abbrev pub Kept : Constraint → Type 0
-Kept c = Eight (some c) × Proper (some c)
+-- as read: eight coefficients, and amounts in their range
+abbrev pub Sized : Constraint → Type 0
+Sized c = Eight (some c) × SmallAmounts (some c)
+
+pub record Kept (c : Constraint) : Type 0 where
+  pub eight : Eight (some c)
+  pub small : SmallAmounts (some c)
+  pub proper : Proper (some c)
 
 abbrev KeptSettled : Settled → Type 0
 KeptSettled always = Unit {0}
 KeptSettled never = Unit {0}
 KeptSettled (kept d) = Kept d
 
-settled-kept : (c : Constraint) → Eight (some c) → KeptSettled (settled c)
-settled-kept c h = settled-cases KeptSettled c (λ z r. tt) (λ z r. tt) (λ z. (length-reduced c ∙ h, reduced-proper c z))
+settled-kept : (c : Constraint) → Sized c → KeptSettled (settled c)
+settled-kept c h = settled-cases KeptSettled c (λ z r. tt) (λ z r. tt) (λ z. record { eight = length-reduced c ∙ h .0; small = reduced-small c (h .1); proper = reduced-proper c z })
 
 one-kept : (s : Settled) (o : Option (List Constraint)) → KeptSettled s → DroppedOr (All Kept) o
     → DroppedOr (All Kept) (elim s [ always ↦ none | never ↦ o | kept d ↦ elim o [ none ↦ none | some ds ↦ some (d ∷ ds) ] ])
@@ -63,7 +71,7 @@ one-kept always o e f = tt
 one-kept never o e f = f
 one-kept (kept d) o e f = dropped-then (All Kept) (All Kept) (λ ds. some (d ∷ ds)) o f (λ ds h. (e, h))
 
-settled-all-kept : (cs : List Constraint) → All (λ c. Eight (some c)) cs → DroppedOr (All Kept) (settledAll cs)
+settled-all-kept : (cs : List Constraint) → All Sized cs → DroppedOr (All Kept) (settledAll cs)
 unfolding settledAll
 settled-all-kept [] h = tt
 settled-all-kept (c ∷ cs) h = one-kept (settled c) (settledAll cs) (settled-kept c (h .0)) (settled-all-kept cs (h .1))
@@ -90,5 +98,5 @@ normal-with P c n l e =
       constraints = h;
     })
 
-pub normal-form : (P : ℕ → Type 0) (c : Clause) → All (λ l. P (l .boolean)) (c .literals) → All (λ k. Eight (some k)) (c .constraints) → DroppedOr (NormalForm P) (normalClause c)
+pub normal-form : (P : ℕ → Type 0) (c : Clause) → All (λ l. P (l .boolean)) (c .literals) → All Sized (c .constraints) → DroppedOr (NormalForm P) (normalClause c)
 normal-form P c l e = clause-ends (DroppedOr (NormalForm P)) c (λ m. tt) (λ n. normal-with P c n l (settled-all-kept (c .constraints) e))

@@ -1,5 +1,5 @@
--- The form of the parts of a clause: 32 places and 8 coefficients, no constant constraint, no Boolean variable in both signs, and no
--- other than the clause's and its own splitting variables.
+-- The form of the parts of a clause: 32 places and 8 coefficients, amounts in their range, no constant constraint, no Boolean variable in
+-- both signs, and no other than the clause's and its own splitting variables.
 use mathlib.Core.Path.{_≡_, _∙_}
 use mathlib.Core.Bool.{not}
 use mathlib.Core.Logic.{⊎-elim}
@@ -14,6 +14,7 @@ use Rattle.rules.specs.Problem.{Constraint}
 use Rattle.rules.specs.Lines.{Booleans, Line, noBooleans, including, meet}
 use Rattle.rules.specs.Normalize.{Normal}
 use Rattle.rules.specs.Split.{chain, parts}
+use Rattle.vectors.specs.Amounts.{SmallAmounts}
 use Rattle.resolution.specs.Members.{Within, Common, none-has, including-has, length-none, length-including, meet-member, member-meet}
 use Rattle.resolution.specs.Holds.{Consistent}
 use Rattle.resolution.specs.Formed.{Formed}
@@ -25,6 +26,7 @@ use Rattle.soundness.specs.Pieces.{whole}
 pub record LineForm (P : ℕ → Type 0) (l : Line) : Type 0 where
   pub formed : Formed l
   pub proper : Proper (l .constraint)
+  pub small : SmallAmounts (l .constraint)
   pub consistent : Consistent l
   pub positive : Within P (l .positive)
   pub negative : Within P (l .negative)
@@ -42,12 +44,14 @@ chain-form : (P : ℕ → Type 0) (k : ℕ) (p n : Booleans) (c : Constraint) (c
     → ((i : ℕ) → k ≤ i → i < k + length cs → P i)
     → All Kept (c ∷ cs) → All (LineForm P) (chain k p n c cs)
 unfolding chain
-chain-form P k p n c [] lp ln a w wp wn q e = (record { formed = record { positive = lp; negative = ln; constraint = e .0 .0 }; proper = e .0 .1; consistent = a; positive = wp; negative = wn }, tt)
+chain-form P k p n c [] lp ln a w wp wn q e =
+    (record { formed = record { positive = lp; negative = ln; constraint = e .0 .eight }; proper = e .0 .proper; small = e .0 .small; consistent = a; positive = wp; negative = wn }, tt)
 chain-form P k p n c (d ∷ ds) lp ln a w wp wn q e =
     let y = q k (omega arith) (omega arith) in (
       record {
-        formed = record { positive = length-including k p ∙ lp; negative = ln; constraint = e .0 .0 };
-        proper = e .0 .1;
+        formed = record { positive = length-including k p ∙ lp; negative = ln; constraint = e .0 .eight };
+        proper = e .0 .proper;
+        small = e .0 .small;
         consistent = including-apart k p n a w;
         positive = within-including P k p y wp;
         negative = wn;
@@ -60,7 +64,7 @@ parts-of : (P : ℕ → Type 0) (k : ℕ) (p n : Booleans) (cs : List Constraint
     → All (LineForm P) (parts k (whole p n cs))
 unfolding parts
 parts-of P k p n [] f w q =
-    (record { formed = record { positive = f .positive-length; negative = f .negative-length; constraint = tt }; proper = tt; consistent = f .consistent; positive = f .positive; negative = f .negative }, tt)
+    (record { formed = record { positive = f .positive-length; negative = f .negative-length; constraint = tt }; proper = tt; small = tt; consistent = f .consistent; positive = f .positive; negative = f .negative }, tt)
 parts-of P k p n (c ∷ cs) f w q = chain-form P k p n c cs (f .positive-length) (f .negative-length) (f .consistent) w (f .positive) (f .negative) (λ i h l. q i h (omega arith)) (f .constraints)
 
 pub parts-form : (P : ℕ → Type 0) (k : ℕ) (c : Normal) → NormalForm P c → Below k (c .negative) → ((i : ℕ) → k ≤ i → i < k + (length (c .constraints) - 1) → P i)

@@ -40,7 +40,7 @@ checked-proof limits question proof a = by (read question) refl
         ⊎-elim (λ t. record { problem = p; reads = e; accepted = rw (e, proofChecked, is-true whole t) at a })
         (λ t. absurd (refused-not refusal.ProofLength (length proof) (rw (e, proofChecked, is-false whole t) at a))) (split whole)
 
-same-problem : (r : Reading) (p q : Problem) → r ≡ sound p → r ≡ sound q → p ≡ q
+pub same-problem : (r : Reading) (p q : Problem) → r ≡ sound p → r ≡ sound q → p ≡ q
 same-problem r p q e f = cc
 
 pub proof-checked-refutes : (limits : Limits) (question proof : List ℕ) → proofChecked limits question proof ≡ checked.Accepted → (p : Problem) → read question ≡ sound p → (χ : Assignment)

@@ -6,7 +6,7 @@ use mathlib.Core.List.{List, [], _∷_, _++_}
 use mathlib.Core.Option.{Option, none, some}
 use Prim.Native.Nat.{ℕ, zero, suc, _+_, _-_, _%_, _≤_, _<_}
 use native.Mathlib.Omega.{arith}
-use lib.IntN.{ℤ, pos, natAbs}
+use lib.IntN.{ℤ, pos}
 use lib.Dec.{eqb, ltb, leb→le, ltb→lt, nltb→le}
 use lib.ListN.{length, getD, replicate, length-append, length-replicate}
 use Rattle.types.specs.declared.answers.Refusal.{Refusal}
@@ -15,9 +15,10 @@ use Rattle.types.specs.Limits as limit
 use Rattle.lists.specs.Tests.{split, is-true, is-false}
 use Rattle.lists.specs.All.{All, all-append, getD-replicate-same}
 use Rattle.rules.specs.Bytes.{fromUnsigned}
-use Rattle.rules.specs.Problem.{Clause, Problem, Read, fault, got, inRange, amount, literal, constraint, clause, end, problem}
+use Rattle.rules.specs.Problem.{Clause, Problem, Read, fault, got, amount, literal, constraint, clause, end, problem}
 use Rattle.rules.specs.Split.{splitsOf, overSplit}
 use Rattle.rules.specs.Calls.{Reading, faulty, sound, withinSplits, read}
+use Rattle.vectors.specs.Amounts.{Small, range-small, zeros-small}
 use Rattle.soundness.specs.WellFormed.{WellFormedConstraint, WellFormedClause, splitsIn, WellFormed}
 use Rattle.soundness.specs.Readers.{Gives, Yields, then-yields, field-then, repeat-then}
 
@@ -27,16 +28,9 @@ unfolding literal
 literal-yields b = field-then (λ l. l .boolean < b) _ _ _ _ (λ code h bytes place. ltb→lt (code % 128) b h)
 
 -- ---- constraints
-abbrev pub Small : ℤ → Type 0
-Small z = natAbs z ≤ limit.amount
-
 pub amount-yields : (f : Refusal) → Yields Small (amount f)
-unfolding amount inRange
-amount-yields f = field-then Small _ _ _ _ (λ n h bytes place. leb→le (natAbs (fromUnsigned n)) limit.amount h)
-
-zeros-small : (n : ℕ) → All Small (replicate n (pos 0))
-zeros-small zero = tt
-zeros-small (suc n) = (omega arith, zeros-small n)
+unfolding amount
+amount-yields f = field-then Small _ _ _ _ (λ n h bytes place. range-small (fromUnsigned n) .0 h)
 
 getD-padded : (cs : List ℤ) (n i : ℕ) → length cs ≤ i → getD (cs ++ replicate n (pos 0)) i (pos 0) ≡ pos 0
 getD-padded [] n i h = getD-replicate-same n i (pos 0)

@@ -16,10 +16,9 @@ use Rattle.rules.specs.Split.{parts, partsOf, splitsOf}
 use Rattle.resolution.specs.Members.{has}
 use Rattle.lists.specs.Dropped.{DroppedOr}
 use Rattle.resolution.specs.Variables.{contains-boolean}
-use Rattle.resolution.specs.Formed.{Eight}
 use Rattle.soundness.specs.WellFormed.{WellFormedConstraint, WellFormedClause}
 use Rattle.soundness.specs.NormalClause.{normalHolds, normal-clause-holds}
-use Rattle.soundness.specs.NormalForm.{NormalForm, normal-form}
+use Rattle.soundness.specs.NormalForm.{Sized, NormalForm, normal-form}
 use Rattle.soundness.specs.PartsGive.{parts-give}
 use Rattle.soundness.specs.PartsChosen.{Chosen, chosen-same, parts-chosen}
 use Rattle.soundness.specs.PartsForm.{LineForm, parts-form}
@@ -53,7 +52,7 @@ module _ (b r : ℕ) (c : Clause) (w : WellFormedClause b r c) where
   normal-within : (P : ℕ → Type 0) → ((i : ℕ) → i < b → P i) → DroppedOr (NormalForm P) (normalClause c)
   normal-within P f =
       normal-form P c (all-map (λ l. l .boolean < b) (λ l. P (l .boolean)) (c .literals) (λ l h. f (l .boolean) h) (w .literals))
-      (all-map (WellFormedConstraint r) (λ d. Eight (some d)) (c .constraints) (λ d h. h .coefficients) (w .constraints))
+      (all-map (WellFormedConstraint r) Sized (c .constraints) (λ d h. (h .coefficients, (h .amounts, h .bound))) (w .constraints))
 
   clause-normal : b ≤ 32 → (χ : Assignment) → 0 < χ .denominator → T (clauseHolds χ c) ↔ DroppedOr (λ n. T (normalHolds χ n)) (normalClause c)
   clause-normal z χ d = normal-clause-holds χ d c (all-map (λ l. l .boolean < b) (λ l. l .boolean < 32) (c .literals) (λ l h. omega arith) (w .literals))

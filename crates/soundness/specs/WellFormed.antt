@@ -2,19 +2,20 @@
 use mathlib.Core.Path.{_≡_}
 use mathlib.Core.List.{List, [], _∷_}
 use Prim.Native.Nat.{ℕ, _+_, _≤_, _<_}
-use lib.IntN.{pos, natAbs}
+use lib.IntN.{pos}
 use lib.ListN.{length, getD}
 use Rattle.types.specs.Limits as limit
 use Rattle.lists.specs.All.{All}
 use Rattle.rules.specs.Problem.{Constraint, Clause, Problem}
 use Rattle.rules.specs.Split.{splitsOf}
+use Rattle.vectors.specs.Amounts.{Small}
 
 -- eight coefficients, 0 from r on, and amounts in their range
 pub record WellFormedConstraint (r : ℕ) (c : Constraint) : Type 0 where
   pub coefficients : length (c .coefficients) ≡ 8
   pub beyond : (i : ℕ) → r ≤ i → getD (c .coefficients) i (pos 0) ≡ pos 0
-  pub amounts : All (λ z. natAbs z ≤ limit.amount) (c .coefficients)
-  pub bound : natAbs (c .bound) ≤ limit.amount
+  pub amounts : All Small (c .coefficients)
+  pub bound : Small (c .bound)
 
 -- literals of the b Boolean variables
 pub record WellFormedClause (b r : ℕ) (c : Clause) : Type 0 where

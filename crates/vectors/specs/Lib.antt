@@ -1,3 +1,4 @@
+pub mod Amounts
 pub mod Sign
 pub mod Gcd
 pub mod GcdFold

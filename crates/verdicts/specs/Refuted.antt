@@ -13,13 +13,12 @@ use Rattle.rules.specs.Needs.{stepsOf}
 use Rattle.lists.specs.Tests.{clash}
 use Rattle.lists.specs.All.{All, all-any, all-both, all-append, append-all}
 use Rattle.lists.specs.Dropped.{dropped-is}
-use Rattle.lists.specs.Places.{all-place}
 use Rattle.resolution.specs.Holds.{empty-fails}
 use Rattle.resolution.specs.Resolution.{resolve-holds}
 use Rattle.soundness.specs.WellFormed.{WellFormed}
 use Rattle.resolution.specs.Choosing.{choosing}
 use Rattle.soundness.specs.SplitProblem.{splitting-keeps}
-use Rattle.course.specs.Pairs.{LineAt}
+use Rattle.course.specs.Closed.{line-at}
 use Rattle.course.specs.Origins.{Each, Derived, Justified, course-origins}
 use Rattle.course.specs.Ends.{LastEmpty}
 use Rattle.course.specs.Sound.{Sound, resolve-sound, loadable-sound}
@@ -30,13 +29,10 @@ module _ (χ : Assignment) (d : 0 < χ .denominator) where
   abbrev Right : Line → Type 0
   Right l = T (lineHolds χ l) × Sound l
 
-  at : (earlier : List Step) (i : ℕ) (l : Line) → All (λ x. Right (x .line)) earlier → LineAt earlier i l → Right l
-  at earlier i l h a = all-place (λ x. Right (x .line)) (λ s. s .line ≡ l) earlier i (λ s r e. subst Right e r) h a
-
   derived-right : (earlier : List Step) (s : Step) → All (λ x. Right (x .line)) earlier → Derived order earlier s → Right (s .line)
   derived-right earlier s h k =
-      let u = at earlier (k .first) (k .upper) h (k .atFirst) in
-      let l = at earlier (k .second) (k .lower) h (k .atSecond) in (
+      let u = line-at Right earlier (k .first) (k .upper) (k .atFirst) h in
+      let l = line-at Right earlier (k .second) (k .lower) (k .atSecond) h in (
         dropped-is (λ m. T (lineHolds χ m)) (k .result)
             (resolve-holds χ d (k .variable) (k .upper) (k .lower) (resolvable (k .variable) (k .round) (k .upper) (k .lower) (u .1) (l .1) (k .place) (k .ofUpper) (k .ofLower)) (k .positive) (k .negative) (u .0) (l .0)),
         resolve-sound (k .variable) (k .upper) (k .lower) (s .line) (u .1) (l .1) (k .positive) (k .negative) (k .result),

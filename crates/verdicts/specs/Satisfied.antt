@@ -18,7 +18,9 @@ use Rattle.soundness.specs.WellFormed.{WellFormed}
 use Rattle.soundness.specs.PartsChosen.{chosen-same}
 use Rattle.soundness.specs.SplitProblem.{StepsHold, splitting-keeps}
 use Rattle.saturation.specs.Covered.{Covers}
+use Rattle.saturation.specs.Equal.{equal-covers}
 use Rattle.saturation.specs.Saturation.{LinesHold}
+use Rattle.saturation.specs.Finished.{all-pairs-map}
 use Rattle.saturation.specs.Formed.{saturation-formed}
 use Rattle.course.specs.Sound.{Sound, course-sound}
 use Rattle.course.specs.Ends.{EndsRight, course-ends}
@@ -39,14 +41,14 @@ module _ (p : Problem) (w : WellFormed p) (stops : Stops) (steps : List Step) (n
       (all-mapped Formed (λ x. x .line) steps (all-map (λ x. Sound (x .line)) (λ x. Formed (x .line)) steps (λ x h. h .formed) s))
       (all-mapped ProperLine (λ x. x .line) steps (all-map (λ x. Sound (x .line)) (λ x. ProperLine (x .line)) steps (λ x h. h .proper) s))
       (all-mapped (λ l. T (not (isEmpty l))) (λ x. x .line) steps (subst EndsRight e (course-ends stops order (loadableOf p))))
-      (subst (SaturatedTo order) e (course-saturated stops order (loadableOf p)))
+      (all-pairs-map _≡_ Covers equal-covers (lines steps) order (subst (SaturatedTo order) e (course-saturated stops order (loadableOf p))))
 
-  -- so does every piece, which one of them covers
+  -- so does every piece, which one of them equals
   pieces-hold : StepsHold (chosen steps) (loadableOf p)
   pieces-hold =
       let b = book-holds in
       all-map (λ x. Held steps (x .line)) (λ x. T (lineHolds (chosen steps) (x .line))) (loadableOf p)
-      (λ x h. all-any (λ s. T (lineHolds (chosen steps) (s .line))) (λ s. Covers (s .line) (x .line)) steps (λ s t c. c .gives (chosen steps) (b .denominator) t) (mapped-all (λ l. T (lineHolds (chosen steps) l)) (λ s. s .line) steps (b .lines)) h)
+      (λ x h. all-any (λ s. T (lineHolds (chosen steps) (s .line))) (λ s. s .line ≡ x .line) steps (λ s t c. rw c at t) (mapped-all (λ l. T (lineHolds (chosen steps) l)) (λ s. s .line) steps (b .lines)) h)
       (subst (HeldAll (loadableOf p)) e (course-loaded stops order (loadableOf p)))
 
   pub walk-satisfies : Satisfies (chosen steps) p

@@ -2,9 +2,9 @@
 use mathlib.Core.Path.{_≡_, refl}
 use mathlib.Core.Bool.{Bool}
 use mathlib.Core.List.{List, [], _∷_, _++_, append-assoc}
-use Prim.Native.Nat.{ℕ, zero, suc, _+_, _*_, _/_, _^_, _≤_, _<_}
+use Prim.Native.Nat.{ℕ, zero, suc, _+_, _*_, _/_, _^_, _<_}
 use native.Mathlib.Omega.{arith}
-use lib.IntN.{ℤ, natAbs}
+use lib.IntN.{ℤ}
 use lib.Dec.{T}
 use lib.ListN.{length}
 use Rattle.types.specs.declared.answers.Refusal.{Refusal}
@@ -12,8 +12,9 @@ use Rattle.rules.specs.Bytes.{toBytes, fromBytes, fromUnsigned, toUnsigned, amo
 use Rattle.rules.specs.Problem.{Reader, got, after, repeat, byte, number, tested, field, inRange, amount}
 use Rattle.lists.specs.Tests.{is-true}
 use Rattle.lists.specs.All.{All}
-use Rattle.encoding.specs.Bytes.{from-to}
-use Rattle.encoding.specs.Amounts.{in-range, unsigned-below, from-unsigned}
+use Rattle.vectors.specs.Amounts.{Small, range-small}
+use Rattle.layout.specs.Bytes.{fromBytes-toBytes}
+use Rattle.layout.specs.Amounts.{toUnsigned-<, fromUnsigned-toUnsigned, small-mag}
 
 -- from every place, the reader gets a and leaves the rest
 abbrev pub Reads : {A : Type 0} → Reader A → List ℕ → A → List ℕ → Type 0
@@ -25,8 +26,8 @@ unfolding number toBytes fromBytes after byte
 reads-bytes zero n rest place = (place, refl)
 reads-bytes (suc k) n rest place = let r = reads-bytes k (n / 256) rest (suc place) in (r .0, rw (r .1))
 
-pub reads-number : (k n : ℕ) (rest : List ℕ) → n < 256 ^ k → Reads (number k) (toBytes k n ++ rest) n rest
-reads-number k n rest h place = let r = reads-bytes k n rest place in (r .0, rw (from-to k n h) at (r .1))
+reads-number : (k n : ℕ) (rest : List ℕ) → n < 256 ^ k → Reads (number k) (toBytes k n ++ rest) n rest
+reads-number k n rest h place = let r = reads-bytes k n rest place in (r .0, rw (fromBytes-toBytes k n h) at (r .1))
 
 module _ (good : ℕ → Bool) (f : Refusal) where
   pub reads-field : (k n : ℕ) (rest : List ℕ) → n < 256 ^ k → T (good n) → Reads (field k good f) (toBytes k n ++ rest) n rest
@@ -38,17 +39,17 @@ module _ (good : ℕ → Bool) (f : Refusal) where
   unfolding field after tested number byte
   reads-byte n rest t place = let e : n + 256 * 0 ≡ n = omega arith in (suc place, rw (e, is-true (good n) t))
 
-pub reads-amount : (f : Refusal) (z : ℤ) (rest : List ℕ) → T (inRange z) → Reads (amount f) (toBytes 4 (toUnsigned z) ++ rest) z rest
+reads-amount : (f : Refusal) (z : ℤ) (rest : List ℕ) → Small z → Reads (amount f) (toBytes 4 (toUnsigned z) ++ rest) z rest
 unfolding amount after
 reads-amount f z rest h place =
-    let k : natAbs z ≤ 1000000000 = in-range z h in
-    let e : fromUnsigned (toUnsigned z) ≡ z = from-unsigned z (omega arith) in
-    let r = reads-field (λ n. inRange (fromUnsigned n)) f 4 (toUnsigned z) rest (unsigned-below z (omega arith)) (rw e h) place in
+    let m = small-mag z h in
+    let e = fromUnsigned-toUnsigned z m in
+    let r = reads-field (λ n. inRange (fromUnsigned n)) f 4 (toUnsigned z) rest (toUnsigned-< z m) (rw e (range-small z .1 h)) place in
     (r .0, rw (r .1, e))
 
 -- ---- several
 module _ {A : Type 0} (one : Reader A) (bytes : A → List ℕ) (all : List A → List ℕ) (P : A → Type 0) where
-  pub reads-repeat : all [] ≡ [] → ((x : A) (xs : List A) → all (x ∷ xs) ≡ bytes x ++ all xs) → ((x : A) (rest : List ℕ) → P x → Reads one (bytes x ++ rest) x rest)
+  reads-repeat : all [] ≡ [] → ((x : A) (xs : List A) → all (x ∷ xs) ≡ bytes x ++ all xs) → ((x : A) (rest : List ℕ) → P x → Reads one (bytes x ++ rest) x rest)
       → (xs : List A) (rest : List ℕ) → All P xs → Reads (repeat (length xs) one) (all xs ++ rest) xs rest
   unfolding repeat after
   reads-repeat nil cons step [] rest h place = (place, rw nil)
@@ -58,9 +59,9 @@ module _ {A : Type 0} (one : Reader A) (bytes : A → List ℕ) (all : List A �
       (s .0, rw (cons x xs, append-assoc (bytes x) (all xs) rest, r .1, s .1))
 
 module _ (f : Refusal) where
-  pub reads-amounts : (zs : List ℤ) (rest : List ℕ) → All (λ z. T (inRange z)) zs → Reads (repeat (length zs) (amount f)) (amountBytes zs ++ rest) zs rest
+  pub reads-amounts : (zs : List ℤ) (rest : List ℕ) → All Small zs → Reads (repeat (length zs) (amount f)) (amountBytes zs ++ rest) zs rest
   unfolding amountBytes
-  reads-amounts = reads-repeat (amount f) (λ z. toBytes 4 (toUnsigned z)) amountBytes (λ z. T (inRange z)) refl (λ z zs. refl) (reads-amount f)
+  reads-amounts = reads-repeat (amount f) (λ z. toBytes 4 (toUnsigned z)) amountBytes Small refl (λ z zs. refl) (reads-amount f)
 
   pub reads-list : (good : ℕ → Bool) (ns rest : List ℕ) → All (λ n. T (good n)) ns → Reads (repeat (length ns) (field 1 good f)) (ns ++ rest) ns rest
   reads-list good = reads-repeat (field 1 good f) (λ n. n ∷ []) (λ ns. ns) (λ n. T (good n)) refl (λ n ns. refl) (reads-byte good f)

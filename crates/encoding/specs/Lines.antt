@@ -1,34 +1,42 @@
--- A line is told from every other by its bytes: the relation, both sets of marks, and the amounts.
+-- A line is told from every other by its bytes: the relation, both sets of Boolean variables, and the amounts.
 use mathlib.Core.Path.{_≡_, refl, sym, ap, _∙_}
-use mathlib.Core.Bool.{Bool, true, false, not, cond}
+use mathlib.Core.Bool.{Bool, true, false, cond}
 use mathlib.Core.List.{List, [], _∷_, _++_}
 use mathlib.Core.Option.{Option, none, some}
 use Prim.Native.Nat.{ℕ, _^_, _<_}
 use native.Mathlib.Nat.{pow-succ'}
 use native.Mathlib.Omega.{arith}
-use lib.Dec.{T}
 use lib.ListN.{length, getD, drop, length-append}
-use mir.Facts.{T-not-not, not-T}
-use Rattle.rules.specs.Lists.{any}
 use Rattle.rules.specs.Bytes.{toBytes, fromBytes, fieldAt}
-use Rattle.rules.specs.Problem.{Constraint, inRange}
+use Rattle.rules.specs.Problem.{Constraint}
 use Rattle.rules.specs.Lines.{Booleans, Line}
-use Rattle.rules.specs.Steps.{relationByte, mask, row, lineBytes}
-use Rattle.rules.specs.Elimination.{overflows}
-use Rattle.lists.specs.Tests.{is-false, clash}
-use Rattle.lists.specs.All.{all-map, all-any, any-no, any-yes}
+use Rattle.rules.specs.Steps.{Step, relationByte, mask, row, lineBytes}
+use Rattle.lists.specs.All.{All}
+use Rattle.lists.specs.Equal.{append-injective}
+use Rattle.vectors.specs.Amounts.{SmallAmounts, row-small}
+use Rattle.layout.specs.Bytes.{fromBytes-toBytes}
+use Rattle.layout.specs.Amounts.{amountBytes-injective}
 use Rattle.resolution.specs.Formed.{Formed, Eight}
-use Rattle.encoding.specs.Bytes.{from-to}
-use Rattle.encoding.specs.Amounts.{append-split, Amounts, amounts-injective}
 
--- ---- marks
-pub mask-below : (s : Booleans) → mask s < 2 ^ length s
+-- what a line must be to come back from its bytes: 32 places for each sign, eight coefficients, and every amount in its range
+pub record Encodable (l : Line) : Type 0 where
+  pub formed : Formed l
+  pub small : SmallAmounts (l .constraint)
+
+abbrev pub AllEncodable : List Step → Type 0
+AllEncodable ss = All (λ s. Encodable (s .line)) ss
+
+-- ---- Boolean variables
+mask-below : (s : Booleans) → mask s < 2 ^ length s
 unfolding mask
 mask-below [] = omega arith
-mask-below (true ∷ s) = let h = mask-below s in omega (arith, pow-succ' 2 (length s))
-mask-below (false ∷ s) = let h = mask-below s in omega (arith, pow-succ' 2 (length s))
+mask-below (true ∷ s) = omega (arith, mask-below s, pow-succ' 2 (length s))
+mask-below (false ∷ s) = omega (arith, mask-below s, pow-succ' 2 (length s))
 
-pub mask-injective : (s t : Booleans) → length s ≡ length t → mask s ≡ mask t → s ≡ t
+mask-back : (s : Booleans) → length s ≡ 32 → fromBytes (toBytes 4 (mask s)) ≡ mask s
+mask-back s l = let b : mask s < 2 ^ 32 = rw l at (mask-below s) in fromBytes-toBytes 4 (mask s) b
+
+mask-injective : (s t : Booleans) → length s ≡ length t → mask s ≡ mask t → s ≡ t
 unfolding mask
 mask-injective [] [] l e = refl
 mask-injective [] (b ∷ t) l e = absurd (omega arith)
@@ -55,41 +63,17 @@ constraint-injective none none f g e r = refl
 constraint-injective none (some d) f g e r = absurd (some-not-none (d .strict) (omega arith))
 constraint-injective (some c) none f g e r = absurd (some-not-none (c .strict) e)
 constraint-injective (some c) (some d) f g e r =
-    let p = append-split (c .coefficients) (d .coefficients) (c .bound ∷ []) (d .bound ∷ []) (omega arith) r in
+    let p = append-injective (c .coefficients) (d .coefficients) (c .bound ∷ []) (d .bound ∷ []) (omega arith) r in
     let b : c .bound ≡ d .bound = cc (p .1) in
     let s = strict-injective (c .strict) (d .strict) e in
     λ i. some (record { strict = s i; coefficients = p .0 i; bound = b i })
 
-pub row-length : (k : Option Constraint) → Eight k → length (row k) ≡ 9
+pub length-row : (k : Option Constraint) → Eight k → length (row k) ≡ 9
 unfolding row
-row-length none f = refl
-row-length (some c) f = rw (length-append (c .coefficients) (c .bound ∷ [])) (omega arith)
+length-row none f = refl
+length-row (some c) f = rw (length-append (c .coefficients) (c .bound ∷ [])) (omega arith)
 
--- ---- the line
--- what a line must be to come back from its bytes: 32 marks in each sign, eight coefficients, and every amount in the range
-pub record Encodable (l : Line) : Type 0 where
-  pub formed : Formed l
-  pub amounts : Amounts (row (l .constraint))
-
--- a result that is not wide
-pub within : (l : Line) → Formed l → T (not (overflows l)) → Encodable l
-unfolding overflows
-within l f h =
-    record {
-      formed = f;
-      amounts = all-map (λ z. T (not (not (inRange z)))) (λ z. T (inRange z)) (row (l .constraint)) (λ z t. T-not-not (inRange z) t) (any-no (λ z. not (inRange z)) (row (l .constraint)) h);
-    }
-
-pub no-overflow : (l : Line) → Encodable l → overflows l ≡ false
-unfolding overflows
-no-overflow l h =
-    is-false (any (λ z. not (inRange z)) (row (l .constraint)))
-    (not-T (any (λ z. not (inRange z)) (row (l .constraint)))
-    (λ t. all-any (λ z. T (inRange z)) (λ z. T (not (inRange z))) (row (l .constraint)) (λ z a b. clash (inRange z) a b) (h .amounts) (any-yes (λ z. not (inRange z)) (row (l .constraint)) t)))
-
-mask-back : (s : Booleans) → length s ≡ 32 → fromBytes (toBytes 4 (mask s)) ≡ mask s
-mask-back s l = let b : mask s < 2 ^ 32 = rw l at (mask-below s) in from-to 4 (mask s) b
-
+-- ---- the line, whatever follows
 pub line-injective : (l m : Line) (x y : List ℕ) → Encodable l → Encodable m → lineBytes l ++ x ≡ lineBytes m ++ y → l ≡ m
 unfolding lineBytes toBytes fieldAt fromBytes
 line-injective l m x y h k e =
@@ -99,10 +83,7 @@ line-injective l m x y h k e =
     let n : fromBytes (toBytes 4 (mask (l .negative))) ≡ fromBytes (toBytes 4 (mask (m .negative))) = ap (fieldAt 6 4) e in
     let positive = mask-injective (l .positive) (m .positive) (omega (arith, f .positive, g .positive)) (sym (mask-back (l .positive) (f .positive)) ∙ p ∙ mask-back (m .positive) (g .positive)) in
     let negative = mask-injective (l .negative) (m .negative) (omega (arith, f .negative, g .negative)) (sym (mask-back (l .negative) (f .negative)) ∙ n ∙ mask-back (m .negative) (g .negative)) in
-    let r = amounts-injective (row (l .constraint)) (row (m .constraint)) x y (omega (arith, row-length (l .constraint) (f .constraint), row-length (m .constraint) (g .constraint))) (h .amounts) (k .amounts) (ap (drop 10) e) in
+    let lengths : length (row (l .constraint)) ≡ length (row (m .constraint)) = omega (arith, length-row (l .constraint) (f .constraint), length-row (m .constraint) (g .constraint)) in
+    let r = amountBytes-injective (row (l .constraint)) (row (m .constraint)) x y lengths (row-small (l .constraint) .0 (h .small)) (row-small (m .constraint) .0 (k .small)) (ap (drop 10) e) in
     let constraint = constraint-injective (l .constraint) (m .constraint) (f .constraint) (g .constraint) (ap (λ bs. getD bs 0 0) e) r in
     λ i. record { positive = positive i; negative = negative i; constraint = constraint i }
-
--- with nothing after it
-pub lineBytes-injective : (l m : Line) → Encodable l → Encodable m → lineBytes l ≡ lineBytes m → l ≡ m
-lineBytes-injective l m h k e = line-injective l m [] [] h k (ap (λ bs. bs ++ []) e)
