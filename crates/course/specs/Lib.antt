@@ -12,9 +12,9 @@ pub mod Count
 pub mod Closed
 pub mod Consistent
 pub mod PairBound
+pub mod Taken
 pub mod Saturated
 pub mod Origins
 pub mod Ends
-pub mod Loaded
 pub mod Sound
 pub mod Pairable

@@ -22,7 +22,7 @@ use Rattle.lists.specs.Tests.{is-true}
 use Rattle.lists.specs.All.{All, all-map, map-append}
 use Rattle.lists.specs.Places.{place-below}
 use Rattle.resolution.specs.Formed.{Formed}
-use Rattle.course.specs.Saturated.{lines}
+use Rattle.course.specs.Taken.{lines}
 use Rattle.course.specs.Origins.{Each, Derived, Justified}
 use Rattle.course.specs.Ends.{LastEmpty}
 use Rattle.encoding.specs.Lines.{Encodable, AllEncodable}

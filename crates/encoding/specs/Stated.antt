@@ -21,7 +21,7 @@ use Rattle.lists.specs.Equal.{same-yes, yes-same}
 use Rattle.lists.specs.Dropped.{DroppedOr}
 use Rattle.vectors.specs.Amounts.{overflows-no}
 use Rattle.course.specs.Pairs.{LineAt}
-use Rattle.course.specs.Saturated.{lines}
+use Rattle.course.specs.Taken.{lines}
 use Rattle.encoding.specs.Lines.{Encodable, AllEncodable}
 use Rattle.encoding.specs.Steps.{step-injective}
 

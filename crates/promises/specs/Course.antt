@@ -4,18 +4,13 @@ use Rattle.rules.specs.Problem.{Problem}
 use Rattle.rules.specs.Elimination.{Stops, order, loadableOf, course}
 use Rattle.rules.specs.Needs.{stepsOf}
 use Rattle.course.specs.Origins.{Each, Justified, course-origins}
-use Rattle.course.specs.Loaded.{HeldAll, course-loaded}
-use Rattle.course.specs.Saturated.{SaturatedTo, course-saturated}
+use Rattle.course.specs.Taken.{Complete, course-complete}
 
 module _ (p : Problem) (stops : Stops) where
   pub course-lines : Each (Justified order (loadableOf p)) [] (stepsOf (course stops p))
   unfolding course
   course-lines = course-origins order (loadableOf p) stops
 
-  pub course-pairs : SaturatedTo order (course stops p)
+  pub course-taken : Complete order (loadableOf p) (course stops p)
   unfolding course
-  course-pairs = course-saturated stops order (loadableOf p)
-
-  pub course-pieces : HeldAll (loadableOf p) (course stops p)
-  unfolding course
-  course-pieces = course-loaded stops order (loadableOf p)
+  course-taken = course-complete stops order (loadableOf p)

@@ -16,10 +16,9 @@ use Rattle.rules.specs.Elimination.{Stops, order, loadableOf, course}
 use Rattle.rules.specs.Needs.{stepsOf}
 use Rattle.rules.specs.Calls.{sound, read, Solving, solve, wholeSteps, proofChecked, modelChecked, evidence, evidenceBytes}
 use Rattle.course.specs.Origins.{Each, Justified}
-use Rattle.course.specs.Loaded.{HeldAll}
-use Rattle.course.specs.Saturated.{SaturatedTo}
+use Rattle.course.specs.Taken.{Complete}
 use Rattle.promises.specs.Words.{Refutes, WritesChoice}
-use Rattle.promises.specs.Course.{course-lines, course-pairs, course-pieces}
+use Rattle.promises.specs.Course.{course-lines, course-taken}
 use Rattle.promises.specs.Checked.{book-exactly, sheet-exactly}
 use Rattle.promises.specs.HandedBack.{model-handed-back, proof-handed-back}
 
@@ -27,16 +26,15 @@ pub record Demand2 (input : List ℕ) (p : Problem) : Type 0 where
   -- "Our book is the course of the published Davis-Putnam and Fourier-Motzkin rules as 01 sets it out: each line is the clause or
   -- resolvent it names,": a piece, or the result of two earlier lines of its turn
   pub lines : (stops : Stops) → Each (Justified order (loadableOf p)) [] (stepsOf (course stops p))
-  -- "and none is left out.": at the end of a course that runs to it, every piece equals a line, and every result of a turn is dropped or
-  -- equals one
-  pub results : (stops : Stops) → SaturatedTo order (course stops p)
-  pub pieces : (stops : Stops) → HeldAll (loadableOf p) (course stops p)
+  -- "and none is left out.": of all pieces and all results in 01's order, each before the one that ended the course is dropped by tidying
+  -- or equals a line, and all are if none ended it; the pairs count the results so far
+  pub complete : (stops : Stops) → Complete order (loadableOf p) (course stops p)
   -- "The check accepts a book exactly if its lines follow and the last is empty, a sheet exactly if every clause holds,"
   pub book : (limits : Limits) (bytes : List ℕ) → proofChecked limits input bytes ≡ Accepted ↔ (T (wholeSteps limits (length bytes)) × Refutes (loadableOf p) (length bytes / limit.stepBytes) bytes)
   pub sheet : (bytes : List ℕ) → modelChecked input bytes ≡ Accepted ↔ WritesChoice p bytes
 
 pub demand2 : (input : List ℕ) (p : Problem) → read input ≡ sound p → Demand2 input p
-demand2 input p e = record { lines = course-lines p; results = course-pairs p; pieces = course-pieces p; book = book-exactly input p e; sheet = sheet-exactly input p e }
+demand2 input p e = record { lines = course-lines p; complete = course-taken p; book = book-exactly input p e; sheet = sheet-exactly input p e }
 
 -- "so every non-empty part our solver hands back.": with its own answer, and what it left in the buffers
 pub record HandedBack (limits : Limits) (input : List ℕ) (ours : Solving) : Type 0 where

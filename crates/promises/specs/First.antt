@@ -9,14 +9,13 @@ use native.Mathlib.Omega.{arith}
 use Rattle.types.specs.declared.answers.Refusal.the-variants as refusal
 use Rattle.types.specs.declared.limits.Limits.{Limits}
 use Rattle.rules.specs.Problem.{Problem}
-use Rattle.rules.specs.Steps.{Step}
 use Rattle.rules.specs.Elimination.{Stops, limited, unlimited, End, empty, overflow, outOfSteps, State, running, ended, order, loadableOf, course}
 use Rattle.rules.specs.Calls.{concluded, said}
 use Rattle.course.specs.Events.{Event, events}
 use Rattle.course.specs.Cut.{stopOf, stopAt, endedAt, cut}
 use Rattle.course.specs.Held.{Unstopped, unlimited-unstopped}
 use Rattle.promises.specs.Words.{IsRefused, firstStop}
-use Rattle.promises.specs.Outcomes.{finished, walkSheet, concluded-running, answerOf, finished-not-stopped}
+use Rattle.promises.specs.Outcomes.{walkSheet, concluded-running, answerOf, finished-not-stopped}
 use Rattle.promises.specs.Reported.{course-cut}
 
 -- how a course has ended, and what stopped it

@@ -2,7 +2,7 @@
 use mathlib.Core.Path.{_≡_}
 use mathlib.Core.Bool.{Bool, not}
 use mathlib.Core.Logic.{_⊎_}
-use mathlib.Core.List.{List}
+use mathlib.Core.List.{List, _++_}
 use mathlib.Core.Option.{Option}
 use Prim.Native.Nat.{ℕ, suc, _≤_, _<_}
 use native.Mathlib.Omega.{arith}
@@ -14,7 +14,7 @@ use Rattle.rules.specs.Lines.{Line, Variable, lineHolds, positively, negatively
 use Rattle.rules.specs.Resolve.{resolvent, resolve}
 use Rattle.rules.specs.Elimination.{roundOf}
 use Rattle.lists.specs.Tests.{clash}
-use Rattle.lists.specs.All.{All, Any, all-any, all-map, filter-all}
+use Rattle.lists.specs.All.{All, Any, all-any, all-map, any-left, filter-all}
 use Rattle.lists.specs.Dropped.{DroppedOr, dropped-map, dropped-both}
 use Rattle.resolution.specs.NormalLine.{normal-line-holds}
 use Rattle.resolution.specs.Variables.{resolve-variables, resolve-without}
@@ -29,6 +29,10 @@ pub record Covers (j r : Line) : Type 0 where
 -- a resolvent: dropped, or a line of S equals it, or covers it, or whatever R says
 abbrev pub Found : (Line → Line → Type 0) → List Line → Option Line → Type 0
 Found R S o = DroppedOr (λ r. Any (λ j. R j r) S) o
+
+-- ---- of more lines
+pub found-more : (R : Line → Line → Type 0) (S more : List Line) (o : Option Line) → Found R S o → Found R (S ++ more) o
+found-more R S more o c = dropped-map (λ r. Any (λ j. R j r) S) (λ r. Any (λ j. R j r) (S ++ more)) o (λ r h. any-left (λ j. R j r) S more h) c
 
 -- an upper and a lower of round t, whose variable is v: their resolvent is dropped or found in S
 abbrev pub PairDone : (Line → Line → Type 0) → List Line → List Variable → ℕ → Variable → Line → Line → Type 0

@@ -9,5 +9,4 @@ pub mod Saturation
 pub mod Equal
 pub mod Formed
 pub mod Flaws
-pub mod Finished
 pub mod Tried

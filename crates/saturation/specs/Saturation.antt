@@ -13,14 +13,16 @@ use mir.Facts.{eqb-yes, eqb-no}
 use Rattle.rules.specs.Lists.{any, filter}
 use Rattle.rules.specs.Meaning.{Assignment}
 use Rattle.rules.specs.Lines.{Line, Variable, lineHolds, contains}
+use Rattle.rules.specs.Resolve.{resolve}
 use Rattle.rules.specs.Elimination.{roundOf}
 use Rattle.rules.specs.Values.{assign, start, walkFrom, walk}
 use Rattle.lists.specs.Tests.{split}
-use Rattle.lists.specs.All.{All, all-map, all-both, all-filter}
+use Rattle.lists.specs.All.{All, all-map, all-both, all-filter, Any, any-map}
+use Rattle.lists.specs.Dropped.{dropped-map}
 use Rattle.saturation.specs.Rule.{Rule}
 use Rattle.saturation.specs.Assign.{assign-rule}
 use Rattle.saturation.specs.Rounds.{At, drop-at, drop-next, drop-none, round-below, round-contains, round-before}
-use Rattle.saturation.specs.Covered.{Covers, RoundDone, HoldFrom, round-holds}
+use Rattle.saturation.specs.Covered.{Covers, PairDone, RoundDone, HoldFrom, round-holds}
 
 -- every line contains a variable of the order, so that it has a round
 abbrev pub HaveRounds : List Line → List Variable → Type 0
@@ -29,6 +31,13 @@ HaveRounds S variables = All (λ l. T (any (λ v. contains v l) variables)) S
 -- of every round all pairs are dropped or found
 abbrev pub AllPairs : (Line → Line → Type 0) → List Line → List Variable → Type 0
 AllPairs R S variables = (t : ℕ) (v : Variable) → At variables t v → RoundDone R S variables t v
+
+-- what is found by one relation is found by a wider one
+pub all-pairs-map : (R Q : Line → Line → Type 0) → ((j r : Line) → R j r → Q j r) → (S : List Line) (variables : List Variable) → AllPairs R S variables → AllPairs Q S variables
+all-pairs-map R Q f S variables pairs t v a =
+    all-map (λ u. All (PairDone R S variables t v u) S) (λ u. All (PairDone Q S variables t v u) S) S
+    (λ u h. all-map (PairDone R S variables t v u) (PairDone Q S variables t v u) S
+    (λ l g eu el p n. dropped-map (λ r. Any (λ j. R j r) S) (λ r. Any (λ j. Q j r) S) (resolve v u l) (λ r k. any-map (λ j. R j r) (λ j. Q j r) S (λ j. f j r) k) (g eu el p n)) h) (pairs t v a)
 
 pub record LinesHold (χ : Assignment) (S : List Line) : Type 0 where
   pub denominator : 1 ≤ χ .denominator

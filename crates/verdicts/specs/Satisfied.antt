@@ -11,7 +11,7 @@ use Rattle.rules.specs.Steps.{Step}
 use Rattle.rules.specs.Elimination.{Stops, State, running, order, loadableOf, eliminate}
 use Rattle.rules.specs.Needs.{stepsOf}
 use Rattle.rules.specs.Values.{walk}
-use Rattle.lists.specs.All.{All, all-map, all-any, all-mapped, mapped-all}
+use Rattle.lists.specs.All.{All, Any, all-map, all-any, all-mapped}
 use Rattle.resolution.specs.Formed.{Formed}
 use Rattle.resolution.specs.Proper.{ProperLine}
 use Rattle.soundness.specs.WellFormed.{WellFormed}
@@ -19,13 +19,12 @@ use Rattle.soundness.specs.PartsChosen.{chosen-same}
 use Rattle.soundness.specs.SplitProblem.{StepsHold, splitting-keeps}
 use Rattle.saturation.specs.Covered.{Covers}
 use Rattle.saturation.specs.Equal.{equal-covers}
-use Rattle.saturation.specs.Saturation.{LinesHold}
-use Rattle.saturation.specs.Finished.{all-pairs-map}
+use Rattle.saturation.specs.Saturation.{LinesHold, all-pairs-map}
 use Rattle.saturation.specs.Formed.{saturation-formed}
 use Rattle.course.specs.Sound.{Sound, course-sound}
 use Rattle.course.specs.Ends.{EndsRight, course-ends}
-use Rattle.course.specs.Loaded.{Held, HeldAll, course-loaded}
-use Rattle.course.specs.Saturated.{lines, SaturatedTo, course-saturated}
+use Rattle.course.specs.Taken.{lines}
+use Rattle.course.specs.Saturated.{course-loaded, course-saturated}
 
 -- the choice of the walk over these lines
 abbrev pub chosen : List Step → Assignment
@@ -41,15 +40,14 @@ module _ (p : Problem) (w : WellFormed p) (stops : Stops) (steps : List Step) (n
       (all-mapped Formed (λ x. x .line) steps (all-map (λ x. Sound (x .line)) (λ x. Formed (x .line)) steps (λ x h. h .formed) s))
       (all-mapped ProperLine (λ x. x .line) steps (all-map (λ x. Sound (x .line)) (λ x. ProperLine (x .line)) steps (λ x h. h .proper) s))
       (all-mapped (λ l. T (not (isEmpty l))) (λ x. x .line) steps (subst EndsRight e (course-ends stops order (loadableOf p))))
-      (all-pairs-map _≡_ Covers equal-covers (lines steps) order (subst (SaturatedTo order) e (course-saturated stops order (loadableOf p))))
+      (all-pairs-map _≡_ Covers equal-covers (lines steps) order (course-saturated stops order (loadableOf p) steps n e))
 
   -- so does every piece, which one of them equals
   pieces-hold : StepsHold (chosen steps) (loadableOf p)
   pieces-hold =
       let b = book-holds in
-      all-map (λ x. Held steps (x .line)) (λ x. T (lineHolds (chosen steps) (x .line))) (loadableOf p)
-      (λ x h. all-any (λ s. T (lineHolds (chosen steps) (s .line))) (λ s. s .line ≡ x .line) steps (λ s t c. rw c at t) (mapped-all (λ l. T (lineHolds (chosen steps) l)) (λ s. s .line) steps (b .lines)) h)
-      (subst (HeldAll (loadableOf p)) e (course-loaded stops order (loadableOf p)))
+      all-map (λ x. Any (λ j. j ≡ x .line) (lines steps)) (λ x. T (lineHolds (chosen steps) (x .line))) (loadableOf p)
+      (λ x h. all-any (λ l. T (lineHolds (chosen steps) l)) (λ j. j ≡ x .line) (lines steps) (λ j t c. rw c at t) (b .lines) h) (course-loaded stops order (loadableOf p) steps n e)
 
   pub walk-satisfies : Satisfies (chosen steps) p
   walk-satisfies =
