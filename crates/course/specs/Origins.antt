@@ -1,6 +1,6 @@
 -- Each line of a course is the piece or the result that it names, of lines before it.
 use mathlib.Core.Path.{_≡_, refl}
-use mathlib.Core.Bool.{Bool, false}
+use mathlib.Core.Bool.{Bool, false, not}
 use mathlib.Core.Logic.{_⊎_, inl, inr}
 use mathlib.Core.List.{List, [], _∷_, _++_, append-assoc, append-nil}
 use mathlib.Core.Option.{some}
@@ -10,11 +10,11 @@ use lib.ListN.{drop}
 use Rattle.rules.specs.Lines.{Line, Variable, positively, negatively}
 use Rattle.rules.specs.Resolve.{resolve}
 use Rattle.rules.specs.Steps.{Step, resolved}
-use Rattle.rules.specs.Elimination.{Stops, Pair, roundOf, add, eliminate}
+use Rattle.rules.specs.Elimination.{Stops, Pair, roundOf, covered, add, eliminate}
 use Rattle.rules.specs.Needs.{stepsOf}
 use Rattle.lists.specs.All.{Any}
 use Rattle.saturation.specs.Rounds.{At, drop-at}
-use Rattle.course.specs.States.{add-steps}
+use Rattle.course.specs.States.{add-steps, add-new}
 use Rattle.course.specs.Pairs.{LineAt, PairOf}
 use Rattle.course.specs.Induction.{resultOf, course-induction}
 
@@ -84,3 +84,17 @@ module _ (variables : List Variable) (parts : List Step) where
           dropped = λ t v vs e p steps n q r h. h;
           result = λ t v vs e p l steps n q r h. add-origins (stops .atLine l) (resultOf v p l) steps (suc n) (inr (derived t v vs e p l steps q r)) h;
         }) tt
+
+-- ---- no two lines are equal
+abbrev pub Fresh : List Step → Step → Type 0
+Fresh earlier s = T (not (covered (s .line) earlier))
+
+pub course-fresh : (stops : Stops) (variables : List Variable) (parts : List Step) → Each Fresh [] (stepsOf (eliminate stops variables parts))
+unfolding stepsOf
+course-fresh stops variables parts =
+    course-induction stops variables parts (λ state. Each Fresh [] (stepsOf state))
+    (record {
+      piece = λ s steps n m h. add-new (Each Fresh []) stops false s steps n h (each-append Fresh [] steps s h);
+      dropped = λ t v vs e p steps n q r h. h;
+      result = λ t v vs e p l steps n q r h. add-new (Each Fresh []) stops (stops .atLine l) (resultOf v p l) steps (suc n) h (each-append Fresh [] steps (resultOf v p l) h);
+    }) tt

@@ -47,3 +47,15 @@ module _ (P : State → Type 0) (s : Step) (steps : List Step) (n : ℕ) where
 pub add-steps : (P : List Step → Type 0) (stops : Stops) (w : Bool) (s : Step) (steps : List Step) (n : ℕ) → P steps → (T (not (stops .atSteps (length steps))) → P (steps ++ (s ∷ []))) → P (stepsOf (add stops w s steps n))
 unfolding stepsOf
 add-steps P stops w s steps n h k = add-cases (λ state. P (stepsOf state)) s steps n stops w (λ w. h) (λ z. h) (λ m. h) (λ m e. k m) (λ m e. k m)
+
+-- and it equals none of them
+pub add-new : (P : List Step → Type 0) (stops : Stops) (w : Bool) (s : Step) (steps : List Step) (n : ℕ) → P steps → (T (not (covered (s .line) steps)) → P (steps ++ (s ∷ []))) → P (stepsOf (add stops w s steps n))
+unfolding add placed stepsOf
+add-new P stops w s steps n h k = by w (covered (s .line) steps) (stops .atSteps (length steps)) (isEmpty (s .line)) k
+  where
+    by : (w known many blank : Bool) → (T (not known) → P (steps ++ (s ∷ []))) → P (stepsOf (placed w known many blank s steps n))
+    by true known many blank k = h
+    by false true many blank k = h
+    by false false true blank k = h
+    by false false false true k = k tt
+    by false false false false k = k tt

@@ -1,13 +1,14 @@
 -- Handing back, with the solver's own answer and what it left in the buffers: a part that is not empty is accepted.
-use mathlib.Core.Path.{_≡_, refl, subst}
-use mathlib.Core.Bool.{Bool, _||_}
+use mathlib.Core.Path.{_≡_, refl, ap, subst}
+use mathlib.Core.Bool.{Bool, not, _||_}
 use mathlib.Core.Logic.{_⊎_, inl, inr, ⊎-elim}
 use mathlib.Core.List.{List}
 use Prim.Native.Nat.{ℕ, _*_, _≤_, _<_}
 use native.Mathlib.Omega.{arith}
-use lib.Dec.{ltb, eqb, eqb→eq, ltb→lt, nltb→le}
+use lib.Dec.{T, ltb, eqb, eqb→eq, ltb→lt, nltb→le}
 use lib.ListN.{length, take, drop}
 use lib.Seq.{take-at}
+use mir.Facts.{no-ltb, yes-eqb}
 use Rattle.types.specs.declared.answers.Refusal.{Refusal}
 use Rattle.types.specs.declared.answers.Refusal.the-variants.{ShortProof, ShortModel, LongProblem, Truncated, Booleans, Rationals, Clauses, Literal, Constraints, Relation, Amount, Trailing, Splits, Overflow, OutOfSteps, ProofLength, BadModel}
 use Rattle.types.specs.declared.answers.Verdict.{Verdict}
@@ -21,9 +22,11 @@ use Rattle.types.specs.declared.limits.Limits.{Limits}
 use Rattle.types.specs.Limits as limit
 use Rattle.types.specs.Answers.{refusalNumber, verdictNumber, answerNumber, answerValue}
 use Rattle.rules.specs.Problem.{Problem}
+use Rattle.rules.specs.Elimination.{order, loadableOf, course}
 use Rattle.rules.specs.Calls.{Reading, faulty, sound, read, Solving, solve, proofChecked, modelChecked, evidence, evidenceBytes}
 use Rattle.lists.specs.Tests.{split, is-true, is-false}
 use Rattle.soundness.specs.ModelChecked.{satisfying-model-checked}
+use Rattle.course.specs.Held.{limited-held}
 use Rattle.promises.specs.Words.{Comes, FullSize, OurSheet}
 use Rattle.promises.specs.Demand1.{demand1}
 use Rattle.promises.specs.Demand3.{demand3}
@@ -40,6 +43,20 @@ module _ (limits : Limits) (number steps : ℕ) (proof model : List ℕ) where
       (λ t. ⊎-elim (λ u. rw (is-false refuses t, evidence, is-true (eqb number 64) u) (m (eqb→eq number 64 u)))
       (λ u. ⊎-elim (λ v. rw (is-false refuses t, evidence, is-false (eqb number 64) u, is-true (eqb number 65) v) (b (eqb→eq number 65 v)))
       (λ v. rw (is-false refuses t, evidence, is-false (eqb number 64) u, is-false (eqb number 65) v) z) (split (eqb number 65))) (split (eqb number 64))) (split refuses)
+
+  -- of buffers that are not refused
+  module _ (book : limit.proofBytes limits ≤ length proof) (sheet : limit.modelBytes ≤ length model) (few : steps ≤ limits .steps) where
+    accepts : T (not refuses)
+    accepts =
+        rw (is-false (ltb (length proof) (limit.proofBytes limits)) (no-ltb {a = length proof} {b = limit.proofBytes limits} book), is-false (ltb (length model) limit.modelBytes) (no-ltb {a = length model} {b = limit.modelBytes} sheet), is-false (ltb (limits .steps) steps) (no-ltb {a = limits .steps} {b = steps} few)) tt
+
+    is-model : number ≡ 64 → evidence limits number steps proof model ≡ OfModel limit.modelBytes
+    unfolding evidence verdictNumber
+    is-model e = rw (is-false refuses accepts, evidence, is-true (eqb number 64) (yes-eqb e))
+
+    is-proof : number ≡ 65 → evidence limits number steps proof model ≡ OfProof (limit.stepBytes * steps)
+    unfolding evidence verdictNumber
+    is-proof e = rw (is-false refuses accepts, evidence, is-false (eqb number 64) (rw e tt), is-true (eqb number 65) (yes-eqb e))
 
   of-model : (n : ℕ) → evidence limits number steps proof model ≡ OfModel n → (number ≡ 64) × (n ≡ limit.modelBytes)
   of-model n = parts (λ e. e ≡ OfModel n → (number ≡ 64) × (n ≡ limit.modelBytes)) (λ e. absurd (let z : _≡_ {A = ℕ} 0 1 = cc in omega arith)) (λ k e. (k, cc)) (λ k e. absurd (let z : _≡_ {A = ℕ} 0 1 = cc in omega arith))
@@ -81,6 +98,11 @@ number-unsatisfiable (Decided Satisfiable n) e = absurd (omega arith)
 number-unsatisfiable (Decided Unsatisfiable n) e = refl
 number-unsatisfiable (Decided Unwritten n) e = absurd (omega arith)
 number-unsatisfiable (Refused f n) e = absurd (omega (arith, refusal-below f))
+
+comes-number : (v : Verdict) (a : Answer) → Comes v a → answerNumber a ≡ verdictNumber v
+unfolding answerNumber
+comes-number v (Decided u n) e = ap verdictNumber e
+comes-number v (Refused f n) e = absurd e
 
 -- ---- a verdict comes only for a question read without fault, and full-size buffers
 pub record Read (limits : Limits) (input book sheet : List ℕ) : Type 0 where
@@ -135,3 +157,25 @@ module _ (limits : Limits) (input book sheet : List ℕ) where
       let r = verdict-read Unsatisfiable c in
       inr (rw (k .1) (demand3 limits few input (r .problem) (r .reads) book sheet (r .full) .accepted c)))
       (of-proof limits (answerNumber (ours .solved .answer)) (answerValue (ours .solved .answer)) (ours .proof) (ours .model) n e)
+
+  -- after "agrees" it is the sheet, after "cannot agree" the used lines
+  module _ (small : limits .steps ≤ 65536) where
+    held : (p : Problem) → read input ≡ sound p → FullSize limits book sheet → answerValue (ours .solved .answer) ≤ limits .steps
+    unfolding course
+    held p e full = rw (demand3 limits small input p e book sheet full .lines) (limited-held limits order (loadableOf p))
+
+    pub agrees-handed : Comes Satisfiable (ours .solved .answer) → handed ≡ OfModel limit.modelBytes
+    unfolding verdictNumber
+    agrees-handed c =
+        let r = verdict-read Satisfiable c in
+        let z = demand1 limits input book sheet .sizes in
+        is-model limits (answerNumber (ours .solved .answer)) (answerValue (ours .solved .answer)) (ours .proof) (ours .model) (rw (z .0) (r .full .book)) (rw (z .1) (r .full .sheet)) (held (r .problem) (r .reads) (r .full))
+        (comes-number Satisfiable (ours .solved .answer) c)
+
+    pub cannot-handed : Comes Unsatisfiable (ours .solved .answer) → handed ≡ OfProof (limit.stepBytes * answerValue (ours .solved .answer))
+    unfolding verdictNumber
+    cannot-handed c =
+        let r = verdict-read Unsatisfiable c in
+        let z = demand1 limits input book sheet .sizes in
+        is-proof limits (answerNumber (ours .solved .answer)) (answerValue (ours .solved .answer)) (ours .proof) (ours .model) (rw (z .0) (r .full .book)) (rw (z .1) (r .full .sheet)) (held (r .problem) (r .reads) (r .full))
+        (comes-number Unsatisfiable (ours .solved .answer) c)

@@ -14,3 +14,4 @@ pub mod Readers
 pub mod Reading
 pub mod ProofChecked
 pub mod ModelChecked
+pub mod Named
