@@ -7,6 +7,7 @@ pub mod Agreement
 pub mod Written
 pub mod ModelAccepted
 pub mod Stated
+pub mod Following
 pub mod ProofAccepted
 pub mod CourseAccepted
 pub mod ProofBytes

@@ -1,13 +1,14 @@
 -- The check accepts a book exactly if its lines follow and the last is empty, and a sheet exactly if every clause holds.
-use mathlib.Core.Path.{_≡_, refl, subst}
-use mathlib.Core.Bool.{Bool, true, false}
+use mathlib.Core.Path.{_≡_, refl}
+use mathlib.Core.Bool.{Bool, true, false, _&&_}
 use mathlib.Core.Logic.{_↔_, ⊎-elim}
 use mathlib.Core.List.{List, [], _∷_, _++_}
 use mathlib.Core.Option.{Option, none, some}
-use Prim.Native.Nat.{ℕ, zero, suc, _/_}
+use Prim.Native.Nat.{ℕ, zero, suc, _+_, _*_, _/_, _%_, _≤_}
 use native.Mathlib.Omega.{arith}
-use lib.Dec.{T}
-use lib.ListN.{length, take, drop}
+use lib.Dec.{T, eqb, leb, leb→le}
+use lib.ListN.{length, take, drop, length-append}
+use mir.Facts.{and-yes}
 use Rattle.types.specs.declared.answers.Refusal.{Refusal}
 use Rattle.types.specs.declared.answers.Refusal.the-variants.{ProofLength}
 use Rattle.types.specs.declared.answers.Checked.{Checked}
@@ -23,36 +24,62 @@ use Rattle.rules.specs.Calls.{faulty, sound, read, wholeSteps, proofChecked, mo
 use Rattle.lists.specs.Tests.{split, is-true, is-false, clash}
 use Rattle.soundness.specs.ProofChecked.{refused-not, same-problem}
 use Rattle.soundness.specs.ModelChecked.{CheckedModel, model-checked-satisfies, satisfying-model-checked}
+use Rattle.lists.specs.All.{All, all-append}
+use Rattle.soundness.specs.WellFormed.{WellFormed}
+use Rattle.soundness.specs.Reading.{read-well-formed}
+use Rattle.encoding.specs.Lines.{Encodable, AllEncodable}
+use Rattle.encoding.specs.Following.{Follows, stated-follows, follows-stated, follows-encodable}
+use Rattle.encoding.specs.CourseAccepted.{parts-encodable}
 use Rattle.promises.specs.Words.{RefutesFrom, Refutes, WritesChoice}
 
 never : {X : Type 0} (n : ℕ) → Fails n ≡ Accepted → X
 never n e = absurd (let z : _≡_ {A = ℕ} 0 1 = cc in omega arith)
 
-module _ (parts : List Step) where
-  steps-exactly : (k : ℕ) (earlier : List Line) (ends : Bool) (bytes : List ℕ) → checkSteps parts k earlier ends bytes ≡ Accepted ↔ RefutesFrom parts k earlier ends bytes
+module _ (parts : List Step) (known : AllEncodable parts) where
+  steps-exactly : (k : ℕ) (earlier : List Line) (ends : Bool) (bytes : List ℕ) → All Encodable earlier → length earlier + k ≤ 65536 → checkSteps parts k earlier ends bytes ≡ Accepted ↔ RefutesFrom parts k earlier ends bytes
   unfolding checkSteps
-  steps-exactly zero earlier true bytes = (λ h. tt, λ h. refl)
-  steps-exactly zero earlier false bytes = (λ h. never (length earlier) h, λ h. absurd h)
-  steps-exactly (suc k) earlier ends bytes = by (statedLine parts earlier (take limit.stepBytes bytes)) (λ l. steps-exactly k (earlier ++ (l ∷ [])) (isEmpty l) (drop limit.stepBytes bytes))
+  steps-exactly zero earlier true bytes h n = (λ a. tt, λ a. refl)
+  steps-exactly zero earlier false bytes h n = (λ a. never (length earlier) a, λ a. absurd a)
+  steps-exactly (suc k) earlier ends bytes h n =
+      both
+      (λ l f. steps-exactly k (earlier ++ (l ∷ [])) (isEmpty l) (drop limit.stepBytes bytes) (all-append Encodable earlier (l ∷ []) h (follows-encodable parts known earlier (omega arith) h line l f, tt))
+      (rw (length-append earlier (l ∷ [])) (omega arith)))
     where
-      by : (o : Option Line) → ((l : Line) → checkSteps parts k (earlier ++ (l ∷ [])) (isEmpty l) (drop limit.stepBytes bytes) ≡ Accepted ↔ RefutesFrom parts k (earlier ++ (l ∷ [])) (isEmpty l) (drop limit.stepBytes bytes))
-          → (_≡_ {A = Checked} (elim o [ none ↦ Fails (length earlier) | some l ↦ checkSteps parts k (earlier ++ (l ∷ [])) (isEmpty l) (drop limit.stepBytes bytes) ]) Accepted)
-          ↔ ((l : Line) × (o ≡ some l) × RefutesFrom parts k (earlier ++ (l ∷ [])) (isEmpty l) (drop limit.stepBytes bytes))
-      by none f = (λ h. never (length earlier) h, λ h. let e = h .1 in absurd (let z : _≡_ {A = ℕ} 0 1 = cc in omega arith))
-      by (some m) f = (λ h. (m, refl, f m .0 h), λ h. let e : h .0 ≡ m = (let q = h .1 in cc) in f m .1 (subst (λ (l : Line). RefutesFrom parts k (earlier ++ (l ∷ [])) (isEmpty l) (drop limit.stepBytes bytes)) e (h .2)))
+      line : List ℕ
+      line = take limit.stepBytes bytes
 
-accepted-exactly : (p : Problem) (bytes : List ℕ) → checkProof p bytes ≡ Accepted ↔ Refutes (loadableOf p) (length bytes / limit.stepBytes) bytes
+      Then : Line → Type 0
+      Then l = checkSteps parts k (earlier ++ (l ∷ [])) (isEmpty l) (drop limit.stepBytes bytes) ≡ Accepted ↔ RefutesFrom parts k (earlier ++ (l ∷ [])) (isEmpty l) (drop limit.stepBytes bytes)
+
+      forth : ((l : Line) → Follows parts earlier line l → Then l) → (o : Option Line) → statedLine parts earlier line ≡ o
+          → _≡_ {A = Checked} (elim o [ none ↦ Fails (length earlier) | some l ↦ checkSteps parts k (earlier ++ (l ∷ [])) (isEmpty l) (drop limit.stepBytes bytes) ]) Accepted → RefutesFrom parts (suc k) earlier ends bytes
+      forth then none e a = never (length earlier) a
+      forth then (some l) e a = let f = stated-follows line l earlier parts e in (l, f, then l f .0 a)
+
+      both : ((l : Line) → Follows parts earlier line l → Then l) → checkSteps parts (suc k) earlier ends bytes ≡ Accepted ↔ RefutesFrom parts (suc k) earlier ends bytes
+      both then = (λ a. forth then (statedLine parts earlier line) refl a, λ r. rw (follows-stated parts known earlier (omega arith) h line (r .0) (r .1), checkSteps) (then (r .0) (r .1) .1 (r .2)))
+
+accepted-exactly : (p : Problem) → WellFormed p → (bytes : List ℕ) → length bytes / limit.stepBytes ≤ 65536 → checkProof p bytes ≡ Accepted ↔ Refutes (loadableOf p) (length bytes / limit.stepBytes) bytes
 unfolding checkProof
-accepted-exactly p bytes = steps-exactly (loadableOf p) (length bytes / limit.stepBytes) [] false bytes
+accepted-exactly p w bytes n = steps-exactly (loadableOf p) (parts-encodable p w) (length bytes / limit.stepBytes) [] false bytes tt (omega arith)
+
+-- no more lines than the limit
+whole-few : (limits : Limits) → limits .steps ≤ 65536 → (n : ℕ) → T (wholeSteps limits n) → n / limit.stepBytes ≤ 65536
+unfolding wholeSteps
+whole-few limits few n t =
+    let a = and-yes (leb limit.stepBytes n && leb n (limit.proofBytes limits)) (eqb (n % limit.stepBytes) 0) t in
+    let b : n ≤ limits .steps * 64 = leb→le n (limit.proofBytes limits) (and-yes (leb limit.stepBytes n) (leb n (limit.proofBytes limits)) (a .0) .1) in
+    omega arith
 
 -- ---- the calls, for a question read without fault
 module _ (input : List ℕ) (p : Problem) (e : read input ≡ sound p) where
-  pub book-exactly : (limits : Limits) (bytes : List ℕ) → proofChecked limits input bytes ≡ Accepted ↔ (T (wholeSteps limits (length bytes)) × Refutes (loadableOf p) (length bytes / limit.stepBytes) bytes)
+  pub book-exactly : (limits : Limits) → limits .steps ≤ 65536 → (bytes : List ℕ) → proofChecked limits input bytes ≡ Accepted ↔ (T (wholeSteps limits (length bytes)) × Refutes (loadableOf p) (length bytes / limit.stepBytes) bytes)
   unfolding proofChecked
-  book-exactly limits bytes =
+  book-exactly limits few bytes =
       let whole = wholeSteps limits (length bytes) in
       ⊎-elim
-      (λ t. (λ a. (t, accepted-exactly p bytes .0 (rw (e, proofChecked, is-true whole t) at a)), λ h. rw (e, proofChecked, is-true whole t) (accepted-exactly p bytes .1 (h .1))))
+      (λ t. let x = accepted-exactly p (read-well-formed input p e) bytes (whole-few limits few (length bytes) t) in
+      (λ a. (t, x .0 (rw (e, proofChecked, is-true whole t) at a)), λ h. rw (e, proofChecked, is-true whole t) (x .1 (h .1))))
       (λ t. (λ a. absurd (refused-not ProofLength (length bytes) (rw (e, proofChecked, is-false whole t) at a)), λ h. clash whole (h .0) t)) (split whole)
 
   read-choice : (bytes : List ℕ) (c : CheckedModel input bytes) → c .problem ≡ p → WritesChoice p bytes

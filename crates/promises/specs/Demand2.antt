@@ -35,7 +35,7 @@ pub record Demand2 (input : List ℕ) (p : Problem) : Type 0 where
   -- or equals a line, and all are if none ended it; the pairs count the results so far
   pub complete : (stops : Stops) → Complete order (loadableOf p) (course stops p)
   -- "The check accepts a book exactly if its lines follow and the last is empty, a sheet exactly if every clause holds,"
-  pub book : (limits : Limits) (bytes : List ℕ) → proofChecked limits input bytes ≡ Accepted ↔ (T (wholeSteps limits (length bytes)) × Refutes (loadableOf p) (length bytes / limit.stepBytes) bytes)
+  pub book : (limits : Limits) → limits .steps ≤ 65536 → (bytes : List ℕ) → proofChecked limits input bytes ≡ Accepted ↔ (T (wholeSteps limits (length bytes)) × Refutes (loadableOf p) (length bytes / limit.stepBytes) bytes)
   pub sheet : (bytes : List ℕ) → modelChecked input bytes ≡ Accepted ↔ WritesChoice p bytes
 
 pub demand2 : (input : List ℕ) (p : Problem) → read input ≡ sound p → Demand2 input p

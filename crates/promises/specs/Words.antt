@@ -18,7 +18,6 @@ use Rattle.rules.specs.Problem.{Problem, got}
 use Rattle.rules.specs.Meaning.{Assignment, Satisfies}
 use Rattle.rules.specs.Lines.{Line, isEmpty}
 use Rattle.rules.specs.Steps.{Step}
-use Rattle.rules.specs.Checker.{statedLine}
 use Rattle.rules.specs.Elimination.{Stops, End, unlimited, order, course}
 use Rattle.rules.specs.Needs.{stepsOf}
 use Rattle.rules.specs.Values.{walk}
@@ -26,6 +25,7 @@ use Rattle.rules.specs.Model.{written, model}
 use Rattle.rules.specs.Calls.{Solving}
 use Rattle.course.specs.Events.{Event}
 use Rattle.course.specs.Cut.{stopAt}
+use Rattle.encoding.specs.Following.{Follows}
 
 -- "one does", for: some choice satisfies Q
 abbrev pub SomeChoice : Problem → Type 0
@@ -87,8 +87,7 @@ pub record WritesChoice (p : Problem) (bytes : List ℕ) : Type 0 where
 -- those is empty
 abbrev pub RefutesFrom : List Step → ℕ → List Line → Bool → List ℕ → Type 0
 RefutesFrom parts zero earlier ends bytes = T ends
-RefutesFrom parts (suc k) earlier ends bytes =
-    (l : Line) × (statedLine parts earlier (take limit.stepBytes bytes) ≡ some l) × RefutesFrom parts k (earlier ++ (l ∷ [])) (isEmpty l) (drop limit.stepBytes bytes)
+RefutesFrom parts (suc k) earlier ends bytes = (l : Line) × Follows parts earlier (take limit.stepBytes bytes) l × RefutesFrom parts k (earlier ++ (l ∷ [])) (isEmpty l) (drop limit.stepBytes bytes)
 
 abbrev pub Refutes : List Step → ℕ → List ℕ → Type 0
 Refutes parts k bytes = RefutesFrom parts k [] false bytes
