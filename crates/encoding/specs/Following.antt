@@ -5,7 +5,7 @@ use mathlib.Core.Bool.{Bool, not, cond, _&&_}
 use mathlib.Core.Logic.{_⊎_, inl, inr, ⊎-elim}
 use mathlib.Core.List.{List, [], _∷_}
 use mathlib.Core.Option.{Option, none, some}
-use Prim.Native.Nat.{ℕ, zero, suc, _≤_, _<_}
+use Prim.Native.Nat.{ℕ, _≤_}
 use native.Mathlib.Omega.{arith}
 use lib.Dec.{T, eqb, eqb→eq}
 use lib.ListN.{length, getElem?}
@@ -19,6 +19,7 @@ use Rattle.rules.specs.Elimination.{overflows}
 use Rattle.rules.specs.Checker.{pairable, derived, variableNamed, resultNamed, lineAmong, statedLine}
 use Rattle.lists.specs.Tests.{split, is-true, is-false}
 use Rattle.lists.specs.All.{All, Any, all-any}
+use Rattle.lists.specs.Places.{element-all, element-below}
 use Rattle.lists.specs.Equal.{same-yes}
 use Rattle.lists.specs.Dropped.{dropped-is}
 use Rattle.vectors.specs.Amounts.{overflows-no}
@@ -147,21 +148,11 @@ module _ (bytes : List ℕ) (l : Line) where
         by (some m) e h = inl (among-follows parts (e ∙ h))
 
 -- ---- and back, where the earlier lines come back from their bytes
-place-bound : (ls : List Line) (i : ℕ) (l : Line) → getElem? ls i ≡ some l → i < length ls
-place-bound [] i l h = never h
-place-bound (x ∷ ls) zero l h = omega arith
-place-bound (x ∷ ls) (suc i) l h = let r = place-bound ls i l h in omega arith
-
-at-place : (P : Line → Type 0) (ls : List Line) (i : ℕ) (l : Line) → getElem? ls i ≡ some l → All P ls → P l
-at-place P [] i l h k = never h
-at-place P (x ∷ ls) zero l h k = subst P (inside h) (k .0)
-at-place P (x ∷ ls) (suc i) l h k = at-place P ls i l h (k .1)
-
 module _ (parts : List Step) (known : AllEncodable parts) (earlier : List Line) (few : length earlier ≤ 65536) (all : All Encodable earlier) (bytes : List ℕ) (l : Line) where
   result-encodable : ResultIn earlier bytes l → Encodable l
   result-encodable r =
-      let u = at-place Encodable earlier (r .first) (r .upper) (r .atFirst) all in
-      let m = at-place Encodable earlier (r .second) (r .lower) (r .atSecond) all in
+      let u = element-all Encodable earlier (r .first) (r .upper) (r .atFirst) all in
+      let m = element-all Encodable earlier (r .second) (r .lower) (r .atSecond) all in
       record { formed = dropped-is Formed (r .result) (resolve-formed (r .variable) (r .upper) (r .lower) (u .formed) (m .formed)); small = overflows-no l .0 (r .narrow) }
 
   pub follows-encodable : Follows parts earlier bytes l → Encodable l
@@ -176,8 +167,8 @@ module _ (parts : List Step) (known : AllEncodable parts) (earlier : List Line) 
   result-stated r =
       let s : Step = record { origin = resolved (r .variable) (r .first) (r .second); line = l } in
       let h = result-encodable r in
-      let a = place-bound earlier (r .first) (r .upper) (r .atFirst) in
-      let b = place-bound earlier (r .second) (r .lower) (r .atSecond) in
+      let a = element-below earlier (r .first) (r .upper) (r .atFirst) in
+      let b = element-below earlier (r .second) (r .lower) (r .atSecond) in
       let k = parents-back (r .variable) (r .first) (r .second) l (omega arith) (omega arith) in
       let d = derived-line (r .variable) (r .upper) (r .lower) l (r .positive) (r .negative) (r .allowed) (r .result) h in
       let n = result-named (r .variable) (r .upper) (r .lower) l (r .first) (r .second) earlier (encodeStep s) (named-back (r .variable) (r .first) (r .second) l) (k .0) (k .1) (r .atFirst) (r .atSecond) d in

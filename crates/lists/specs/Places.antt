@@ -1,9 +1,12 @@
 -- The element at a place of a list.
+use mathlib.Core.Path.{_≡_, refl, sym, subst}
+use mathlib.Core.Logic.{inl, inr}
 use mathlib.Core.List.{List, [], _∷_, _++_}
+use mathlib.Core.Option.{some}
 use Prim.Native.Nat.{ℕ, zero, suc, _<_}
 use native.Mathlib.Omega.{arith}
-use lib.ListN.{length}
-use Rattle.lists.specs.All.{All}
+use lib.ListN.{length, getElem?}
+use Rattle.lists.specs.All.{All, Any, all-any}
 
 module _ {A : Type 0} where
   -- there is a place i, and what stands there is so
@@ -31,3 +34,17 @@ module _ {A : Type 0} where
   place-both P R [] i f h k = absurd h
   place-both P R (a ∷ s) zero f h k = f a h k
   place-both P R (a ∷ s) (suc i) f h k = place-both P R s i f h k
+
+  -- ---- an element that a search by place gives
+  pub element-any : (P : A → Type 0) (s : List A) (i : ℕ) (a : A) → getElem? s i ≡ some a → P a → Any P s
+  element-any P [] i a e h = absurd (let z : _≡_ {A = ℕ} 0 1 = cc in omega arith)
+  element-any P (x ∷ s) zero a e h = inl (let q : x ≡ a = cc in subst P (sym q) h)
+  element-any P (x ∷ s) (suc i) a e h = inr (element-any P s i a e h)
+
+  pub element-all : (P : A → Type 0) (s : List A) (i : ℕ) (a : A) → getElem? s i ≡ some a → All P s → P a
+  element-all P s i a e h = all-any P (λ x. x ≡ a) s (λ x k q. subst P q k) h (element-any (λ x. x ≡ a) s i a e refl)
+
+  pub element-below : (s : List A) (i : ℕ) (a : A) → getElem? s i ≡ some a → i < length s
+  element-below [] i a e = absurd (let z : _≡_ {A = ℕ} 0 1 = cc in omega arith)
+  element-below (x ∷ s) zero a e = omega arith
+  element-below (x ∷ s) (suc i) a e = let r = element-below s i a e in omega arith

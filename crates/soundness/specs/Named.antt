@@ -2,16 +2,19 @@
 use mathlib.Core.Path.{_≡_, refl, ap, _∙_}
 use mathlib.Core.List.{List, [], _∷_}
 use mathlib.Core.Option.{some}
-use Prim.Native.Nat.{ℕ, suc, _+_}
+use Prim.Native.Nat.{ℕ, zero, suc, _+_, _≤_, _<_}
 use native.Mathlib.Omega.{arith}
+use lib.Dec.{T}
 use lib.ListN.{getElem?, take}
 use Rattle.rules.specs.Problem.{Clause, Problem}
-use Rattle.rules.specs.Lines.{Line}
+use Rattle.rules.specs.Lines.{Line, boolean, contains}
 use Rattle.rules.specs.Split.{partsOf, splitsOf}
 use Rattle.rules.specs.Steps.{Step, loaded}
 use Rattle.rules.specs.Elimination.{partSteps, loadable, loadableOf}
 use Rattle.lists.specs.All.{All, all-map, all-append}
-use Rattle.soundness.specs.WellFormed.{splitsIn}
+use Rattle.lists.specs.Places.{element-any, element-all}
+use Rattle.soundness.specs.WellFormed.{WellFormedClause, splitsIn, WellFormed}
+use Rattle.soundness.specs.SplitClause.{splits-apart}
 
 -- a piece of these, the first of which is named `from`
 pub record PieceOf (c from : ℕ) (ls : List Line) (s : Step) : Type 0 where
@@ -59,3 +62,22 @@ loadable-named c k (x ∷ xs) =
 pub loadable-pieces : (p : Problem) → All (PieceAmong 0 (p .booleans) (p .clauses)) (loadableOf p)
 unfolding loadableOf
 loadable-pieces p = loadable-named 0 (p .booleans) (p .clauses)
+
+-- ---- so the links of different clauses never meet
+-- a later clause's links begin after this one's
+links-before : (clauses : List Clause) (i j : ℕ) (x : Clause) → getElem? clauses i ≡ some x → i < j → splitsIn (take i clauses) + splitsOf x ≤ splitsIn (take j clauses)
+links-before [] i j x e h = absurd (let z : _≡_ {A = ℕ} 0 1 = cc in omega arith)
+links-before (c ∷ cs) zero zero x e h = absurd (omega arith)
+links-before (c ∷ cs) zero (suc j) x e h = let q : c ≡ x = cc in rw q (omega arith)
+links-before (c ∷ cs) (suc i) zero x e h = absurd (omega arith)
+links-before (c ∷ cs) (suc i) (suc j) x e h = let r = links-before cs i j x e (omega arith) in omega arith
+
+-- what occurs in pieces of two clauses is a variable of the problem
+pub links-apart : (p : Problem) → WellFormed p → (s t : Step) (h : PieceAmong 0 (p .booleans) (p .clauses) s) (k : PieceAmong 0 (p .booleans) (p .clauses) t) → h .number < k .number
+    → (i : ℕ) → T (contains (boolean i) (s .line)) → T (contains (boolean i) (t .line)) → i < p .booleans
+links-apart p w s t h k less i a b =
+    let z = links-before (p .clauses) (h .number) (k .number) (h .clause) (h .at) less in
+    let occurs : Line → Type 0 = λ l. T (contains (boolean i) l) in
+    let before : ℕ → ℕ = λ n. p .booleans + splitsIn (take n (p .clauses)) in
+    splits-apart (p .booleans) (p .rationals) (h .clause) (k .clause) (element-all (WellFormedClause (p .booleans) (p .rationals)) (p .clauses) (h .number) (h .clause) (h .at) (w .clauses)) (element-all (WellFormedClause (p .booleans) (p .rationals)) (p .clauses) (k .number) (k .clause) (k .at) (w .clauses)) (before (h .number)) (before (k .number)) (omega arith) (omega arith) i
+    (element-any occurs (partsOf (before (h .number)) (h .clause)) (h .piece .piece) (s .line) (h .piece .at) a) (element-any occurs (partsOf (before (k .number)) (k .clause)) (k .piece .piece) (t .line) (k .piece .at) b)
