@@ -1,0 +1,29 @@
+-- `Line::round` meets its contract. Assumes nothing.
+use mathlib.Core.Path.{_≡_, sym, ap, _∙_}
+use Prim.Native.Nat.{ℕ}
+use native.Mathlib.Omega.{arith}
+use lib.ListN.{length}
+use lib.Bits.{bitOr}
+use lib.Count.{trailing-le}
+use Rattle.lines.specs.Forms.{leading, round-is}
+use borrow.Author.Needs.{needs}
+use Rattle.lines.proofs.line.Line.round.Statement.{statement}
+use Rattle.lines.proofs.line.Line.round.Tie as tie
+
+lowest-requires : tie.Need-lowest-requires
+lowest-requires c κs = search needs
+
+leading-requires : tie.Need-leading-requires
+leading-requires c κs =
+    let l = c .before .before .before .args .self in
+    omega (arith, c .lowest .ensures, trailing-le 32 (bitOr (l .positive) (l .negative)))
+
+returns : tie.Need-returns
+returns c =
+    let s = c .before .before .before .before in
+    let l = s .args .self in
+    let n : length (l .coefficients) ≡ 8 = search (needs, s .good) in
+    c .leading .ensures ∙ ap (λ (r : ℕ). leading (l .coefficients) r) (c .before .lowest .ensures) ∙ sym (round-is l (s .pre) n)
+
+pub round-spec : {M : Type 1} → statement M
+round-spec = tie.close (tie.spec lowest-requires leading-requires returns)

@@ -1,0 +1,15 @@
+-- `line::lowest` meets its contract. Assumes nothing.
+use native.Mathlib.Omega.{arith}
+use lib.Count.{trailing-le}
+use borrow.Author.Needs.{needs}
+use Rattle.lines.proofs.line.lowest.Statement.{statement}
+use Rattle.lines.proofs.line.lowest.Tie as tie
+
+cast-result : tie.Need-cast-result
+cast-result c = omega (arith, trailing-le 32 (c .args .mask))
+
+returns : tie.Need-returns
+returns c = search needs
+
+pub lowest-spec : {M : Type 1} → statement M
+lowest-spec = tie.close (tie.spec cast-result returns)

@@ -1,0 +1,18 @@
+-- `line::member` meets its contract. Assumes nothing.
+use mathlib.Core.Path.{sym}
+use Rattle.lines.specs.Mask.{has-bits}
+use borrow.Author.Needs.{needs}
+use Rattle.lines.proofs.line.member.Statement.{statement}
+use Rattle.lines.proofs.line.member.Tie as tie
+
+cast-result : tie.Need-cast-result
+cast-result c = search needs
+
+shr-result : tie.Need-shr-result
+shr-result c = search needs
+
+returns : tie.Need-returns
+returns c = sym (has-bits 32 (c .args .mask) (c .args .i) (c .pre))
+
+pub member-spec : {M : Type 1} → statement M
+member-spec = tie.close (tie.spec cast-result shr-result returns)

@@ -1,0 +1,180 @@
+-- A line's tests by its words: coefficients, masks, relation.
+use mathlib.Core.Path.{_≡_, refl, sym, ap, _∙_}
+use mathlib.Core.Bool.{Bool, true, false, not, _&&_, _||_, Bool·beq, and-assoc, or-assoc, or-false}
+use mathlib.Core.List.{List, [], _∷_, _++_}
+use Prim.Native.Nat.{ℕ, zero, suc, _+_, _/_, _%_, _^_, _≤_, _<_}
+use native.Mathlib.Nat.{mod-lt, div-one}
+use native.Mathlib.Numerals.{add-one}
+use native.Mathlib.Omega.{arith}
+use borrow.Author.Tests.{ne-eqb}
+use lib.IntN.{ℤ, pos}
+use lib.Dec.{eqb, eqb·suc-zero, eqb·zero-suc, eqb·suc-suc}
+use lib.ListN.{length, drop, getD, replicate}
+use lib.Seq.{drop-cons, drop-length}
+use lib.Bits.{bitOr}
+use lib.Count.{trailingZeros, under}
+use Rattle.rules.specs.Lists.{any, same, tabulate}
+use Rattle.rules.specs.Arithmetic.{equal, isZero}
+use Rattle.rules.specs.Problem.{inRange}
+use Rattle.rules.specs.Lines as rules
+use Rattle.rules.specs.Lines.{Variable, rational, boolean, contains, coefficient, isEmpty, noConstraint, sameConstraint, sameLine}
+use Rattle.rules.specs.Steps.{row}
+use Rattle.rules.specs.Elimination.{order, roundOf, overflows}
+use Rattle.resolution.specs.Members.{has-union}
+use Rattle.resolution.specs.Variables.{contains-rational, contains-boolean}
+use Rattle.lists.specs.All.{getD-replicate-same}
+use Rattle.lines.specs.declared.line.Line.{Line}
+use Rattle.lines.specs.Mask.{bits, has-bits, union-bits, shifted, none-bits, same-digit, same-bits}
+use Rattle.lines.specs.Line.{constraintOf, meaning, Shaped}
+
+-- a relation, by its three numbers
+pub relations : (P : ℕ → Type 0) (r : ℕ) → r ≤ 2 → P 0 → P 1 → P 2 → P r
+relations P zero h a b c = a
+relations P (suc zero) h a b c = b
+relations P (suc (suc zero)) h a b c = c
+relations P (suc (suc (suc r))) h a b c = absurd (omega arith)
+
+coefficient-at : (r : ℕ) (cs : List ℤ) (b : ℤ) (f : ℕ) → (r ≡ 0 → cs ≡ replicate 8 (pos 0)) → coefficient f (constraintOf r cs b) ≡ getD cs f (pos 0)
+unfolding coefficient constraintOf
+coefficient-at zero cs b f h = sym (getD-replicate-same 8 f (pos 0)) ∙ ap (λ (s : List ℤ). getD s f (pos 0)) (sym (h refl))
+coefficient-at (suc r) cs b f h = refl
+
+pub coefficient-is : (l : Line) → Shaped l → (f : ℕ) → coefficient f (meaning l .constraint) ≡ getD (l .coefficients) f (pos 0)
+unfolding meaning
+coefficient-is l h f = coefficient-at (l .relation) (l .coefficients) (l .bound) f (h .coefficients)
+
+none-at : (r : ℕ) (cs : List ℤ) (b : ℤ) → noConstraint (constraintOf r cs b) ≡ eqb r 0
+unfolding noConstraint constraintOf
+none-at zero cs b = refl
+none-at (suc r) cs b = sym (eqb·suc-zero r)
+
+pub empty-is : (l : Line) → l .positive < 2 ^ 32 → l .negative < 2 ^ 32 → isEmpty (meaning l) ≡ eqb (l .positive) 0 && eqb (l .negative) 0 && eqb (l .relation) 0
+unfolding meaning isEmpty
+empty-is l h k = rw (none-bits 32 (l .positive) h, none-bits 32 (l .negative) k, none-at (l .relation) (l .coefficients) (l .bound))
+
+-- ---- equal lines
+and-no : (a : Bool) → a && false ≡ false
+and-no true = refl
+and-no false = refl
+
+same-at : (r : ℕ) (cs : List ℤ) (b : ℤ) (s : ℕ) (ds : List ℤ) (d : ℤ) → r ≤ 2 → s ≤ 2 → (r ≡ 0 → cs ≡ replicate 8 (pos 0)) → (s ≡ 0 → ds ≡ replicate 8 (pos 0)) → (r ≡ 0 → b ≡ pos 0) → (s ≡ 0 → d ≡ pos 0)
+    → sameConstraint (constraintOf r cs b) (constraintOf s ds d) ≡ equal b d && (eqb r s && same equal cs ds)
+unfolding sameConstraint constraintOf equal same
+same-at zero cs b zero ds d l m h i j k = rw (h refl, i refl, j refl, k refl)
+same-at zero cs b (suc s) ds d l m h i j k = rw (eqb·zero-suc s) (sym (and-no (equal b d)))
+same-at (suc r) cs b zero ds d l m h i j k = rw (eqb·suc-zero r) (sym (and-no (equal b d)))
+same-at (suc r) cs b (suc s) ds d l m h i j k = rw (eqb·suc-suc r s, same-digit r s (omega arith) (omega arith)) (and-assoc (equal b d) (eqb r s) (same equal cs ds))
+
+regroup : (a e s p n : Bool) → (a && (e && s)) && p && n ≡ a && (e && (p && (n && s)))
+regroup false e s p n = refl
+regroup true false s p n = refl
+regroup true true true false n = refl
+regroup true true true true false = refl
+regroup true true true true true = refl
+regroup true true false false n = refl
+regroup true true false true false = refl
+regroup true true false true true = refl
+
+-- the bound first: it tells most lines apart
+pub same-is : (l m : Line) → Shaped l → Shaped m → l .positive < 2 ^ 32 → l .negative < 2 ^ 32 → m .positive < 2 ^ 32 → m .negative < 2 ^ 32
+    → sameLine (meaning l) (meaning m) ≡ equal (l .bound) (m .bound) && (eqb (l .relation) (m .relation) && (eqb (l .positive) (m .positive) && (eqb (l .negative) (m .negative) && same equal (l .coefficients) (m .coefficients))))
+unfolding meaning sameLine
+same-is l m h k a b c d =
+    rw (same-at (l .relation) (l .coefficients) (l .bound) (m .relation) (m .coefficients) (m .bound) (h .related) (k .related) (h .coefficients) (k .coefficients) (h .bound) (k .bound), same-bits 32 (l .positive) (m .positive) a c, same-bits 32 (l .negative) (m .negative) b d)
+    (regroup (equal (l .bound) (m .bound)) (eqb (l .relation) (m .relation)) (same equal (l .coefficients) (m .coefficients)) (eqb (l .positive) (m .positive)) (eqb (l .negative) (m .negative)))
+
+-- ---- amounts
+-- rows of zeros, and so of equal numbers
+row-at : (r : ℕ) (cs : List ℤ) (b : ℤ) → (r ≡ 0 → cs ≡ replicate 8 (pos 0)) → (r ≡ 0 → b ≡ pos 0) → row (constraintOf r cs b) ≡ cs ++ (b ∷ [])
+unfolding row constraintOf
+row-at zero cs b h k = rw (h refl, k refl)
+row-at (suc r) cs b h k = refl
+
+pub row-is : (l : Line) → Shaped l → row (meaning l .constraint) ≡ l .coefficients ++ (l .bound ∷ [])
+unfolding meaning
+row-is l h = row-at (l .relation) (l .coefficients) (l .bound) (h .coefficients) (h .bound)
+
+any-last : (t : ℤ → Bool) (zs : List ℤ) (z : ℤ) → any t (zs ++ (z ∷ [])) ≡ any t zs || t z
+unfolding any
+any-last t [] z = or-false (t z)
+any-last t (y ∷ zs) z = rw (any-last t zs z) (sym (or-assoc (t y) (any t zs) (t z)))
+
+pub overflows-is : (l : Line) → Shaped l → overflows (meaning l) ≡ any (λ z. not (inRange z)) (l .coefficients) || not (inRange (l .bound))
+unfolding overflows
+overflows-is l h = rw (row-is l h) (any-last (λ z. not (inRange z)) (l .coefficients) (l .bound))
+
+-- ---- rounds
+-- here, or one place on from where it is in the rest
+abbrev pub here : Bool → ℕ → ℕ
+here true rest = 0
+here false rest = suc rest
+
+-- the place of the first coefficient that is not 0; without one, so many more
+unfoldable pub leading : List ℤ → ℕ → ℕ
+leading [] rest = rest
+leading (z ∷ zs) rest = here (not (isZero z)) (leading zs rest)
+
+round-step : (v : Variable) (vs : List Variable) (l : rules.Line) → roundOf (v ∷ vs) l ≡ here (contains v l) (roundOf vs l)
+unfolding roundOf
+round-step v vs l = by (contains v l)
+  where
+    by : (b : Bool) → _≡_ {A = ℕ} (elim b [ true ↦ 0 | false ↦ suc (roundOf vs l) ]) (here b (roundOf vs l))
+    by true = refl
+    by false = refl
+
+rounds-rational : (n : ℕ) (f : ℕ → Variable) (cs : List ℤ) (vs : List Variable) (l : rules.Line) → length cs ≡ n → ((i : ℕ) → contains (f i) l ≡ not (isZero (getD cs i (pos 0))))
+    → roundOf (tabulate n f ++ vs) l ≡ leading cs (roundOf vs l)
+unfolding tabulate roundOf leading
+rounds-rational zero f [] vs l h e = refl
+rounds-rational zero f (c ∷ cs) vs l h e = absurd (omega arith)
+rounds-rational (suc n) f [] vs l h e = absurd (omega arith)
+rounds-rational (suc n) f (c ∷ cs) vs l h e = round-step (f 0) (tabulate n (λ i. f (suc i)) ++ vs) l ∙ rw (e 0, rounds-rational n (λ i. f (suc i)) cs vs l (omega arith) (λ i. e (suc i)))
+
+contains-bits : (l : Line) (i : ℕ) → i < 32 → contains (boolean i) (meaning l) ≡ eqb (bitOr (l .positive) (l .negative) / 2 ^ i % 2) 1
+unfolding meaning
+contains-bits l i h =
+    contains-boolean i (meaning l)
+    ∙ sym (has-union (bits 32 (l .positive)) (bits 32 (l .negative)) i)
+    ∙ ap (λ (s : rules.Booleans). getD s i false) (union-bits 32 (l .positive) (l .negative))
+    ∙ has-bits 32 (bitOr (l .positive) (l .negative)) i h
+
+rounds-boolean : (k : ℕ) (f : ℕ → Variable) (m : ℕ) (l : rules.Line) → ((i : ℕ) → i < k → contains (f i) l ≡ eqb (m / 2 ^ i % 2) 1) → roundOf (tabulate k f) l ≡ trailingZeros k m
+unfolding tabulate roundOf trailingZeros
+rounds-boolean zero f m l e = refl
+rounds-boolean (suc k) f m l e =
+    round-step (f 0) (tabulate k (λ i. f (suc i))) l
+    ∙ rw (e 0 (omega arith), div-one m, rounds-boolean k (λ i. f (suc i)) (m / 2) l (λ i h. e (suc i) (omega arith) ∙ ap (λ (x : ℕ). eqb (x % 2) 1) (shifted m i)))
+    (by (m % 2) (mod-lt m (omega arith)))
+  where
+    by : (d : ℕ) → d < 2 → here (eqb d 1) (trailingZeros k (m / 2)) ≡ under d (trailingZeros k (m / 2))
+    by zero h = refl
+    by (suc zero) h = refl
+    by (suc (suc d)) h = absurd (omega arith)
+
+pub round-is : (l : Line) → Shaped l → length (l .coefficients) ≡ 8 → roundOf order (meaning l) ≡ leading (l .coefficients) (trailingZeros 32 (bitOr (l .positive) (l .negative)))
+unfolding order
+round-is l h n =
+    rounds-rational 8 rational (l .coefficients) (tabulate 32 boolean) (meaning l) n (λ f. contains-rational f (meaning l) ∙ ap (λ (z : ℤ). not (isZero z)) (coefficient-is l h f))
+    ∙ ap (λ (r : ℕ). leading (l .coefficients) r) (rounds-boolean 32 boolean (bitOr (l .positive) (l .negative)) (meaning l) (λ i k. contains-bits l i k))
+
+pub leading-≤ : (cs : List ℤ) (rest : ℕ) → leading cs rest ≤ length cs + rest
+unfolding leading
+leading-≤ [] rest = omega arith
+leading-≤ (c ∷ cs) rest = by (not (isZero c)) (leading-≤ cs rest)
+  where
+    by : (b : Bool) → leading cs rest ≤ length cs + rest → here b (leading cs rest) ≤ suc (length cs) + rest
+    by true h = omega arith
+    by false h = omega arith
+
+-- one coefficient on
+pub leading-zero : (cs : List ℤ) (i rest : ℕ) → i < length cs → isZero (getD cs i (pos 0)) ≡ true → leading (drop i cs) rest ≡ suc (leading (drop (i + 1) cs) rest)
+unfolding leading
+leading-zero cs i rest h e = rw (add-one i, drop-cons cs i (pos 0), e)
+
+pub leading-other : (cs : List ℤ) (i rest : ℕ) → i < length cs → isZero (getD cs i (pos 0)) ≡ false → leading (drop i cs) rest ≡ 0
+unfolding leading
+leading-other cs i rest h e = rw (drop-cons cs i (pos 0), e)
+
+pub leading-end : (cs : List ℤ) (i rest : ℕ) → length cs ≡ i → leading (drop i cs) rest ≡ rest
+unfolding leading
+leading-end cs i rest h = rw (← h, drop-length cs)

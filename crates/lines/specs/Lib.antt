@@ -1,0 +1,4 @@
+pub mod Mask
+pub mod Line
+pub mod Forms
+pub mod Scan

@@ -1,0 +1,3 @@
+// Lines in machine words.
+pub mod line;
+pub mod row;

@@ -1,0 +1,70 @@
+-- `splits::zeros` meets its contract: whether those left are all 0 stays the answer.
+use mathlib.Core.Path.{refl, sym, _∙_}
+use native.Mathlib.Omega.{arith}
+use borrow.Author.Needs.{needs}
+use Rattle.reader.specs.Splits.{Zeros, zeros-done, zeros-within, zeros-stop, zeros-next}
+use Rattle.reader.proofs.splits.zeros.Statement.{statement}
+use Rattle.reader.proofs.splits.zeros.Tie as tie
+
+abbrev Inv-loop : tie.InvT-loop
+Inv-loop q from count at₀ left₀ at left = Zeros q from count at left
+
+abbrev μ-loop : tie.MeasureT-loop
+μ-loop q from count at₀ left₀ at left = left
+
+loop-holds : tie.Need-loop-holds Inv-loop μ-loop
+loop-holds c = record { end = refl; same = refl }
+
+u32-at-requires : tie.Need-u32-at-requires Inv-loop μ-loop
+u32-at-requires c κs =
+    let l = c .before .loop in
+    let s = c .before .before .before in
+    omega (arith, zeros-within (s .args .q .now) (s .args .from) (s .args .count) (l .at) (l .left) (l .inv) (c .loop-test .taken), s .pre)
+
+returns : tie.Need-returns Inv-loop μ-loop
+returns c =
+    let u = c .before in
+    let l = u .before .before .loop in
+    let s = u .before .before .before .before in
+    zeros-stop (s .args .q .now) (s .args .from) (s .args .count) (l .at) (l .left) (l .inv) (u .before .loop-test .taken) (λ e. c .if1 .taken (u .u32-at .ensures ∙ e))
+
+add-at : tie.Need-add-at Inv-loop μ-loop
+add-at c =
+    let t = c .before .before in
+    let l = t .before .loop in
+    let s = t .before .before .before in
+    omega (arith, zeros-within (s .args .q .now) (s .args .from) (s .args .count) (l .at) (l .left) (l .inv) (t .loop-test .taken), s .pre, s .good)
+
+sub-left : tie.Need-sub-left Inv-loop μ-loop
+sub-left c = search needs
+
+loop-less : tie.Need-loop-less Inv-loop μ-loop
+loop-less c = search needs
+
+loop-again : tie.Need-loop-again Inv-loop μ-loop
+loop-again c =
+    let u = c .before in
+    let l = u .before .before .loop in
+    let s = u .before .before .before .before in
+    zeros-next (s .args .q .now) (s .args .from) (s .args .count) (l .at) (l .left) (l .inv) (u .before .loop-test .taken) (sym (u .u32-at .ensures) ∙ c .if1 .left)
+
+returns-2 : tie.Need-returns-2 Inv-loop μ-loop
+returns-2 c =
+    let l = c .before .loop in
+    let s = c .before .before .before in
+    zeros-done (s .args .q .now) (s .args .from) (s .args .count) (l .at) (l .left) (l .inv) (c .loop-test .left)
+
+pub zeros-spec : {M : Type 1} → statement M
+zeros-spec =
+    tie.close
+    (tie.spec
+    Inv-loop
+    μ-loop
+    loop-holds
+    u32-at-requires
+    returns
+    add-at
+    sub-left
+    loop-less
+    loop-again
+    returns-2)

@@ -1,0 +1,10 @@
+pub mod Seen
+pub mod Run
+pub mod Steady
+pub mod Fields
+pub mod Parts
+pub mod Clauses
+pub mod Scans
+pub mod Read
+pub mod Values
+pub mod Splits

@@ -1,0 +1,7 @@
+// The question's bytes read field by field, to the first fault with its place.
+mod clauses;
+pub mod cursor;
+mod numbers;
+pub mod scan;
+// For fault 13; `scan` does not ask it yet.
+mod splits;

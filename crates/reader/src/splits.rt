@@ -1,0 +1,105 @@
+// What normalizing leaves of a clause that was read without fault: how many of its constraints stay.
+use fields::amount_at;
+use fields::u32_at;
+use machine::sign::is_negative;
+use machine::sign::is_positive;
+ghost use mathlib.Core.Path.{_≡_};
+ghost use Prim.Native.Nat.{_≤_, _+_, _*_};
+ghost use lib.ListN.{length};
+ghost use Rattle.rules.specs.Lists.{all};
+ghost use Rattle.rules.specs.Arithmetic.{isZero};
+ghost use Rattle.rules.specs.Normalize.{settled, settledAll};
+ghost use Rattle.reader.specs.Values.{valuesAt, behind, amountAt, constraintAt};
+ghost use Rattle.reader.specs.Splits.{fate, isAlways, weight, counted};
+
+// "A condition with all coefficients 0 drops the clause if true; if false, the condition alone is struck out."
+pub enum Fate {
+    Always,
+    Never,
+    Kept,
+}
+
+// The clause is dropped, or so many constraints stay.
+pub enum Kept {
+    Dropped,
+    Count(u8),
+}
+
+// Whether so many amounts are all 0.
+fn zeros(q: &[u8], from: usize, count: u8) -> bool
+    requires { ⌜ behind 4 count from ≤ length (now q) ⌝ }
+    ensures { λ z. ⌜ z ≡ all isZero (valuesAt (amountAt (now (q .entry))) 4 count from) ⌝ }
+{
+    let mut at = from;
+    let mut left = count;
+    while 0 < left {
+        if u32_at(q, at) != 0 {
+            return false;
+        }
+        at += 4;
+        left -= 1;
+    }
+    true
+}
+
+fn settled(q: &[u8], at: usize, r: u8) -> Fate
+    requires { ⌜ at + (5 + r * 4) ≤ length (now q) ⌝ }
+    ensures { λ s. ⌜ s ≡ fate (settled (constraintAt (now (q .entry)) r at)) ⌝ }
+{
+    if !zeros(q, at + 1, r) {
+        return Fate::Kept;
+    }
+    let bound = amount_at(q, at + 1 + (r as usize) * 4);
+    if q[at] == 2 {
+        if is_positive(bound) {
+            return Fate::Always;
+        }
+        return Fate::Never;
+    }
+    if is_negative(bound) {
+        return Fate::Never;
+    }
+    Fate::Always
+}
+
+fn is_always(f: Fate) -> bool
+    ensures { λ t. ⌜ t ≡ isAlways f ⌝ }
+{
+    match f {
+        Fate::Always => true,
+        Fate::Never => false,
+        Fate::Kept => false,
+    }
+}
+
+// How many constraints it counts as.
+fn weight(f: Fate) -> u8
+    ensures { λ n. ⌜ n ≡ weight f ⌝ }
+{
+    match f {
+        Fate::Always => 0,
+        Fate::Never => 0,
+        Fate::Kept => 1,
+    }
+}
+
+// Of so many constraints.
+fn remaining(q: &[u8], from: usize, r: u8, count: u8) -> Kept
+    requires { ⌜ behind (5 + r * 4) count from ≤ length (now q) ⌝ }
+    ensures { λ k. ⌜ k ≡ counted 0 (settledAll (valuesAt (constraintAt (now (q .entry)) r) (5 + r * 4) count from)) ⌝ }
+{
+    let size = 5 + (r as usize) * 4;
+    let mut at = from;
+    let mut left = count;
+    let mut n: u8 = 0;
+    while 0 < left {
+        let f = settled(q, at, r);
+        if is_always(f) {
+            return Kept::Dropped;
+        }
+        n += weight(f);
+        at += size;
+        left -= 1;
+    }
+    Kept::Count(n)
+}

@@ -1,0 +1,2 @@
+pub mod Resolvent
+pub mod Zeros

@@ -1,0 +1,54 @@
+-- The constraint of a resolvent, by its words.
+use mathlib.Core.Path.{_≡_, refl, sym, ap, _∙_}
+use mathlib.Core.List.{List}
+use mathlib.Core.Option.{Option, none, some}
+use Prim.Native.Nat.{ℕ, zero, suc, _*_, _%_, _^_, _≤_, _<_, max}
+use native.Mathlib.Nat.{pow-succ'}
+use native.Mathlib.Omega.{arith}
+use lib.Pow.{pow-mono}
+use lib.IntN.{ℤ, pos, natAbs, _+ℤ_, _*ℤ_}
+use lib.ListN.{getD}
+use Rattle.rules.specs.Arithmetic.{combine}
+use Rattle.rules.specs.Lines.{coefficient}
+use Rattle.lines.specs.Forms.{relations}
+use Rattle.rules.specs.Problem.{Constraint}
+use Rattle.rules.specs.Resolve.{oneOf, combination, combinationOf}
+use Rattle.lines.specs.Line.{constraintOf}
+
+pub one-upper : (r : ℕ) (cs : List ℤ) (b : ℤ) (o : Option Constraint) → (r ≡ 0 → ⊥) → oneOf (constraintOf r cs b) o ≡ constraintOf r cs b
+unfolding oneOf constraintOf
+one-upper zero cs b o h = absurd (h refl)
+one-upper (suc r) cs b o h = refl
+
+pub one-lower : (r : ℕ) (cs : List ℤ) (b : ℤ) (o : Option Constraint) → r ≡ 0 → oneOf (constraintOf r cs b) o ≡ o
+unfolding oneOf constraintOf
+one-lower r cs b o e = rw e (by cs b o)
+  where
+    by : (cs : List ℤ) (b : ℤ) (o : Option Constraint) → oneOf (constraintOf 0 cs b) o ≡ o
+    by cs b o = refl
+
+-- a power of two of 32 bits, as a shift makes it
+pub shift-is : (i : ℕ) → i < 32 → 1 * 2 ^ i % 4294967296 ≡ 2 ^ i
+shift-is i h =
+    let l : 2 ^ i * 2 ≤ 2 ^ 32 = omega (arith, pow-succ' 2 i, pow-mono {i = suc i} {j = 32} h) in
+    let p : 0 < 2 ^ i = omega (arith, pow-mono {i = 0} {j = i} (omega arith)) in
+    omega arith
+
+-- ---- by a rational variable
+module _ (f : ℕ) (us : List ℤ) (ub : ℤ) (ls : List ℤ) (lb : ℤ) where
+  abbrev pub combined : ℕ → Option Constraint
+  combined r =
+      let a = getD us f (pos 0) in
+      let c = pos (natAbs (getD ls f (pos 0))) in
+      constraintOf r (combine c us a ls) (c *ℤ ub +ℤ a *ℤ lb)
+
+  pub combination-is : (r s : ℕ) → r ≤ 2 → s ≤ 2 → 0 < r → 0 < s → combined (max r s) ≡ combinationOf f (constraintOf r us ub) (constraintOf s ls lb)
+  unfolding constraintOf combinationOf combination coefficient
+  combination-is r s h k =
+      relations (λ r. 0 < r → 0 < s → combined (max r s) ≡ combinationOf f (constraintOf r us ub) (constraintOf s ls lb)) r h
+      (λ z y. absurd (omega arith))
+      (λ z. relations (λ s. 0 < s → combined (max 1 s) ≡ combinationOf f (constraintOf 1 us ub) (constraintOf s ls lb)) s k (λ y. absurd (omega arith)) (λ y. refl) (λ y. refl))
+      (λ z. relations (λ s. 0 < s → combined (max 2 s) ≡ combinationOf f (constraintOf 2 us ub) (constraintOf s ls lb)) s k (λ y. absurd (omega arith)) (λ y. refl) (λ y. refl))
+
+pub constraints-agree : {r r′ : ℕ} {cs cs′ : List ℤ} {b b′ : ℤ} → r ≡ r′ → cs ≡ cs′ → b ≡ b′ → constraintOf r cs b ≡ constraintOf r′ cs′ b′
+constraints-agree p q t = λ i. constraintOf (p i) (q i) (t i)
