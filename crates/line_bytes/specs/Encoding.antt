@@ -13,7 +13,7 @@ use Rattle.rules.specs.Steps.{Header, Step, header, headerBytes, lineBytes, enc
 use Rattle.fields.specs.Field.{stored, stored-++}
 use Rattle.layout.specs.Bytes.{length-toBytes}
 use Rattle.lines.specs.declared.line.Line.{Line}
-use Rattle.lines.specs.Mask.{bits, mask-bits}
+use Rattle.masks.specs.Mask.{bits, mask-bits}
 use Rattle.lines.specs.Line.{constraintOf, meaning, Shaped}
 use Rattle.lines.specs.Forms.{row-is, relations}
 

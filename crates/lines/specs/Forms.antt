@@ -24,7 +24,7 @@ use Rattle.resolution.specs.Members.{has-union}
 use Rattle.resolution.specs.Variables.{contains-rational, contains-boolean}
 use Rattle.lists.specs.All.{getD-replicate-same}
 use Rattle.lines.specs.declared.line.Line.{Line}
-use Rattle.lines.specs.Mask.{bits, has-bits, union-bits, shifted, none-bits, same-digit, same-bits}
+use Rattle.masks.specs.Mask.{bits, has-bits, union-bits, shifted, none-bits, same-digit, same-bits}
 use Rattle.lines.specs.Line.{constraintOf, meaning, Shaped}
 
 -- a relation, by its three numbers

@@ -1,4 +1,3 @@
-pub mod Mask
 pub mod Line
 pub mod Forms
 pub mod Scan

@@ -10,7 +10,7 @@ use Rattle.rules.specs.Problem.{Constraint}
 use Rattle.rules.specs.Lines as rules
 use Rattle.rows.specs.Amount.{Amounts}
 use Rattle.lines.specs.declared.line.Line.{Line}
-use Rattle.lines.specs.Mask.{bits}
+use Rattle.masks.specs.Mask.{bits}
 
 -- "relation, 0 without a condition"; 1 is ≤ and 2 is <
 unfoldable pub constraintOf : ℕ → List ℤ → ℤ → Option Constraint

@@ -6,15 +6,13 @@ use crate::row::wide_row;
 use machine::sign::in_range;
 use machine::sign::is_negative;
 use machine::sign::is_positive;
+use masks::lowest;
+use masks::member;
 ghost use mathlib.Core.Path.{_≡_};
 ghost use Prim.Native.Nat.{_<_};
 ghost use Rattle.rules.specs.Lines.{isEmpty, sameLine, positively, negatively, rational, boolean};
-ghost use lib.Count.{trailingZeros};
 ghost use Rattle.rules.specs.Elimination.{order, roundOf, overflows};
 ghost use Rattle.lines.specs.Line.{meaning, Shaped};
-ghost use Rattle.lines.specs.Mask.{bits};
-ghost use lib.ListN.{getD};
-ghost use mathlib.Core.Bool.{false};
 
 pub struct Line {
     // Bit i: Boolean variable i.
@@ -24,21 +22,6 @@ pub struct Line {
     pub relation: u8,
     pub coefficients: [i64; 8],
     pub bound: i64,
-}
-
-// Bit i of a mask.
-pub fn member(mask: u32, i: usize) -> bool
-    requires { ⌜ i < 32 ⌝ }
-    ensures { λ r. ⌜ r ≡ getD (bits 32 mask) i false ⌝ }
-{
-    (mask >> i) % 2 == 1
-}
-
-// The lowest member of a mask, 32 without one.
-fn lowest(mask: u32) -> usize
-    ensures { λ r. ⌜ r ≡ trailingZeros 32 mask ⌝ }
-{
-    u32::trailing_zeros(mask) as usize
 }
 
 impl Line {

@@ -7,4 +7,3 @@ pub mod Clauses
 pub mod Scans
 pub mod Read
 pub mod Values
-pub mod Splits

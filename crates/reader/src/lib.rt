@@ -3,5 +3,3 @@ mod clauses;
 pub mod cursor;
 mod numbers;
 pub mod scan;
-// For fault 13; `scan` does not ask it yet.
-mod splits;

@@ -5,7 +5,6 @@ use mathlib.Core.Option.{Option, none, some}
 use Prim.Native.Nat.{ℕ, zero, suc, _*_, _%_, _^_, _≤_, _<_, max}
 use native.Mathlib.Nat.{pow-succ'}
 use native.Mathlib.Omega.{arith}
-use lib.Pow.{pow-mono}
 use lib.IntN.{ℤ, pos, natAbs, _+ℤ_, _*ℤ_}
 use lib.ListN.{getD}
 use Rattle.rules.specs.Arithmetic.{combine}
@@ -26,13 +25,6 @@ one-lower r cs b o e = rw e (by cs b o)
   where
     by : (cs : List ℤ) (b : ℤ) (o : Option Constraint) → oneOf (constraintOf 0 cs b) o ≡ o
     by cs b o = refl
-
--- a power of two of 32 bits, as a shift makes it
-pub shift-is : (i : ℕ) → i < 32 → 1 * 2 ^ i % 4294967296 ≡ 2 ^ i
-shift-is i h =
-    let l : 2 ^ i * 2 ≤ 2 ^ 32 = omega (arith, pow-succ' 2 i, pow-mono {i = suc i} {j = 32} h) in
-    let p : 0 < 2 ^ i = omega (arith, pow-mono {i = 0} {j = i} (omega arith)) in
-    omega arith
 
 -- ---- by a rational variable
 module _ (f : ℕ) (us : List ℤ) (ub : ℤ) (ls : List ℤ) (lb : ℤ) where

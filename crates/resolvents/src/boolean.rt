@@ -1,23 +1,11 @@
 // The resolvent by a Boolean variable (Davis-Putnam), before it is normalized.
 use lines::line::Line;
-use lines::line::member;
+use masks::without;
 ghost use mathlib.Core.Path.{_≡_};
 ghost use Prim.Native.Nat.{_<_};
-ghost use Rattle.rules.specs.Lines.{boolean, excluding};
+ghost use Rattle.rules.specs.Lines.{boolean};
 ghost use Rattle.rules.specs.Resolve.{resolvent};
 ghost use Rattle.lines.specs.Line.{meaning, Shaped};
-ghost use Rattle.lines.specs.Mask.{bits};
-
-// A mask without one member.
-fn without(mask: u32, i: usize) -> u32
-    requires { ⌜ i < 32 ⌝ }
-    ensures { λ r. ⌜ bits 32 r ≡ excluding i (bits 32 mask) ⌝ }
-{
-    if member(mask, i) {
-        return mask - (1 << i);
-    }
-    mask
-}
 
 // The constraint is that of the upper line, and without one that of the lower.
 pub fn resolvent_boolean(i: usize, upper: Line, lower: Line) -> Line

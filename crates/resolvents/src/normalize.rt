@@ -1,6 +1,7 @@
 // Normalizing a line.
 use lines::line::Line;
 use machine::sign::is_zero;
+use masks::meets;
 ghost use mathlib.Core.Path.{_≡_};
 ghost use Rattle.rules.specs.Lists.{all};
 ghost use Rattle.rules.specs.Arithmetic.{isZero};
@@ -11,7 +12,7 @@ ghost use Rattle.lines.specs.Line.{meaning};
 pub fn clashes(line: Line) -> bool
     ensures { λ r. ⌜ r ≡ meet (meaning line .positive) (meaning line .negative) ⌝ }
 {
-    (line.positive & line.negative) != 0
+    meets(line.positive, line.negative)
 }
 
 // All coefficients are 0.

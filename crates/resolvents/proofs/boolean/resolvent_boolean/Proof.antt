@@ -9,7 +9,7 @@ use Rattle.lines.specs.declared.line.Line.{Line}
 use Rattle.lines.specs.Line.{constraintOf, meaning, Shaped}
 use Prim.Native.Nat.{ℕ}
 use lib.IntN.{ℤ}
-use Rattle.lines.specs.Mask.{union-bits}
+use Rattle.masks.specs.Mask.{union-bits}
 use Rattle.resolvents.specs.Resolvent.{one-upper, one-lower}
 use borrow.Author.Needs.{needs}
 use Rattle.resolvents.proofs.boolean.resolvent_boolean.Statement.{statement}

@@ -11,7 +11,7 @@ use mir.Facts.{toZ-ofZ}
 use Rattle.rules.specs.Resolve.{resolvent}
 use Rattle.rows.specs.Amount.{amount-bits}
 use Rattle.lines.specs.Line.{constraintOf, meaning, Shaped}
-use Rattle.lines.specs.Mask.{union-bits}
+use Rattle.masks.specs.Mask.{union-bits}
 use Rattle.resolvents.specs.Resolvent.{combined, combination-is, constraints-agree}
 use borrow.Author.Needs.{needs}
 use Rattle.resolvents.proofs.rational.resolvent_rational.Statement.{statement}

@@ -1,9 +1,9 @@
--- `line::member` meets its contract. Assumes nothing.
+-- `masks::member` meets its contract. Assumes nothing.
 use mathlib.Core.Path.{sym}
-use Rattle.lines.specs.Mask.{has-bits}
+use Rattle.masks.specs.Mask.{has-bits}
 use borrow.Author.Needs.{needs}
-use Rattle.lines.proofs.line.member.Statement.{statement}
-use Rattle.lines.proofs.line.member.Tie as tie
+use Rattle.masks.proofs.member.Statement.{statement}
+use Rattle.masks.proofs.member.Tie as tie
 
 cast-result : tie.Need-cast-result
 cast-result c = search needs

@@ -5,14 +5,15 @@ use mathlib.Core.List.{List, [], _∷_}
 use Prim.Native.Nat.{ℕ, zero, suc, _+_, _*_, _-_, _/_, _%_, _^_, _≤_, _<_, max, min}
 use native.Mathlib.Nat.{mod-lt, pow-succ', div-one, div-div-eq-div-mul}
 use native.Mathlib.Omega.{arith}
+use lib.Pow.{pow-mono}
 use borrow.Author.Tests.{eq-eqb, ne-eqb, eqb-true, eqb-false}
 use lib.Dec.{T, eqb, eqb→eq}
 use lib.ListN.{length, getD, set}
-use lib.Bits.{bitOr, bitAnd, or-step, and-step, and-lt}
+use lib.Bits.{bitOr, bitAnd, or-step, or-zero-r, and-step, and-lt}
 use mir.Facts.{and-yes, yes-and}
 use Rattle.lists.specs.Tests.{tests-agree, of-true, is-true}
 use Rattle.rules.specs.Lists.{any, same}
-use Rattle.rules.specs.Lines.{Booleans, union, meet, excluding}
+use Rattle.rules.specs.Lines.{Booleans, union, meet, including, excluding}
 use Rattle.rules.specs.Steps.{mask}
 
 -- the lowest k digits, the lowest first
@@ -151,3 +152,34 @@ unfolding bits excluding
 excluding-other zero n i e = refl
 excluding-other (suc k) n zero e = let o : eqb (n % 2) 1 ≡ false = rw (div-one n) at e in rw o
 excluding-other (suc k) n (suc i) e = ap (λ (s : Booleans). eqb (n % 2) 1 ∷ s) (excluding-other k (n / 2) i (rw (← shifted n i) e))
+
+-- a power of two of 32 bits, as a shift makes it
+pub shift-is : (i : ℕ) → i < 32 → 1 * 2 ^ i % 4294967296 ≡ 2 ^ i
+shift-is i h =
+    let l : 2 ^ i * 2 ≤ 2 ^ 32 = omega (arith, pow-succ' 2 i, pow-mono {i = suc i} {j = 32} h) in
+    let p : 0 < 2 ^ i = omega (arith, pow-mono {i = 0} {j = i} (omega arith)) in
+    omega arith
+
+-- with one member more: its power is put in, or there is no such place
+pub including-bits : (k n i : ℕ) → including i (bits k n) ≡ bits k (bitOr n (2 ^ i))
+unfolding bits including
+including-bits zero n i = refl
+including-bits (suc k) n zero =
+    let r = half (bitOr n 1) (bitOr (n / 2) 0) (max (n % 2) 1) (or-step n 1) (one-< (n % 2) (digit-< n)) in
+    let e : max (n % 2) 1 ≡ 1 = omega (arith, digit-< n) in
+    rw (r .0, r .1, e, or-zero-r (n / 2))
+  where
+    one-< : (x : ℕ) → x < 2 → max x 1 < 2
+    one-< x h = omega arith
+including-bits (suc k) n (suc i) =
+    let e : 2 ^ suc i / 2 ≡ 2 ^ i = omega (arith, pow-succ' 2 i) in
+    let o : 2 ^ suc i % 2 ≡ 0 = omega (arith, pow-succ' 2 i) in
+    let r = half (bitOr n (2 ^ suc i)) (bitOr (n / 2) (2 ^ suc i / 2)) (max (n % 2) (2 ^ suc i % 2)) (or-step n (2 ^ suc i)) (omega (arith, digit-< n)) in
+    let z : max (n % 2) 0 ≡ n % 2 = omega arith in
+    rw (r .0, r .1, e, o, z, ← including-bits k (n / 2) i)
+
+pub including-beyond : (k n i : ℕ) → k ≤ i → including i (bits k n) ≡ bits k n
+unfolding bits including
+including-beyond zero n i h = refl
+including-beyond (suc k) n zero h = absurd (omega arith)
+including-beyond (suc k) n (suc i) h = ap (λ (s : Booleans). eqb (n % 2) 1 ∷ s) (including-beyond k (n / 2) i (omega arith))

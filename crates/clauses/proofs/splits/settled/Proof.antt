@@ -6,11 +6,11 @@ use mir.Syntax.{w64}
 use mir.Facts.{toZ-ofZ}
 use Rattle.rules.specs.Arithmetic.{isPositive, isNegative}
 use Prim.Native.Nat.{_+_}
 use Rattle.reader.specs.Values.{behind-is}
-use Rattle.reader.specs.Splits.{fate-kept, fate-strict-always, fate-strict-never, fate-never, fate-always}
+use Rattle.clauses.specs.Splits.{fate-kept, fate-strict-always, fate-strict-never, fate-never, fate-always}
 use borrow.Author.Needs.{needs, sfits-of}
-use Rattle.reader.proofs.splits.settled.Statement.{statement}
-use Rattle.reader.proofs.splits.settled.Tie as tie
+use Rattle.clauses.proofs.splits.settled.Statement.{statement}
+use Rattle.clauses.proofs.splits.settled.Tie as tie
 
 add-zeros : tie.Need-add-zeros
 add-zeros c = search needs

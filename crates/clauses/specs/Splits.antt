@@ -21,11 +21,11 @@ use Rattle.rules.specs.Normalize.{Settled, always, never, kept, settled, settle
 use Rattle.rules.specs.Split.{splitsOf}
 use Rattle.lists.specs.Tests.{clash, of-true, of-false}
 use Rattle.layout.specs.Amounts.{fromUnsigned-low, fromUnsigned-high}
-use Rattle.reader.specs.declared.splits.Fate.{Fate}
-use Rattle.reader.specs.declared.splits.Fate.the-variants.{Always, Never, Kept}
-use Rattle.reader.specs.declared.splits.Kept as stay
-use Rattle.reader.specs.declared.splits.Kept.the-variants.{Dropped, Count}
+use Rattle.clauses.specs.declared.splits.Fate.{Fate}
+use Rattle.clauses.specs.declared.splits.Fate.the-variants.{Always, Never, Kept}
+use Rattle.clauses.specs.declared.splits.Kept as stay
+use Rattle.clauses.specs.declared.splits.Kept.the-variants.{Dropped, Count}
 use Rattle.reader.specs.Values.{valuesAt, behind, behind-is, amountAt, boundOf, constraintAt}
 
 unfoldable pub fate : Settled → Fate
 fate always = Always

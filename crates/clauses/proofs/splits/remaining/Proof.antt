@@ -3,9 +3,9 @@ use mathlib.Core.Path.{refl, sym, _∙_}
 use Prim.Native.Nat.{_+_, _*_, _-_}
 use native.Mathlib.Omega.{arith}
 use borrow.Author.Needs.{needs}
-use Rattle.reader.specs.Splits.{weight-≤, Keeping, keeping-done, keeping-within, keeping-drop, keeping-next}
-use Rattle.reader.proofs.splits.remaining.Statement.{statement}
-use Rattle.reader.proofs.splits.remaining.Tie as tie
+use Rattle.clauses.specs.Splits.{weight-≤, Keeping, keeping-done, keeping-within, keeping-drop, keeping-next}
+use Rattle.clauses.proofs.splits.remaining.Statement.{statement}
+use Rattle.clauses.proofs.splits.remaining.Tie as tie
 
 abbrev Inv-loop : tie.InvT-loop
 Inv-loop q from r count size at₀ left₀ n₀ at left n = Keeping q r from count at left n

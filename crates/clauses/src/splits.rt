@@ -9,8 +9,8 @@ ghost use lib.ListN.{length};
 ghost use Rattle.rules.specs.Lists.{all};
 ghost use Rattle.rules.specs.Arithmetic.{isZero};
 ghost use Rattle.rules.specs.Normalize.{settled, settledAll};
 ghost use Rattle.reader.specs.Values.{valuesAt, behind, amountAt, constraintAt};
-ghost use Rattle.reader.specs.Splits.{fate, isAlways, weight, counted};
+ghost use Rattle.clauses.specs.Splits.{fate, isAlways, weight, counted};
 
 // "A condition with all coefficients 0 drops the clause if true; if false, the condition alone is struck out."
 pub enum Fate {

@@ -1,9 +1,9 @@
--- `line::lowest` meets its contract. Assumes nothing.
+-- `masks::lowest` meets its contract. Assumes nothing.
 use native.Mathlib.Omega.{arith}
 use lib.Count.{trailing-le}
 use borrow.Author.Needs.{needs}
-use Rattle.lines.proofs.line.lowest.Statement.{statement}
-use Rattle.lines.proofs.line.lowest.Tie as tie
+use Rattle.masks.proofs.lowest.Statement.{statement}
+use Rattle.masks.proofs.lowest.Tie as tie
 
 cast-result : tie.Need-cast-result
 cast-result c = omega (arith, trailing-le 32 (c .args .mask))

@@ -2,9 +2,9 @@
 use mathlib.Core.Path.{refl, sym, _∙_}
 use native.Mathlib.Omega.{arith}
 use borrow.Author.Needs.{needs}
-use Rattle.reader.specs.Splits.{Zeros, zeros-done, zeros-within, zeros-stop, zeros-next}
-use Rattle.reader.proofs.splits.zeros.Statement.{statement}
-use Rattle.reader.proofs.splits.zeros.Tie as tie
+use Rattle.clauses.specs.Splits.{Zeros, zeros-done, zeros-within, zeros-stop, zeros-next}
+use Rattle.clauses.proofs.splits.zeros.Statement.{statement}
+use Rattle.clauses.proofs.splits.zeros.Tie as tie
 
 abbrev Inv-loop : tie.InvT-loop
 Inv-loop q from count at₀ left₀ at left = Zeros q from count at left

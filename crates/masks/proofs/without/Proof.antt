@@ -1,15 +1,15 @@
--- `boolean::without` meets its contract: a member's power of two is taken away. Assumes nothing.
+-- `masks::without` meets its contract: a member's power of two is taken away. Assumes nothing.
 use mathlib.Core.Path.{_≡_, sym, ap, _∙_}
 use mathlib.Core.Bool.{true, false}
 use Prim.Native.Nat.{ℕ, _-_, _/_, _%_, _^_}
 use native.Mathlib.Omega.{arith}
 use borrow.Author.Tests.{eqb-true}
 use lib.Dec.{eqb}
-use Rattle.lines.specs.Mask.{bits, has-bits, member-≤, excluding-member, excluding-other}
-use Rattle.resolvents.specs.Resolvent.{shift-is}
+use Rattle.masks.specs.Mask.{bits, has-bits, member-≤, excluding-member, excluding-other}
+use Rattle.masks.specs.Mask.{shift-is}
 use borrow.Author.Needs.{needs}
-use Rattle.resolvents.proofs.boolean.without.Statement.{statement}
-use Rattle.resolvents.proofs.boolean.without.Tie as tie
+use Rattle.masks.proofs.without.Statement.{statement}
+use Rattle.masks.proofs.without.Tie as tie
 
 member-requires : tie.Need-member-requires
 member-requires c κs = search needs

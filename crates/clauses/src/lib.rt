@@ -1,0 +1,2 @@
+// The clauses of a question that was read without fault, read again from its bytes.
+pub mod splits;
