@@ -150,16 +150,29 @@ module _ (q : List ℕ) where
           ap outline (at-most-good q 1 limit.booleans refusal.Booleans 0 _ hb (omega (arith, fieldAt-1 q 0 hb)) ∙ at-most-good q 1 limit.rationals refusal.Rationals 1 _ hr (omega (arith, fieldAt-1 q 1 hr)))
           ∙ at-most-short q 2 limit.clauses refusal.Clauses 2 _ hr l
 
-      pub problem-bad-n : 4 ≤ length q → limit.clauses < fieldAt 2 2 q → outline (problem q 0) ≡ Fault refusal.Clauses 2
-      unfolding problem
-      problem-bad-n h l =
-          ap outline (at-most-good q 1 limit.booleans refusal.Booleans 0 _ hb (omega (arith, fieldAt-1 q 0 hb)) ∙ at-most-good q 1 limit.rationals refusal.Rationals 1 _ hr (omega (arith, fieldAt-1 q 1 hr)))
-          ∙ at-most-bad q 2 limit.clauses refusal.Clauses 2 _ h l
+-- b and r are there and within their limits, and n is there
+pub record Header (q : List ℕ) : Type 0 where
+  pub booleans : getD q 0 0 ≤ limit.booleans
+  pub rationals : getD q 1 0 ≤ limit.rationals
+  pub clauses : 4 ≤ length q
 
-      pub problem-good : 4 ≤ length q → fieldAt 2 2 q ≤ limit.clauses → problem q 0 ≡ body (getD q 0 0) (getD q 1 0) (fieldAt 2 2 q) (drop 4 q) 4
-      unfolding problem body
-      problem-good h ln =
-          at-most-good q 1 limit.booleans refusal.Booleans 0 _ hb (omega (arith, fieldAt-1 q 0 hb))
-          ∙ at-most-good q 1 limit.rationals refusal.Rationals 1 _ hr (omega (arith, fieldAt-1 q 1 hr))
-          ∙ at-most-good q 2 limit.clauses refusal.Clauses 2 _ h ln
-          ∙ rw (fieldAt-1 q 0 hb, fieldAt-1 q 1 hr)
+module _ (q : List ℕ) (h : Header q) where
+  b-there : 1 ≤ length q
+  b-there = omega (arith, h .clauses)
+
+  r-there : 2 ≤ length q
+  r-there = omega (arith, h .clauses)
+
+  pub problem-bad-n : limit.clauses < fieldAt 2 2 q → outline (problem q 0) ≡ Fault refusal.Clauses 2
+  unfolding problem
+  problem-bad-n l =
+      ap outline (at-most-good q 1 limit.booleans refusal.Booleans 0 _ b-there (omega (arith, fieldAt-1 q 0 b-there, h .booleans)) ∙ at-most-good q 1 limit.rationals refusal.Rationals 1 _ r-there (omega (arith, fieldAt-1 q 1 r-there, h .rationals)))
+      ∙ at-most-bad q 2 limit.clauses refusal.Clauses 2 _ (h .clauses) l
+
+  pub problem-good : fieldAt 2 2 q ≤ limit.clauses → problem q 0 ≡ body (getD q 0 0) (getD q 1 0) (fieldAt 2 2 q) (drop 4 q) 4
+  unfolding problem body
+  problem-good ln =
+      at-most-good q 1 limit.booleans refusal.Booleans 0 _ b-there (omega (arith, fieldAt-1 q 0 b-there, h .booleans))
+      ∙ at-most-good q 1 limit.rationals refusal.Rationals 1 _ r-there (omega (arith, fieldAt-1 q 1 r-there, h .rationals))
+      ∙ at-most-good q 2 limit.clauses refusal.Clauses 2 _ (h .clauses) ln
+      ∙ rw (fieldAt-1 q 0 b-there, fieldAt-1 q 1 r-there)

@@ -10,20 +10,7 @@ ghost use Rattle.rules.specs.Problem.{repeat, literal, clause};
 ghost use Rattle.reader.specs.Seen.{seen};
 ghost use Rattle.reader.specs.Clauses.{constraintList};
 
-fn literal(q: &[u8], at: usize, b: u8) -> Cursor
-    requires { ⌜ at ≤ length (now q) ⌝ }
-    ensures { λ c. ⌜ c ≡ seen (literal b (drop at (now (q .entry))) at) ⌝ }
-{
-    if q.len() <= at {
-        return Cursor::Fault(Refusal::Truncated, q.len());
-    }
-    if q[at] % 128 < b {
-        return Cursor::Next(at + 1);
-    }
-    Cursor::Fault(Refusal::Literal, at)
-}
-
-// So many of them.
+// So many literals: "mark not below b; its byte".
 fn literals(q: &[u8], from: usize, b: u8, count: u8) -> Cursor
     requires { ⌜ from ≤ length (now q) ⌝ }
     ensures { λ c. ⌜ c ≡ seen (repeat count (literal b) (drop from (now (q .entry))) from) ⌝ }
@@ -31,11 +18,13 @@ fn literals(q: &[u8], from: usize, b: u8, count: u8) -> Cursor
     let mut at = from;
     let mut left = count;
     while 0 < left {
-        let one = literal(q, at, b);
-        let Cursor::Next(next) = one else {
-            return one;
-        };
-        at = next;
+        if q.len() <= at {
+            return Cursor::Fault(Refusal::Truncated, q.len());
+        }
+        if b <= q[at] % 128 {
+            return Cursor::Fault(Refusal::Literal, at);
+        }
+        at += 1;
         left -= 1;
     }
     Cursor::Next(at)

@@ -3,7 +3,7 @@ use mathlib.Core.Path.{sym, ap, _∙_}
 use native.Mathlib.Omega.{arith}
 use Prim.Native.Nat.{ℕ}
 use lib.ListN.{getD, drop}
-use Rattle.reader.specs.Scans.{outline, body, problem-short-b, problem-bad-b, problem-short-r, problem-bad-r, problem-short-n, problem-bad-n, problem-good}
+use Rattle.reader.specs.Scans.{Header, outline, body, problem-short-b, problem-bad-b, problem-short-r, problem-bad-r, problem-short-n, problem-bad-n, problem-good}
 use borrow.Author.Needs.{needs}
 use Rattle.reader.proofs.scan.problem.Statement.{statement}
 use Rattle.reader.proofs.scan.problem.Tie as tie
@@ -56,16 +56,15 @@ returns-5 c =
 u16-at-requires : tie.Need-u16-at-requires
 u16-at-requires c κs = search needs
 
-returns-6 : tie.Need-returns-6
-returns-6 c =
-    let u = c .before in
+-- the tests passed when n is known
+header : (u : tie.After-u16-at) → Header (u .before .before .before .before .before .before .before .before .before .args .q .now)
+header u =
     let t5 = u .before in
     let t4 = t5 .before in
-    let t3 = t4 .before .before in
-    let t2 = t3 .before in
-    let t1 = t2 .before .before in
-    let s = t1 .before .before in
-    sym (problem-bad-n (s .args .q .now) (t1 .if1 .left) (t2 .if2 .left) (t3 .if3 .left) (t4 .if4 .left) (t5 .if5 .left) (rw (u .u16-at .ensures) at (c .if6 .taken)))
+    record { booleans = t4 .before .before .before .if2 .left; rationals = t4 .if4 .left; clauses = t5 .if5 .left }
+
+returns-6 : tie.Need-returns-6
+returns-6 c = let u = c .before in sym (problem-bad-n _ (header u) (rw (u .u16-at .ensures) at (c .if6 .taken)))
 
 body-requires : tie.Need-body-requires
 body-requires c κs = search needs
@@ -74,16 +73,10 @@ returns-7 : tie.Need-returns-7
 returns-7 c =
     let t6 = c .before in
     let u = t6 .before in
-    let t5 = u .before in
-    let t4 = t5 .before in
-    let t3 = t4 .before .before in
-    let t2 = t3 .before in
-    let t1 = t2 .before .before in
-    let s = t1 .before .before in
-    let q = s .args .q .now in
+    let q = u .before .before .before .before .before .before .before .before .before .args .q .now in
     c .body .ensures
     ∙ ap (λ (n : ℕ). outline (body (getD q 0 0) (getD q 1 0) n (drop 4 q) 4)) (u .u16-at .ensures)
-    ∙ ap outline (sym (problem-good q (t1 .if1 .left) (t2 .if2 .left) (t3 .if3 .left) (t4 .if4 .left) (t5 .if5 .left) (rw (u .u16-at .ensures) at (t6 .if6 .left))))
+    ∙ ap outline (sym (problem-good q (header u) (rw (u .u16-at .ensures) at (t6 .if6 .left))))
 
 pub problem-spec : {M : Type 1} → statement M
 problem-spec =
