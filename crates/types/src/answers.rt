@@ -1,4 +1,6 @@
 // The answers of document 01's calls. Each case has a number, stated in specs/Answers.antt, by which C is told.
+ghost use mathlib.Core.Path.{_≡_};
+ghost use Rattle.types.specs.Answers.{refusalNumber};
 
 // A refusal of document 01's table, 1 to 17.
 pub enum Refusal {
@@ -19,6 +21,32 @@ pub enum Refusal {
     OutOfSteps,
     ProofLength,
     BadModel,
+}
+
+impl Refusal {
+    pub fn number(self) -> u8
+        ensures { λ n. ⌜ n ≡ refusalNumber self ⌝ }
+    {
+        match self {
+            Refusal::ShortProof => 1,
+            Refusal::ShortModel => 2,
+            Refusal::LongProblem => 3,
+            Refusal::Truncated => 4,
+            Refusal::Booleans => 5,
+            Refusal::Rationals => 6,
+            Refusal::Clauses => 7,
+            Refusal::Literal => 8,
+            Refusal::Constraints => 9,
+            Refusal::Relation => 10,
+            Refusal::Amount => 11,
+            Refusal::Trailing => 12,
+            Refusal::Splits => 13,
+            Refusal::Overflow => 14,
+            Refusal::OutOfSteps => 15,
+            Refusal::ProofLength => 16,
+            Refusal::BadModel => 17,
+        }
+    }
 }
 
 // What solving found: agrees, cannot agree, unwritten.

@@ -57,6 +57,17 @@ pub struct Problem {
     pub(crate) clauses: Vec<Clause>,
 }
 
+impl Problem {
+    /// b, r and n.
+    pub fn counts(&self) -> [usize; 3] {
+        [
+            usize::from(self.booleans),
+            self.rationals,
+            self.clauses.len(),
+        ]
+    }
+}
+
 /// Reads a question, or names its first fault.
 pub fn read(question: &[u8]) -> Result<Problem, Fault> {
     if question.len() > MAX_QUESTION {

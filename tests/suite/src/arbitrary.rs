@@ -2,8 +2,8 @@
 //! of a question, and a fault leaves every lent byte as it was.
 
 use crate::buffers::{BOOK_LENGTH, SHEET_LENGTH};
-use crate::random::Random;
 use crate::report::{equal, Group, Outcome, Sums};
+use questions::random::Random;
 use reference::{check_book, check_sheet, hand_back, print, read, solve};
 use reference::{Answer, Checked, Fault, Part};
 
@@ -29,7 +29,7 @@ pub fn run(sums: &mut Sums) {
 }
 
 fn bytes(random: &mut Random, length: i64) -> Vec<u8> {
-    (0..length).map(|_| random.next() as u8).collect()
+    (0..length).map(|_| random.word() as u8).collect()
 }
 
 /// Random bytes, or a right question with some bytes changed and cut or lengthened at its end.
@@ -41,7 +41,7 @@ fn question(random: &mut Random) -> Vec<u8> {
     let mut question = random.problem().encode();
     for _ in 0..random.between(0, 2) {
         let place = random.between(0, question.len() as i64 - 1) as usize;
-        question[place] = random.next() as u8;
+        question[place] = random.word() as u8;
     }
     if random.once_in(3) {
         let length = random.between(0, question.len() as i64 + 1) as usize;

@@ -3,9 +3,9 @@
 //! must find none. The checks must accept what solving wrote.
 
 use crate::buffers::{read_sheet, solve_filled, Solved};
-use crate::problem::{Assignment, Problem};
-use crate::random::Random;
 use crate::report::{demand, equal, Group, Outcome, Sums};
+use questions::problem::{Assignment, Problem};
+use questions::random::Random;
 use reference::{check_book, check_sheet, Answer, Checked, Verdict};
 
 const CASES: usize = 20_000;

@@ -2,9 +2,9 @@
 //! problem that has a model, and name the line or clause that fails.
 
 use crate::buffers::{read_sheet, solve_filled, Solved, LINE_LENGTH, SHEET_LENGTH};
-use crate::problem::{Assignment, Problem};
-use crate::random::Random;
 use crate::report::{demand, equal, Group, Outcome, Sums};
+use questions::problem::{Assignment, Problem};
+use questions::random::Random;
 use reference::{check_book, check_sheet, Answer, Checked, Verdict};
 
 const SEED: u64 = 3;

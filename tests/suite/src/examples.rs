@@ -2,8 +2,8 @@
 //! program prints for some.
 
 use crate::buffers::{read_sheet, solve_filled, Solved};
-use crate::problem::{at_most, below, no, yes, Problem};
 use crate::report::{equal, Group, Outcome, Sums};
+use questions::problem::{at_most, below, no, yes, Problem};
 use reference::{check_book, check_sheet, print, Answer, Checked, Verdict};
 
 /// An example and what 01 states of it.

@@ -1,7 +1,7 @@
 //! The second solver's big integers, against the built-in ones and by identities beyond them.
 
-use crate::random::Random;
 use crate::report::{demand, equal, Group, Outcome, Sums};
+use questions::random::Random;
 use reference::big::Big;
 
 const CASES: usize = 2_000;
@@ -28,7 +28,7 @@ fn operand(random: &mut Random) -> i128 {
     let size = match random.between(0, 3) {
         0 => i128::from(random.between(0, 3)),
         1 => (1 << random.between(0, 61)) + i128::from(random.between(-1, 1)),
-        _ => i128::from(random.next() >> random.between(2, 63)),
+        _ => i128::from(random.word() >> random.between(2, 63)),
     };
     if random.once_in(2) {
         -size

@@ -1,8 +1,8 @@
 //! The lengths a book and a sheet to check may have: 01's 16 and 2.
 
 use crate::buffers::{BOOK_LENGTH, LINE_LENGTH, SHEET_LENGTH};
-use crate::problem::Problem;
 use crate::report::{equal, Group, Outcome, Sums};
+use questions::problem::Problem;
 use reference::{check_book, check_sheet, Checked};
 
 const BOOKS: [usize; 11] = [

@@ -1,5 +1,6 @@
 //! The test program: runs the second solver on the examples of document 01, on the vectors, on
-//! random problems and on damaged parts. One line for each group; the last line is the sum.
+//! random problems and on damaged parts, and compares the proved code with it. One line for each
+//! group; the last line is the sum.
 
 mod arbitrary;
 mod buffers;
@@ -8,8 +9,7 @@ mod damage;
 mod examples;
 mod integers;
 mod lengths;
-mod problem;
-mod random;
+mod reading;
 mod report;
 mod vectors;
 
@@ -26,6 +26,7 @@ fn main() -> ExitCode {
     damage::run(&mut sums);
     arbitrary::run(&mut sums);
     lengths::run(&mut sums);
+    reading::run(&mut sums);
     println!("{} passed, {} failed", sums.passed, sums.failed);
     match sums.failed {
         0 => ExitCode::SUCCESS,

@@ -18,13 +18,42 @@ pub fn run(sums: &mut Sums) {
     run_file("hand_back vectors", "hand_back.txt", hand_back_case, sums);
 }
 
-/// Runs a file: the first lines, which begin with #, say the fields; every other line is a case.
-fn run_file(name: &'static str, file: &str, case: fn(&Fields) -> Outcome, sums: &mut Sums) {
-    let mut group = Group::new(name);
+/// The questions of all files that have one.
+pub fn questions() -> Vec<Result<Vec<u8>, String>> {
+    let second = ["solve.txt", "check_book.txt", "check_sheet.txt"];
+    let second = second.into_iter().flat_map(|file| {
+        let question = |line: String| bytes(line.split('|').nth(1).ok_or("malformed")?);
+        lines(file).into_iter().map(question)
+    });
+    let padded = lines("buffers.txt").into_iter().map(|line| {
+        let fields: Vec<&str> = line.split('|').collect();
+        let [start, zeros, ..] = fields[..] else {
+            return Err("malformed".into());
+        };
+        padded(start, zeros)
+    });
+    second.chain(padded).collect()
+}
+
+/// A file's lines: the first ones, which begin with #, say the fields; every other one is a case.
+fn lines(file: &str) -> Vec<String> {
     let folder = Path::new(env!("CARGO_MANIFEST_DIR")).join("../vectors");
     let text = std::fs::read_to_string(folder.join(file)).unwrap_or_default();
     let is_header = |line: &&str| line.starts_with('#');
-    let cases: Vec<&str> = text.lines().skip_while(is_header).collect();
+    let cases = text.lines().skip_while(is_header);
+    cases.map(str::to_string).collect()
+}
+
+/// A question by its first bytes and the zeros after them.
+fn padded(start: &str, zeros: &str) -> Result<Vec<u8>, String> {
+    let mut question = bytes(start)?;
+    question.resize(question.len() + number::<usize>(zeros)?, 0);
+    Ok(question)
+}
+
+fn run_file(name: &'static str, file: &str, case: fn(&Fields) -> Outcome, sums: &mut Sums) {
+    let mut group = Group::new(name);
+    let cases = lines(file);
     for (number, line) in cases.iter().enumerate() {
         let fields: Vec<&str> = line.split('|').collect();
         group.case(&format!("{} (case {number})", fields[0]), || case(&fields));
@@ -82,8 +111,7 @@ fn buffers_case(fields: &Fields) -> Outcome {
     let (answer, []) = answer(&[a, b, c], rest)? else {
         return Err("malformed".into());
     };
-    let mut question = bytes(start)?;
-    question.resize(question.len() + number::<usize>(zeros)?, 0);
+    let question = padded(start, zeros)?;
     let mut book = vec![0; number(book)?];
     let mut sheet = vec![0; number(sheet)?];
     equal("answer", &answer, &solve(&question, &mut book, &mut sheet))?;

@@ -10,7 +10,7 @@ impl Random {
         Random(seed)
     }
 
-    pub fn next(&mut self) -> u64 {
+    pub fn word(&mut self) -> u64 {
         self.0 = self.0.wrapping_add(0x9e37_79b9_7f4a_7c15);
         let mixed = (self.0 ^ (self.0 >> 30)).wrapping_mul(0xbf58_476d_1ce4_e5b9);
         let mixed = (mixed ^ (mixed >> 27)).wrapping_mul(0x94d0_49bb_1331_11eb);
@@ -20,7 +20,7 @@ impl Random {
     /// A number from the first to the last, both included.
     pub fn between(&mut self, first: i64, last: i64) -> i64 {
         let count = (last - first + 1) as u64;
-        first + (self.next() % count) as i64
+        first + (self.word() % count) as i64
     }
 
     /// True once in so many times.
@@ -41,6 +41,48 @@ impl Random {
             problem.clauses.push(terms);
         }
         problem
+    }
+
+    /// A problem up to every limit but for its number of clauses, which is at most this; one amount
+    /// in four is at its limit, and one constraint in twelve has no coefficient.
+    pub fn dense_problem(&mut self, clauses: i64) -> Problem {
+        let mut problem = Problem::new(self.between(0, 16) as u8, self.between(0, 8) as u8);
+        for _ in 0..self.between(0, clauses) {
+            let literals = match (problem.booleans, self.once_in(4)) {
+                (0, _) => 0,
+                (_, true) => self.between(0, 32),
+                (_, false) => self.between(0, 2),
+            };
+            let constraints = self.between(0, 8).min(self.between(0, 8));
+            let mut terms = Vec::new();
+            for _ in 0..literals {
+                terms.push(self.literal(problem.booleans));
+            }
+            for _ in 0..constraints {
+                terms.push(self.dense_constraint(problem.rationals));
+            }
+            problem.clauses.push(terms);
+        }
+        problem
+    }
+
+    fn dense_constraint(&mut self, rationals: u8) -> Term {
+        let limit = 1_000_000_000;
+        let none = self.once_in(12);
+        let mut amount = |none: bool| match self.between(0, 7) {
+            _ if none => 0,
+            0 => limit,
+            1 => -limit,
+            2..=4 => self.between(-3, 3) as i32,
+            _ => self.between(-i64::from(limit), i64::from(limit)) as i32,
+        };
+        let coefficients = (0..rationals).map(|_| amount(none)).collect();
+        let bound = amount(false);
+        Term::Constraint {
+            strict: self.once_in(2),
+            coefficients,
+            bound,
+        }
     }
 
     /// A clause of at most three literals and three constraints, mostly short.

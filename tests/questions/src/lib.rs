@@ -1,0 +1,5 @@
+//! Questions for the test programs. Nothing here uses a solver.
+
+pub mod largest;
+pub mod problem;
+pub mod random;
