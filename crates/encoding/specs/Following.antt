@@ -25,7 +25,7 @@ use Rattle.lists.specs.Dropped.{dropped-is}
 use Rattle.vectors.specs.Amounts.{overflows-no}
 use Rattle.resolution.specs.Formed.{Formed, resolve-formed}
 use Rattle.encoding.specs.Lines.{Encodable, AllEncodable}
-use Rattle.encoding.specs.Headers.{named-back, parents-back}
+use Rattle.layout.specs.Headers.{named-back, parents-back}
 use Rattle.encoding.specs.Stated.{stated-part, stated-result, derived-line, result-named}
 
 -- "the result of two earlier lines, neither wide nor dropped by tidying, first parent positive; by a mark at most one parent has a

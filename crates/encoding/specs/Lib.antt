@@ -1,6 +1,5 @@
 pub mod Lines
 pub mod Steps
-pub mod Headers
 pub mod ReadBack
 pub mod Models
 pub mod Agreement

@@ -27,7 +27,7 @@ use Rattle.course.specs.Origins.{Each, Derived, Justified}
 use Rattle.course.specs.Ends.{LastEmpty}
 use Rattle.encoding.specs.Lines.{Encodable, AllEncodable}
 use Rattle.encoding.specs.Steps.{take-step, drop-step, proof-length}
-use Rattle.encoding.specs.Headers.{named-back, parents-back}
+use Rattle.layout.specs.Headers.{named-back, parents-back}
 use Rattle.encoding.specs.Stated.{stated-part, stated-result, at-element, derived-line, result-named}
 
 -- the two lines that a resolvent names may be paired

@@ -1,3 +1,4 @@
 pub mod Bytes
 pub mod Amounts
 pub mod Fields
+pub mod Headers
