@@ -1,1 +1,7 @@
+pub mod Turns
+pub mod Walk
+pub mod Literals
+pub mod Zeros
+pub mod Settled
+pub mod Remaining
 pub mod Splits

@@ -1,16 +1,22 @@
-// What normalizing leaves of a clause that was read without fault: how many of its constraints stay.
+// What normalizing leaves of a clause that was read without fault: how many of its constraints stay, and its split variables.
+use crate::literals::literals;
+use crate::walk::count_place;
 use fields::amount_at;
 use fields::u32_at;
-use machine::sign::is_negative;
-use machine::sign::is_positive;
+use machine::sign::zero_related;
+use masks::meets;
 ghost use mathlib.Core.Path.{_≡_};
+ghost use mathlib.Core.Bool.{false};
 ghost use Prim.Native.Nat.{_≤_, _+_, _*_};
 ghost use lib.ListN.{length};
 ghost use Rattle.rules.specs.Lists.{all};
 ghost use Rattle.rules.specs.Arithmetic.{isZero};
 ghost use Rattle.rules.specs.Normalize.{settled, settledAll};
-ghost use Rattle.reader.specs.Values.{valuesAt, behind, amountAt, constraintAt};
-ghost use Rattle.clauses.specs.Splits.{fate, isAlways, weight, counted};
+ghost use Rattle.rules.specs.Split.{splitsOf};
+ghost use Rattle.reader.specs.Values.{valuesAt, behind, amountAt, constraintAt, clauseAt, clauseEnd};
+ghost use Rattle.clauses.specs.Settled.{fate};
+ghost use Rattle.clauses.specs.Remaining.{isAlways, weight, counted};
+ghost use Rattle.clauses.specs.Splits.{splitsBy};
 
 // "A condition with all coefficients 0 drops the clause if true; if false, the condition alone is struck out."
 pub enum Fate {
@@ -42,7 +48,7 @@ fn zeros(q: &[u8], from: usize, count: u8) -> bool
     true
 }
 
-fn settled(q: &[u8], at: usize, r: u8) -> Fate
+pub fn settled(q: &[u8], at: usize, r: u8) -> Fate
     requires { ⌜ at + (5 + r * 4) ≤ length (now q) ⌝ }
     ensures { λ s. ⌜ s ≡ fate (settled (constraintAt (now (q .entry)) r at)) ⌝ }
 {
@@ -50,19 +56,13 @@ fn settled(q: &[u8], at: usize, r: u8) -> Fate
         return Fate::Kept;
     }
     let bound = amount_at(q, at + 1 + (r as usize) * 4);
-    if q[at] == 2 {
-        if is_positive(bound) {
-            return Fate::Always;
-        }
-        return Fate::Never;
+    if zero_related(q[at] == 2, bound) {
+        return Fate::Always;
     }
-    if is_negative(bound) {
-        return Fate::Never;
-    }
-    Fate::Always
+    Fate::Never
 }
 
-fn is_always(f: Fate) -> bool
+pub fn is_always(f: Fate) -> bool
     ensures { λ t. ⌜ t ≡ isAlways f ⌝ }
 {
     match f {
@@ -73,7 +73,7 @@ fn is_always(f: Fate) -> bool
 }
 
 // How many constraints it counts as.
-fn weight(f: Fate) -> u8
+pub fn weight(f: Fate) -> u8
     ensures { λ n. ⌜ n ≡ weight f ⌝ }
 {
     match f {
@@ -84,7 +84,7 @@ fn weight(f: Fate) -> u8
 }
 
 // Of so many constraints.
-fn remaining(q: &[u8], from: usize, r: u8, count: u8) -> Kept
+pub fn remaining(q: &[u8], from: usize, r: u8, count: u8) -> Kept
     requires { ⌜ behind (5 + r * 4) count from ≤ length (now q) ⌝ }
     ensures { λ k. ⌜ k ≡ counted 0 (settledAll (valuesAt (constraintAt (now (q .entry)) r) (5 + r * 4) count from)) ⌝ }
 {
@@ -102,4 +102,32 @@ fn remaining(q: &[u8], from: usize, r: u8, count: u8) -> Kept
         left -= 1;
     }
     Kept::Count(n)
+}
+
+// One less than the constraints that stay, where the clause does.
+fn between(k: Kept) -> u8
+    ensures { λ n. ⌜ n ≡ splitsBy false k ⌝ }
+{
+    match k {
+        Kept::Dropped => 0,
+        Kept::Count(n) => {
+            if n == 0 {
+                return 0;
+            }
+            n - 1
+        }
+    }
+}
+
+// The split variables of a clause.
+pub fn splits(q: &[u8], at: usize, r: u8) -> u8
+    requires { ⌜ clauseEnd (now q) r at ≤ length (now q) ⌝ }
+    ensures { λ n. ⌜ n ≡ splitsOf (clauseAt (now (q .entry)) r at) ⌝ }
+{
+    let place = count_place(q, at);
+    let l = literals(q, at + 1, q[at]);
+    if meets(l.positive, l.negative) {
+        return 0;
+    }
+    between(remaining(q, place + 1, r, q[place]))
 }

@@ -5,13 +5,12 @@ use Prim.Native.Nat.{ℕ, zero, suc, _+_, _*_, _-_, _^_, _≤_, _<_}
 use native.Mathlib.Omega.{arith}
 use lib.IntN.{ℤ, pos, negsuc, natAbs}
 use lib.Signed.{mag}
-use lib.ListN.{length, getD, take, drop, replicate, length-append}
+use lib.ListN.{length, getD, replicate, length-append}
 use lib.Seq.{take-at, drop-at, getD-at}
-use Rattle.rules.specs.Bytes.{toBytes, amountBytes, padded, fromBytes, fromUnsigned, toUnsigned, fieldAt}
+use Rattle.rules.specs.Bytes.{toBytes, amountBytes, padded, fromUnsigned, toUnsigned, fieldAt}
 use Rattle.rules.specs.Steps.{Header, headerBytes, lineBytes}
 use Rattle.layout.specs.Bytes.{length-toBytes, fromBytes-toBytes}
 use Rattle.layout.specs.Amounts.{toUnsigned-<, fromUnsigned-toUnsigned}
-use Rattle.rows.specs.Amount.{Amounts}
 use Rattle.lines.specs.declared.line.Line.{Line}
 use Rattle.lines.specs.Line.{meaning, Shaped, Ready}
 use Rattle.line_bytes.specs.Encoding.{encoded, literalBytes, lineBytes-is, amountBytes-++, length-headerBytes, length-amounts}

@@ -1,7 +1,7 @@
 -- A step's bytes by its parts: header, literals, row.
 use mathlib.Core.Path.{_≡_, refl, sym, ap, _∙_}
 use mathlib.Core.List.{List, [], _∷_, _++_, append-assoc, append-nil}
-use Prim.Native.Nat.{ℕ, zero, suc, _+_, _*_, _-_, _≤_, _<_}
+use Prim.Native.Nat.{ℕ, suc, _+_, _*_, _-_, _≤_, _<_}
 use native.Mathlib.Omega.{arith}
 use lib.IntN.{ℤ, pos}
 use native.Mathlib.Numerals.{add-one}
@@ -9,11 +9,11 @@ use lib.ListN.{length, getD, set, take, drop, replicate, length-append, take-app
 use lib.Seq.{sets-eq, take-suc, length-take-le}
 use Rattle.rules.specs.Bytes.{toBytes, amountBytes, padded, toUnsigned}
 use Rattle.rules.specs.Lines as rules
-use Rattle.rules.specs.Steps.{Header, Step, header, headerBytes, lineBytes, encodeStep, relationByte, mask, row}
+use Rattle.rules.specs.Steps.{Header, Step, header, headerBytes, lineBytes, encodeStep, relationByte, row}
 use Rattle.fields.specs.Field.{stored, stored-++}
 use Rattle.layout.specs.Bytes.{length-toBytes}
 use Rattle.lines.specs.declared.line.Line.{Line}
-use Rattle.masks.specs.Mask.{bits, mask-bits}
+use Rattle.masks.specs.Mask.{mask-bits}
 use Rattle.lines.specs.Line.{constraintOf, meaning, Shaped}
 use Rattle.lines.specs.Forms.{row-is, relations}
 

@@ -1,3 +1,4 @@
 pub mod Encoding
 pub mod Parts
 pub mod Decoding
+pub mod Places

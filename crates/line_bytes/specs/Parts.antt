@@ -2,9 +2,8 @@
 use mathlib.Core.Path.{_≡_, refl, sym, ap, _∙_}
 use mathlib.Core.List.{List, [], _∷_, _++_, append-assoc, append-nil}
 use Prim.Native.Nat.{ℕ, zero, suc, _+_, _-_, _≤_, _<_}
-use native.Mathlib.Numerals.{add-one}
 use native.Mathlib.Omega.{arith}
-use lib.ListN.{length, getD, set, take, drop, replicate, length-append, take-append-drop}
+use lib.ListN.{length, getD, set, take, drop, replicate, length-append, length-replicate, take-append-drop}
 use lib.Seq.{drop-drop, drop-cons, set-at, length-take-le, append-snoc}
 use Rattle.fields.specs.Field.{stored}
 
@@ -13,10 +12,6 @@ lent-stored b v a k e =
     ap (λ (m : ℕ). take a b ++ (v ++ drop m (drop a b))) e
     ∙ ap (λ (r : List ℕ). take a b ++ (v ++ r)) (drop-drop (length v) a b)
     ∙ sym (append-assoc (take a b) v (drop (a + length v) b))
-
-pub length-zeros : (n : ℕ) → length (replicate {A = ℕ} n 0) ≡ n
-length-zeros zero = refl
-length-zeros (suc n) = ap suc (length-zeros n)
 
 zeros-more : (n : ℕ) → replicate {A = ℕ} (suc n) 0 ≡ replicate n 0 ++ (0 ∷ [])
 zeros-more zero = refl
@@ -34,9 +29,9 @@ zeros-stored at j s h k =
     let n = j - at in
     let x = replicate {A = ℕ} n 0 in
     let e : j + 1 - at ≡ suc n = omega arith in
-    let i : at + length x ≡ j = omega (arith, length-zeros n) in
-    let m : length (take at s ++ x) ≡ j = length-append (take at s) x ∙ omega (arith, length-take-le at s (omega arith), length-zeros n) in
-    let l : at + length (x ++ (0 ∷ [])) ≡ suc j = omega (arith, length-append x (0 ∷ []), length-zeros n) in
+    let i : at + length x ≡ j = omega (arith, length-replicate {A = ℕ} n 0) in
+    let m : length (take at s ++ x) ≡ j = length-append (take at s) x ∙ omega (arith, length-take-le at s (omega arith), length-replicate {A = ℕ} n 0) in
+    let l : at + length (x ++ (0 ∷ [])) ≡ suc j = omega (arith, length-append x (0 ∷ []), length-replicate {A = ℕ} n 0) in
     let front : set (stored at x s) j 0 ≡ (take at s ++ x) ++ 0 ∷ drop (suc j) s =
     ap (λ (y : List ℕ). set ((take at s ++ x) ++ y) j 0) (ap (λ (m : ℕ). drop m s) i ∙ drop-cons s j 0 k) ∙ set-at (take at s ++ x) (getD s j 0) (drop (suc j) s) 0 j m in
     let back : stored at (x ++ (0 ∷ [])) s ≡ (take at s ++ x) ++ 0 ∷ drop (suc j) s =

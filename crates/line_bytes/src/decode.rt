@@ -3,7 +3,7 @@ use fields::amount_at;
 use fields::u32_at;
 use lines::line::Line;
 ghost use mathlib.Core.Path.{_≡_};
-ghost use Prim.Native.Nat.{_≤_, _<_, _^_};
+ghost use Prim.Native.Nat.{_≤_, _<_};
 ghost use Rattle.rules.specs.Bytes.{fieldAt};
 ghost use Rattle.line_bytes.specs.Decoding.{amountsAt, decoded};
 

@@ -7,7 +7,7 @@ ghost use mathlib.Core.Path.{_≡_};
 ghost use mathlib.Core.List.{[], _∷_, _++_};
 ghost use Prim.Native.Nat.{_≤_};
 ghost use lib.IntN.{natAbs};
-ghost use Rattle.rules.specs.Bytes.{toBytes, amountBytes};
+ghost use Rattle.rules.specs.Bytes.{amountBytes};
 ghost use Rattle.rules.specs.Steps.{headerBytes};
 ghost use Rattle.fields.specs.Field.{stored};
 ghost use Rattle.rows.specs.Amount.{Amounts};

@@ -1,18 +1,18 @@
 -- A line's tests by its words: coefficients, masks, relation.
 use mathlib.Core.Path.{_≡_, refl, sym, ap, _∙_}
-use mathlib.Core.Bool.{Bool, true, false, not, _&&_, _||_, Bool·beq, and-assoc, or-assoc, or-false}
+use mathlib.Core.Bool.{Bool, true, false, not, _&&_, _||_, and-assoc, and-false, or-assoc, or-false}
 use mathlib.Core.List.{List, [], _∷_, _++_}
 use Prim.Native.Nat.{ℕ, zero, suc, _+_, _/_, _%_, _^_, _≤_, _<_}
 use native.Mathlib.Nat.{mod-lt, div-one}
-use native.Mathlib.Numerals.{add-one}
 use native.Mathlib.Omega.{arith}
-use borrow.Author.Tests.{ne-eqb}
 use lib.IntN.{ℤ, pos}
 use lib.Dec.{eqb, eqb·suc-zero, eqb·zero-suc, eqb·suc-suc}
-use lib.ListN.{length, drop, getD, replicate}
-use lib.Seq.{drop-cons, drop-length}
+use lib.ListN.{length, getD, replicate}
 use lib.Bits.{bitOr}
 use lib.Count.{trailingZeros, under}
+use mir.Syntax.{w64}
+use mir.Val.{SFits, ofZ, toZ}
+use mir.Facts.{toZ-ofZ}
 use Rattle.rules.specs.Lists.{any, same, tabulate}
 use Rattle.rules.specs.Arithmetic.{equal, isZero}
 use Rattle.rules.specs.Problem.{inRange}
@@ -43,6 +43,10 @@ pub coefficient-is : (l : Line) → Shaped l → (f : ℕ) → coefficient f (me
 unfolding meaning
 coefficient-is l h f = coefficient-at (l .relation) (l .coefficients) (l .bound) f (h .coefficients)
 
+-- a test of a coefficient's machine word
+pub coefficient-test : (t : ℤ → Bool) (l : Line) (f : ℕ) {r : Bool} → Shaped l → SFits w64 (getD (l .coefficients) f (pos 0)) → r ≡ t (toZ w64 (ofZ w64 (getD (l .coefficients) f (pos 0)))) → r ≡ t (coefficient f (meaning l .constraint))
+coefficient-test t l f h w e = e ∙ ap t (toZ-ofZ w ∙ sym (coefficient-is l h f))
+
 none-at : (r : ℕ) (cs : List ℤ) (b : ℤ) → noConstraint (constraintOf r cs b) ≡ eqb r 0
 unfolding noConstraint constraintOf
 none-at zero cs b = refl
@@ -53,16 +57,12 @@ unfolding meaning isEmpty
 empty-is l h k = rw (none-bits 32 (l .positive) h, none-bits 32 (l .negative) k, none-at (l .relation) (l .coefficients) (l .bound))
 
 -- ---- equal lines
-and-no : (a : Bool) → a && false ≡ false
-and-no true = refl
-and-no false = refl
-
 same-at : (r : ℕ) (cs : List ℤ) (b : ℤ) (s : ℕ) (ds : List ℤ) (d : ℤ) → r ≤ 2 → s ≤ 2 → (r ≡ 0 → cs ≡ replicate 8 (pos 0)) → (s ≡ 0 → ds ≡ replicate 8 (pos 0)) → (r ≡ 0 → b ≡ pos 0) → (s ≡ 0 → d ≡ pos 0)
     → sameConstraint (constraintOf r cs b) (constraintOf s ds d) ≡ equal b d && (eqb r s && same equal cs ds)
 unfolding sameConstraint constraintOf equal same
 same-at zero cs b zero ds d l m h i j k = rw (h refl, i refl, j refl, k refl)
-same-at zero cs b (suc s) ds d l m h i j k = rw (eqb·zero-suc s) (sym (and-no (equal b d)))
-same-at (suc r) cs b zero ds d l m h i j k = rw (eqb·suc-zero r) (sym (and-no (equal b d)))
+same-at zero cs b (suc s) ds d l m h i j k = rw (eqb·zero-suc s) (sym (and-false (equal b d)))
+same-at (suc r) cs b zero ds d l m h i j k = rw (eqb·suc-zero r) (sym (and-false (equal b d)))
 same-at (suc r) cs b (suc s) ds d l m h i j k = rw (eqb·suc-suc r s, same-digit r s (omega arith) (omega arith)) (and-assoc (equal b d) (eqb r s) (same equal cs ds))
 
 regroup : (a e s p n : Bool) → (a && (e && s)) && p && n ≡ a && (e && (p && (n && s)))
@@ -166,15 +166,14 @@ leading-≤ (c ∷ cs) rest = by (not (isZero c)) (leading-≤ cs rest)
     by true h = omega arith
     by false h = omega arith
 
--- one coefficient on
-pub leading-zero : (cs : List ℤ) (i rest : ℕ) → i < length cs → isZero (getD cs i (pos 0)) ≡ true → leading (drop i cs) rest ≡ suc (leading (drop (i + 1) cs) rest)
+-- where a scan has found it, and after all
+pub leading-at : (cs : List ℤ) (i rest : ℕ) → ((k : ℕ) → k < i → not (isZero (getD cs k (pos 0))) ≡ false) → i < length cs → not (isZero (getD cs i (pos 0))) ≡ true → leading cs rest ≡ i
 unfolding leading
-leading-zero cs i rest h e = rw (add-one i, drop-cons cs i (pos 0), e)
+leading-at [] i rest e h f = absurd (omega arith)
+leading-at (c ∷ cs) zero rest e h f = rw f
+leading-at (c ∷ cs) (suc i) rest e h f = rw (e 0 (omega arith)) (ap suc (leading-at cs i rest (λ k l. e (suc k) (omega arith)) (omega arith) f))
 
-pub leading-other : (cs : List ℤ) (i rest : ℕ) → i < length cs → isZero (getD cs i (pos 0)) ≡ false → leading (drop i cs) rest ≡ 0
+pub leading-none : (cs : List ℤ) (rest : ℕ) → ((k : ℕ) → k < length cs → not (isZero (getD cs k (pos 0))) ≡ false) → leading cs rest ≡ length cs + rest
 unfolding leading
-leading-other cs i rest h e = rw (drop-cons cs i (pos 0), e)
-
-pub leading-end : (cs : List ℤ) (i rest : ℕ) → length cs ≡ i → leading (drop i cs) rest ≡ rest
-unfolding leading
-leading-end cs i rest h = rw (← h, drop-length cs)
+leading-none [] rest e = omega arith
+leading-none (c ∷ cs) rest e = let r = leading-none cs rest (λ k l. e (suc k) (omega arith)) in rw (e 0 (omega arith)) (omega arith)

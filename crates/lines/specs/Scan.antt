@@ -1,56 +1,70 @@
--- Scans of lists from the front: what is left decides.
+-- Scans of rows from the front.
 use mathlib.Core.Path.{_≡_, refl, sym, ap, subst, _∙_}
-use mathlib.Core.Bool.{Bool, true, false, _&&_, _||_}
+use mathlib.Core.Bool.{Bool, true, false, not, or-true, and-false}
 use mathlib.Core.List.{List, [], _∷_}
-use Prim.Native.Nat.{ℕ, _+_, _<_}
-use native.Mathlib.Numerals.{add-one}
-use lib.IntN.{ℤ, pos, negsuc}
+use Prim.Native.Nat.{ℕ, zero, suc, _+_, _≤_, _<_}
+use native.Mathlib.Omega.{arith}
+use borrow.Author.Count.{below-more}
+use borrow.Author.Tests.{not-true, not-false}
+use lib.IntN.{ℤ}
 use lib.Dec.{T, eqb, eqb→eq, eqb-refl}
 use mir.Syntax.{w64}
 use mir.Val.{SFits, ofZ, toZ}
 use mir.Facts.{toZ-ofZ}
-use lib.ListN.{length, getD, drop}
-use lib.Seq.{drop-cons, drop-length}
+use lib.ListN.{length, getD}
 use Rattle.rules.specs.Lists.{any, same}
 use Rattle.rules.specs.Arithmetic.{equal}
 use Rattle.lists.specs.Tests.{tests-agree}
+use Rattle.vectors.specs.Sign.{equal-yes, yes-equal}
 
+-- the test has held at no place so far
+pub record Scanned (t : ℕ → Bool) (i : ℕ) : Type 0 where
+  pub within : i ≤ 8
+  pub none : (k : ℕ) → k < i → t k ≡ false
+
+module _ (t : ℕ → Bool) where
+  pub scanned-start : Scanned t 0
+  scanned-start = record { within = omega arith; none = λ k h. absurd (omega arith) }
+
+  pub scanned-next : (i : ℕ) → Scanned t i → i < 8 → t i ≡ false → Scanned t (i + 1)
+  scanned-next i s h e = record { within = omega arith; none = below-more (λ k. t k ≡ false) i (s .none) e }
+
+-- a test of a machine word, as a test of the number
+pub told : (t : ℤ → Bool) (z : ℤ) {r : Bool} → SFits w64 z → r ≡ t (toZ w64 (ofZ w64 z)) → t z ≡ r
+told t z f e = ap t (sym (toZ-ofZ f)) ∙ sym e
+
+-- ---- what a scan has told, at a place where the test holds and after all
 module _ {A : Type 0} (d : A) where
-  pub any-next : (t : A → Bool) (s : List A) (i : ℕ) → i < length s → any t (drop i s) ≡ t (getD s i d) || any t (drop (i + 1) s)
-  unfolding any
-  any-next t s i h = rw (add-one i, drop-cons s i d)
+  module _ (t : A → Bool) where
+    pub any-at : (s : List A) (i : ℕ) → i < length s → t (getD s i d) ≡ true → any t s ≡ true
+    unfolding any
+    any-at [] i h e = absurd (omega arith)
+    any-at (a ∷ s) zero h e = rw e
+    any-at (a ∷ s) (suc i) h e = rw (any-at s i (omega arith) e) (or-true (t a))
 
-  pub any-end : (t : A → Bool) (s : List A) (i : ℕ) → length s ≡ i → any t (drop i s) ≡ false
-  unfolding any
-  any-end t s i h = rw (← h, drop-length s)
+    pub any-none : (s : List A) → ((k : ℕ) → k < length s → t (getD s k d) ≡ false) → any t s ≡ false
+    unfolding any
+    any-none [] e = refl
+    any-none (a ∷ s) e = rw (e 0 (omega arith)) (any-none s (λ k h. e (suc k) (omega arith)))
 
-  pub same-next : (e : A → A → Bool) (s t : List A) (i : ℕ) → i < length s → i < length t → same e (drop i s) (drop i t) ≡ e (getD s i d) (getD t i d) && same e (drop (i + 1) s) (drop (i + 1) t)
-  unfolding same
-  same-next e s t i h k = rw (add-one i, drop-cons s i d h, drop-cons t i d k)
+  module _ (equals : A → A → Bool) where
+    pub same-at : (s u : List A) (i : ℕ) → i < length s → i < length u → not (equals (getD s i d) (getD u i d)) ≡ true → same equals s u ≡ false
+    unfolding same
+    same-at [] u i h k e = absurd (omega arith)
+    same-at (a ∷ s) [] i h k e = refl
+    same-at (a ∷ s) (b ∷ u) zero h k e = rw (not-true (equals a b) e)
+    same-at (a ∷ s) (b ∷ u) (suc i) h k e = rw (same-at s u i (omega arith) (omega arith) e) (and-false (equals a b))
 
-  pub same-end : (e : A → A → Bool) (s t : List A) (i : ℕ) → length s ≡ i → length t ≡ i → same e (drop i s) (drop i t) ≡ true
-  unfolding same
-  same-end e s t i h k = rw (drop-end s h, drop-end t k)
-    where
-      drop-end : (s : List A) → length s ≡ i → drop i s ≡ []
-      drop-end s h = rw (← h) (drop-length s)
+    pub same-none : (s u : List A) → length s ≡ length u → ((k : ℕ) → k < length s → not (equals (getD s k d) (getD u k d)) ≡ false) → same equals s u ≡ true
+    unfolding same
+    same-none [] [] n e = refl
+    same-none [] (b ∷ u) n e = absurd (omega arith)
+    same-none (a ∷ s) [] n e = absurd (omega arith)
+    same-none (a ∷ s) (b ∷ u) n e = rw (not-false (equals a b) (e 0 (omega arith))) (same-none s u (omega arith) (λ k h. e (suc k) (omega arith)))
 
--- ---- equal integers
-equal-eq : (a b : ℤ) → T (equal a b) → a ≡ b
-unfolding equal
-equal-eq (pos a) (pos b) h = ap pos (eqb→eq a b h)
-equal-eq (pos a) (negsuc b) h = absurd h
-equal-eq (negsuc a) (pos b) h = absurd h
-equal-eq (negsuc a) (negsuc b) h = ap negsuc (eqb→eq a b h)
-
-equal-refl : (a : ℤ) → T (equal a a)
-unfolding equal
-equal-refl (pos a) = eqb-refl a
-equal-refl (negsuc a) = eqb-refl a
-
--- by the bits of two machine words
+-- ---- equal integers, by the bits of two machine words
 pub equal-test : (a b : ℤ) → SFits w64 a → SFits w64 b → eqb (ofZ w64 a) (ofZ w64 b) ≡ equal a b
 equal-test a b f g =
     tests-agree (eqb (ofZ w64 a) (ofZ w64 b)) (equal a b)
-    (λ h. subst (λ (z : ℤ). T (equal a z)) (sym (toZ-ofZ f) ∙ ap (toZ w64) (eqb→eq (ofZ w64 a) (ofZ w64 b) h) ∙ toZ-ofZ g) (equal-refl a))
-    (λ h. subst (λ (z : ℤ). T (eqb (ofZ w64 a) (ofZ w64 z))) (equal-eq a b h) (eqb-refl (ofZ w64 a)))
+    (λ h. yes-equal (sym (toZ-ofZ f) ∙ ap (toZ w64) (eqb→eq (ofZ w64 a) (ofZ w64 b) h) ∙ toZ-ofZ g))
+    (λ h. subst (λ (z : ℤ). T (eqb (ofZ w64 a) (ofZ w64 z))) (equal-yes a b h) (eqb-refl (ofZ w64 a)))

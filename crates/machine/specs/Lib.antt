@@ -1,2 +1,3 @@
 pub mod Odd
 pub mod Signed
+pub mod Related

@@ -1,8 +1,8 @@
 // The size and the sign of an integer.
 use types::limits::Limits;
 ghost use mathlib.Core.Path.{_≡_};
-ghost use lib.IntN.{natAbs};
-ghost use Rattle.rules.specs.Arithmetic.{isPositive, isNegative, isZero};
+ghost use lib.IntN.{pos, natAbs};
+ghost use Rattle.rules.specs.Arithmetic.{isPositive, isNegative, isZero, related};
 ghost use Rattle.rules.specs.Problem.{inRange};
 
 // The least number has no negation of its width, its successor has.
@@ -33,6 +33,16 @@ pub fn is_zero(z: i64) -> bool
     ensures { λ r. ⌜ r ≡ isZero z ⌝ }
 {
     z == 0
+}
+
+// Whether 0 is related to a bound: 0 < bound where strict, 0 ≤ bound where not.
+pub fn zero_related(strict: bool, bound: i64) -> bool
+    ensures { λ t. ⌜ t ≡ related strict (pos 0) bound ⌝ }
+{
+    if strict {
+        return is_positive(bound);
+    }
+    !is_negative(bound)
 }
 
 // Whether it is an amount.

@@ -7,3 +7,4 @@ pub mod Clauses
 pub mod Scans
 pub mod Read
 pub mod Values
+pub mod Sound

@@ -80,11 +80,11 @@ module _ (q : List ℕ) {A : Type 0} where
   Valued v n (fault f place) = Unit {0}
   Valued v n (got a bytes place) = There q v n a bytes place
 
-  there : (v : A) (n : ℕ) → n ≤ length q → There q v n v (drop n q) n
+  pub there : (v : A) (n : ℕ) → n ≤ length q → There q v n v (drop n q) n
   there v n h = record { value = refl; left = refl; end = refl; within = h }
 
 module _ (q : List ℕ) {A B : Type 0} where
-  valued-after : (v : A) (n : ℕ) (w : B) (m : ℕ) (r : Read A) (next : A → Reader B) → Valued q v n r → (n ≤ length q → Valued q w m (next v (drop n q) n)) → Valued q w m (after r next)
+  pub valued-after : (v : A) (n : ℕ) (w : B) (m : ℕ) (r : Read A) (next : A → Reader B) → Valued q v n r → (n ≤ length q → Valued q w m (next v (drop n q) n)) → Valued q w m (after r next)
   unfolding after
   valued-after v n w m (fault f place) next t h = tt
   valued-after v n w m (got a bytes place) next t h = rw (t .value, t .left, t .end) (h (t .within))

@@ -1,2 +1,2 @@
 pub mod Resolvent
-pub mod Zeros
+pub mod Resolved

@@ -1,18 +1,20 @@
 -- The constraint of a resolvent, by its words.
-use mathlib.Core.Path.{_≡_, refl, sym, ap, _∙_}
+use mathlib.Core.Path.{_≡_, refl}
+use mathlib.Core.Bool.{Bool, true, false}
 use mathlib.Core.List.{List}
-use mathlib.Core.Option.{Option, none, some}
-use Prim.Native.Nat.{ℕ, zero, suc, _*_, _%_, _^_, _≤_, _<_, max}
-use native.Mathlib.Nat.{pow-succ'}
+use mathlib.Core.Option.{Option}
+use Prim.Native.Nat.{ℕ, zero, suc, _*_, _≤_, _<_, max}
 use native.Mathlib.Omega.{arith}
 use lib.IntN.{ℤ, pos, natAbs, _+ℤ_, _*ℤ_}
 use lib.ListN.{getD}
-use Rattle.rules.specs.Arithmetic.{combine}
-use Rattle.rules.specs.Lines.{coefficient}
+use Rattle.lists.specs.Tests.{clash, of-true, of-false}
+use Rattle.rules.specs.Arithmetic.{combine, isPositive, isNegative}
+use Rattle.rules.specs.Lines.{coefficient, rational, positively, negatively}
 use Rattle.lines.specs.Forms.{relations}
 use Rattle.rules.specs.Problem.{Constraint}
 use Rattle.rules.specs.Resolve.{oneOf, combination, combinationOf}
-use Rattle.lines.specs.Line.{constraintOf}
+use Rattle.lines.specs.declared.line.Line.{Line}
+use Rattle.lines.specs.Line.{constraintOf, meaning}
 
 pub one-upper : (r : ℕ) (cs : List ℤ) (b : ℤ) (o : Option Constraint) → (r ≡ 0 → ⊥) → oneOf (constraintOf r cs b) o ≡ constraintOf r cs b
 unfolding oneOf constraintOf
@@ -27,6 +29,21 @@ one-lower r cs b o e = rw e (by cs b o)
     by cs b o = refl
 
 -- ---- by a rational variable
+-- a line without a constraint has no rational variable
+with-variable : (t : ℤ → Bool) (f r : ℕ) (cs : List ℤ) (b : ℤ) → t (pos 0) ≡ false → t (coefficient f (constraintOf r cs b)) ≡ true → 0 < r
+unfolding coefficient constraintOf
+with-variable t f zero cs b n y = clash (t (pos 0)) (of-true (t (pos 0)) y) (of-false (t (pos 0)) n)
+with-variable t f (suc r) cs b n y = omega arith
+
+module _ (f : ℕ) (l : Line) where
+  pub upper-constraint : positively (rational f) (meaning l) ≡ true → 0 < l .relation
+  unfolding meaning positively isPositive
+  upper-constraint y = with-variable isPositive f (l .relation) (l .coefficients) (l .bound) refl y
+
+  pub lower-constraint : negatively (rational f) (meaning l) ≡ true → 0 < l .relation
+  unfolding meaning negatively isNegative
+  lower-constraint y = with-variable isNegative f (l .relation) (l .coefficients) (l .bound) refl y
+
 module _ (f : ℕ) (us : List ℤ) (ub : ℤ) (ls : List ℤ) (lb : ℤ) where
   abbrev pub combined : ℕ → Option Constraint
   combined r =

@@ -4,35 +4,36 @@ use masks::without;
 ghost use mathlib.Core.Path.{_≡_};
 ghost use Prim.Native.Nat.{_<_};
 ghost use Rattle.rules.specs.Lines.{boolean};
-ghost use Rattle.rules.specs.Resolve.{resolvent};
-ghost use Rattle.lines.specs.Line.{meaning, Shaped};
+ghost use Rattle.rules.specs.Resolve.{resolvent, oneOf};
+ghost use Rattle.lines.specs.Line.{meaning, Ready};
 
-// The constraint is that of the upper line, and without one that of the lower.
+// The line whose constraint is taken: the upper one, and without a constraint there the lower.
+fn constrained(upper: Line, lower: Line) -> Line
+    requires { ⌜ Ready upper ⌝ }
+    requires { ⌜ Ready lower ⌝ }
+    ensures { λ r. ⌜ meaning r .constraint ≡ oneOf (meaning upper .constraint) (meaning lower .constraint) ⌝ }
+    ensures { λ r. ⌜ Ready r ⌝ }
+{
+    if upper.relation != 0 {
+        return upper;
+    }
+    lower
+}
+
 pub fn resolvent_boolean(i: usize, upper: Line, lower: Line) -> Line
     requires { ⌜ i < 32 ⌝ }
-    requires { ⌜ Shaped upper ⌝ }
-    requires { ⌜ Shaped lower ⌝ }
+    requires { ⌜ Ready upper ⌝ }
+    requires { ⌜ Ready lower ⌝ }
     ensures { λ r. ⌜ meaning r ≡ resolvent (boolean i) (meaning upper) (meaning lower) ⌝ }
-    ensures { λ r. ⌜ Shaped r ⌝ }
+    ensures { λ r. ⌜ Ready r ⌝ }
 {
-    let positive = without(upper.positive | lower.positive, i);
-    let negative = without(upper.negative | lower.negative, i);
-    let us = upper.coefficients;
-    let ls = lower.coefficients;
-    if upper.relation != 0 {
-        return Line {
-            positive: positive,
-            negative: negative,
-            relation: upper.relation,
-            coefficients: us,
-            bound: upper.bound,
-        };
-    }
+    let from = constrained(upper, lower);
+    let row = from.coefficients;
     Line {
-        positive: positive,
-        negative: negative,
-        relation: lower.relation,
-        coefficients: ls,
-        bound: lower.bound,
+        positive: without(upper.positive | lower.positive, i),
+        negative: without(upper.negative | lower.negative, i),
+        relation: from.relation,
+        coefficients: row,
+        bound: from.bound,
     }
 }

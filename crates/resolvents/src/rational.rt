@@ -4,11 +4,13 @@ use machine::sign::size;
 use rows::combine::combine;
 use rows::combine::combine_rows;
 ghost use mathlib.Core.Path.{_≡_};
+ghost use mathlib.Core.Bool.{true};
 ghost use Prim.Native.Nat.{_<_, _≤_, max};
 ghost use lib.IntN.{pos, natAbs};
-ghost use Rattle.rules.specs.Lines.{rational};
+ghost use Rattle.rules.specs.Lines.{rational, positively, negatively};
 ghost use Rattle.rules.specs.Resolve.{resolvent};
 ghost use Rattle.lines.specs.Line.{meaning, Shaped, Ready};
+ghost use Rattle.normalization.specs.Reduced.{Bounded};
 
 // < if either is <.
 fn stricter(a: u8, b: u8) -> u8
@@ -25,14 +27,15 @@ fn factor(z: i64) -> i64
     size(z) as i64
 }
 
-// Both lines have a constraint.
 pub fn resolvent_rational(f: usize, upper: Line, lower: Line) -> Line
     requires { ⌜ f < 8 ⌝ }
     requires { ⌜ Ready upper ⌝ }
     requires { ⌜ Ready lower ⌝ }
-    requires { ⌜ (0 < upper .relation) × (0 < lower .relation) ⌝ }
+    requires { ⌜ positively (rational f) (meaning upper) ≡ true ⌝ }
+    requires { ⌜ negatively (rational f) (meaning lower) ≡ true ⌝ }
     ensures { λ r. ⌜ meaning r ≡ resolvent (rational f) (meaning upper) (meaning lower) ⌝ }
     ensures { λ r. ⌜ Shaped r ⌝ }
+    ensures { λ r. ⌜ Bounded r ⌝ }
 {
     let us = upper.coefficients;
     let ls = lower.coefficients;

@@ -1,9 +1,8 @@
 -- `splits::remaining` meets its contract: those counted so far and what is left come to the same.
 use mathlib.Core.Path.{refl, sym, _∙_}
-use Prim.Native.Nat.{_+_, _*_, _-_}
 use native.Mathlib.Omega.{arith}
 use borrow.Author.Needs.{needs}
-use Rattle.clauses.specs.Splits.{weight-≤, Keeping, keeping-done, keeping-within, keeping-drop, keeping-next}
+use Rattle.clauses.specs.Remaining.{weight-≤, Keeping, keeping-done, keeping-within, keeping-drop, keeping-next}
 use Rattle.clauses.proofs.splits.remaining.Statement.{statement}
 use Rattle.clauses.proofs.splits.remaining.Tie as tie
 
@@ -23,10 +22,7 @@ loop-holds : tie.Need-loop-holds Inv-loop μ-loop
 loop-holds c = record { end = refl; few = omega arith; same = refl }
 
 settled-requires : tie.Need-settled-requires Inv-loop μ-loop
-settled-requires c κs =
-    let l = c .before .loop in
-    let s = c .before .before .before in
-    omega (arith, keeping-within (s .args .q .now) (s .args .r) (s .args .from) (s .args .count) (l .at) (l .left) (l .n) (l .inv) (c .loop-test .taken), s .pre)
+settled-requires c κs = omega (arith, keeping-within (c .before .loop .inv) (c .loop-test .taken), c .before .before .before .pre)
 
 is-always-requires : tie.Need-is-always-requires Inv-loop μ-loop
 is-always-requires c κs = search needs
@@ -34,10 +30,7 @@ is-always-requires c κs = search needs
 returns : tie.Need-returns Inv-loop μ-loop
 returns c =
     let a = c .before .before in
-    let l = a .before .before .loop in
-    let s = a .before .before .before .before in
-    keeping-drop (s .args .q .now) (s .args .r) (s .args .from) (s .args .count) (l .at) (l .left) (l .n) (l .inv) (a .before .loop-test .taken) (a .settled .result) (a .settled .ensures)
-    (sym (c .before .is-always .ensures) ∙ c .if1 .taken)
+    keeping-drop (a .before .before .loop .inv) (a .before .loop-test .taken) (a .settled .result) (a .settled .ensures) (sym (c .before .is-always .ensures) ∙ c .if1 .taken)
 
 weight-requires : tie.Need-weight-requires Inv-loop μ-loop
 weight-requires c κs = search needs
@@ -45,16 +38,14 @@ weight-requires c κs = search needs
 add-n : tie.Need-add-n Inv-loop μ-loop
 add-n c =
     let a = c .before .before .before in
-    let l = a .before .before .loop in
-    let s = a .before .before .before .before in
-    omega (arith, c .weight .ensures, weight-≤ (a .settled .result), l .inv .few, a .before .loop-test .taken, s .fits .count)
+    let t = a .before in
+    omega (arith, c .weight .ensures, weight-≤ (a .settled .result), t .before .loop .inv .few, t .loop-test .taken, t .before .before .before .fits .count)
 
 add-at : tie.Need-add-at Inv-loop μ-loop
 add-at c =
-    let a = c .before .before .before in
-    let l = a .before .before .loop in
-    let s = a .before .before .before .before in
-    omega (arith, keeping-within (s .args .q .now) (s .args .r) (s .args .from) (s .args .count) (l .at) (l .left) (l .n) (l .inv) (a .before .loop-test .taken), s .pre, s .good)
+    let t = c .before .before .before .before in
+    let s = t .before .before .before in
+    omega (arith, keeping-within (t .before .loop .inv) (t .loop-test .taken), s .pre, s .good)
 
 sub-left : tie.Need-sub-left Inv-loop μ-loop
 sub-left c = search needs
@@ -65,17 +56,11 @@ loop-less c = search needs
 loop-again : tie.Need-loop-again Inv-loop μ-loop
 loop-again c =
     let a = c .before .before .before in
-    let l = a .before .before .loop in
-    let s = a .before .before .before .before in
     rw (c .weight .ensures)
-    (keeping-next (s .args .q .now) (s .args .r) (s .args .from) (s .args .count) (l .at) (l .left) (l .n) (l .inv) (a .before .loop-test .taken) (a .settled .result) (a .settled .ensures)
-    (sym (c .before .before .is-always .ensures) ∙ c .before .if1 .left))
+    (keeping-next (a .before .before .loop .inv) (a .before .loop-test .taken) (a .settled .result) (a .settled .ensures) (sym (c .before .before .is-always .ensures) ∙ c .before .if1 .left))
 
 returns-2 : tie.Need-returns-2 Inv-loop μ-loop
-returns-2 c =
-    let l = c .before .loop in
-    let s = c .before .before .before in
-    keeping-done (s .args .q .now) (s .args .r) (s .args .from) (s .args .count) (l .at) (l .left) (l .n) (l .inv) (c .loop-test .left)
+returns-2 c = keeping-done (c .before .loop .inv) (c .loop-test .left)
 
 pub remaining-spec : {M : Type 1} → statement M
 remaining-spec =

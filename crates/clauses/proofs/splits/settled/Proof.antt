@@ -1,13 +1,18 @@
 -- `splits::settled` meets its contract: a law for each return.
-use mathlib.Core.Path.{sym, ap, _∙_}
+use mathlib.Core.Path.{_≡_, sym, ap, _∙_}
+use mathlib.Core.Bool.{true}
 use native.Mathlib.Omega.{arith}
 use borrow.Author.Tests.{not-true, not-false}
 use mir.Syntax.{w64}
 use mir.Facts.{toZ-ofZ}
-use Rattle.rules.specs.Arithmetic.{isPositive, isNegative}
+use lib.IntN.{pos}
+use lib.Dec.{eqb}
+use lib.ListN.{getD}
 use Prim.Native.Nat.{_+_}
-use Rattle.reader.specs.Values.{behind-is}
-use Rattle.clauses.specs.Splits.{fate-kept, fate-strict-always, fate-strict-never, fate-never, fate-always}
+use Rattle.rules.specs.Lists.{all}
+use Rattle.rules.specs.Arithmetic.{isZero, related}
+use Rattle.reader.specs.Values.{valuesAt, amountAt, behind-is}
+use Rattle.clauses.specs.Settled.{fate-kept, fate-always, fate-never}
 use borrow.Author.Needs.{needs, sfits-of}
 use Rattle.clauses.proofs.splits.settled.Statement.{statement}
 use Rattle.clauses.proofs.splits.settled.Tie as tie
@@ -33,50 +38,34 @@ add-amount-at-2 c = search needs
 amount-at-requires : tie.Need-amount-at-requires
 amount-at-requires c κs = search needs
 
-shared-slice-read-if2 : tie.Need-shared-slice-read-if2
-shared-slice-read-if2 c = search needs
+shared-slice-read-zero-related : tie.Need-shared-slice-read-zero-related
+shared-slice-read-zero-related c = search needs
 
-is-positive-requires : tie.Need-is-positive-requires
-is-positive-requires c κs = search needs
+zero-related-requires : tie.Need-zero-related-requires
+zero-related-requires c κs = search needs
+
+zeros-hold : (c : tie.Else1) → let s = c .before .before .before in all isZero (valuesAt (amountAt (s .args .q .now)) 4 (s .args .r) (s .args .at + 1)) ≡ true
+zeros-hold c = sym (c .before .zeros .ensures) ∙ not-false _ (c .if1 .left)
+
+test-is : (c : tie.After-zero-related)
+    → let a = c .before .before in let s = a .before .before .before .before in
+    related (eqb (getD (s .args .q .now) (s .args .at) 0) 2) (pos 0) (a .amount-at .result) ≡ c .zero-related .result
+test-is c =
+    let a = c .before .before in
+    let s = a .before .before .before .before in
+    sym (c .zero-related .ensures ∙ ap (related (eqb (getD (s .args .q .now) (s .args .at) 0) 2) (pos 0)) (toZ-ofZ {w = w64} (sfits-of (a .amount-at .ok))))
 
 returns-2 : tie.Need-returns-2
 returns-2 c =
-    let y = c .before in
-    let a = y .before .before .before in
-    let z = a .before .before in
-    let s = z .before .before in
-    sym (fate-strict-always (s .args .q .now) (s .args .r) (s .args .at) (sym (z .zeros .ensures) ∙ not-false _ (a .before .if1 .left)) (a .amount-at .result) (a .amount-at .ensures) (y .before .if2 .taken)
-    (sym (y .is-positive .ensures ∙ ap isPositive (toZ-ofZ {w = w64} (sfits-of (a .amount-at .ok)))) ∙ c .if3 .taken))
+    let a = c .before .before .before in
+    let s = a .before .before .before .before in
+    sym (fate-always (s .args .q .now) (s .args .r) (s .args .at) (zeros-hold (a .before)) (a .amount-at .result) (a .amount-at .ensures) (test-is (c .before) ∙ c .if2 .taken))
 
 returns-3 : tie.Need-returns-3
 returns-3 c =
-    let y = c .before in
-    let a = y .before .before .before in
-    let z = a .before .before in
-    let s = z .before .before in
-    sym (fate-strict-never (s .args .q .now) (s .args .r) (s .args .at) (sym (z .zeros .ensures) ∙ not-false _ (a .before .if1 .left)) (a .amount-at .result) (a .amount-at .ensures) (y .before .if2 .taken)
-    (sym (y .is-positive .ensures ∙ ap isPositive (toZ-ofZ {w = w64} (sfits-of (a .amount-at .ok)))) ∙ c .if3 .left))
-
-is-negative-requires : tie.Need-is-negative-requires
-is-negative-requires c κs = search needs
-
-returns-4 : tie.Need-returns-4
-returns-4 c =
-    let y = c .before in
-    let a = y .before .before .before in
-    let z = a .before .before in
-    let s = z .before .before in
-    sym (fate-never (s .args .q .now) (s .args .r) (s .args .at) (sym (z .zeros .ensures) ∙ not-false _ (a .before .if1 .left)) (a .amount-at .result) (a .amount-at .ensures) (y .before .if2 .left)
-    (sym (y .is-negative .ensures ∙ ap isNegative (toZ-ofZ {w = w64} (sfits-of (a .amount-at .ok)))) ∙ c .if4 .taken))
-
-returns-5 : tie.Need-returns-5
-returns-5 c =
-    let y = c .before in
-    let a = y .before .before .before in
-    let z = a .before .before in
-    let s = z .before .before in
-    sym (fate-always (s .args .q .now) (s .args .r) (s .args .at) (sym (z .zeros .ensures) ∙ not-false _ (a .before .if1 .left)) (a .amount-at .result) (a .amount-at .ensures) (y .before .if2 .left)
-    (sym (y .is-negative .ensures ∙ ap isNegative (toZ-ofZ {w = w64} (sfits-of (a .amount-at .ok)))) ∙ c .if4 .left))
+    let a = c .before .before .before in
+    let s = a .before .before .before .before in
+    sym (fate-never (s .args .q .now) (s .args .r) (s .args .at) (zeros-hold (a .before)) (a .amount-at .result) (a .amount-at .ensures) (test-is (c .before) ∙ c .if2 .left))
 
 pub settled-spec : {M : Type 1} → statement M
 settled-spec =
@@ -89,10 +78,7 @@ settled-spec =
     mul-amount-at
     add-amount-at-2
     amount-at-requires
-    shared-slice-read-if2
-    is-positive-requires
+    shared-slice-read-zero-related
+    zero-related-requires
     returns-2
-    returns-3
-    is-negative-requires
-    returns-4
-    returns-5)
+    returns-3)

@@ -1,28 +1,25 @@
 -- `row::leading` meets its contract. Invariant: the coefficients passed are 0. Assumes nothing.
-use borrow.Author.Tests.{not-true, not-false}
-use mathlib.Core.Path.{_≡_, refl, sym, ap, _∙_}
-use mathlib.Core.Bool.{Bool, not, true, false}
-use Prim.Native.Nat.{_+_, _-_, _≤_}
+use mathlib.Core.Path.{_≡_, sym, ap, _∙_}
+use mathlib.Core.Bool.{not}
+use Prim.Native.Nat.{_-_}
 use native.Mathlib.Omega.{arith}
-use lib.IntN.{ℤ, pos}
-use lib.ListN.{length, drop, getD}
-use mir.Syntax.{w64}
-use mir.Val.{SFits}
-use mir.Facts.{toZ-ofZ}
-use Rattle.rules.specs.Arithmetic.{isZero}
-use Rattle.lines.specs.Forms.{leading, leading-zero, leading-other, leading-end}
 use borrow.Author.Needs.{needs}
+use lib.IntN.{pos}
+use lib.ListN.{length, getD}
+use Rattle.rules.specs.Arithmetic.{isZero}
+use Rattle.lines.specs.Scan.{Scanned, scanned-start, scanned-next, told}
+use Rattle.lines.specs.Forms.{leading-at, leading-none}
 use Rattle.lines.proofs.row.leading.Statement.{statement}
 use Rattle.lines.proofs.row.leading.Tie as tie
 
 abbrev Inv-loop : tie.InvT-loop
-Inv-loop rest row i₀ i = (i ≤ 8) × (length row ≡ 8) × (leading row rest ≡ i + leading (drop i row) rest)
+Inv-loop rest row i₀ i = Scanned (λ k. not (isZero (getD row k (pos 0)))) i
 
 abbrev μ-loop : tie.MeasureT-loop
 μ-loop rest row i₀ i = 8 - i
 
 loop-holds : tie.Need-loop-holds Inv-loop μ-loop
-loop-holds c = (omega arith, search needs, omega arith)
+loop-holds c = scanned-start (λ k. not (isZero (getD (c .args .t1) k (pos 0))))
 
 mul-is-zero : tie.Need-mul-is-zero Inv-loop μ-loop
 mul-is-zero c = search needs
@@ -33,15 +30,15 @@ array-copy-out-is-zero c = search needs
 is-zero-requires : tie.Need-is-zero-requires Inv-loop μ-loop
 is-zero-requires c κs = search needs
 
+-- the test at the place
+here : (c : tie.After-is-zero Inv-loop μ-loop) → not (isZero (getD (c .before .before .before .before .args .t1) (c .before .before .before .loop .i) (pos 0))) ≡ not (c .is-zero .result)
+here c = ap not (told isZero (getD (c .before .before .before .before .args .t1) (c .before .before .before .loop .i) (pos 0)) (search (needs, c .before)) (c .is-zero .ensures))
+
 returns : tie.Need-returns Inv-loop μ-loop
 returns c =
-    let l = c .before .before .before .before .loop in
-    let s = c .before .before .before .before .before in
-    let row = s .args .t1 in
-    let f : SFits w64 (getD row (l .i) (pos 0)) = search (needs, c .before .before) in
-    let t : c .before .is-zero .result ≡ false = search (needs, not-true, not-false) in
-    let e : isZero (getD row (l .i) (pos 0)) ≡ false = sym (rw (toZ-ofZ f) at (c .before .is-zero .ensures)) ∙ t in
-    omega (arith, l .inv .2, leading-other row (l .i) (s .args .rest) (omega arith) e)
+    let a = c .before .before .before .before in
+    let n : length (a .before .args .t1) ≡ 8 = search needs in
+    sym (leading-at (a .before .args .t1) (a .loop .i) (a .before .args .rest) (a .loop .inv .none) (omega arith) (here (c .before) ∙ c .if1 .taken))
 
 add-i : tie.Need-add-i Inv-loop μ-loop
 add-i c = search needs
@@ -50,23 +47,16 @@ loop-less : tie.Need-loop-less Inv-loop μ-loop
 loop-less c = search needs
 
 loop-again : tie.Need-loop-again Inv-loop μ-loop
-loop-again c =
-    let l = c .before .before .before .before .loop in
-    let s = c .before .before .before .before .before in
-    let row = s .args .t1 in
-    let f : SFits w64 (getD row (l .i) (pos 0)) = search (needs, c .before .before) in
-    let t : c .before .is-zero .result ≡ true = search (needs, not-true, not-false) in
-    let e : isZero (getD row (l .i) (pos 0)) ≡ true = sym (rw (toZ-ofZ f) at (c .before .is-zero .ensures)) ∙ t in
-    (omega arith, l .inv .1, omega (arith, l .inv .2, leading-zero row (l .i) (s .args .rest) (omega arith) e))
+loop-again c = let a = c .before .before .before .before in scanned-next _ (a .loop .i) (a .loop .inv) (omega arith) (here (c .before) ∙ c .if1 .left)
 
 add-result : tie.Need-add-result Inv-loop μ-loop
 add-result c = search needs
 
 returns-2 : tie.Need-returns-2 Inv-loop μ-loop
 returns-2 c =
-    let l = c .before .loop in
-    let s = c .before .before in
-    omega (arith, l .inv .2, leading-end (s .args .t1) (l .i) (s .args .rest) (omega arith))
+    let a = c .before in
+    let n : length (a .before .args .t1) ≡ 8 = search needs in
+    omega (arith, leading-none (a .before .args .t1) (a .before .args .rest) (λ k h. a .loop .inv .none k (omega arith)))
 
 pub leading-spec : {M : Type 1} → statement M
 leading-spec =

@@ -1,29 +1,28 @@
--- `row::same_row` meets its contract. Invariant: what is left of the rows decides. Assumes nothing.
-use borrow.Author.Tests.{not-true, not-false}
-use mathlib.Core.Bool.{true, false}
-use mathlib.Core.Path.{_≡_, refl, sym, _∙_}
-use Prim.Native.Nat.{_-_, _≤_}
+-- `row::same_row` meets its contract. Invariant: the coefficients passed are equal. Assumes nothing.
+use mathlib.Core.Path.{_≡_, sym, ap, _∙_}
+use mathlib.Core.Bool.{not}
+use mathlib.Core.List.{List}
+use Prim.Native.Nat.{_-_}
 use native.Mathlib.Omega.{arith}
+use borrow.Author.Needs.{needs}
 use lib.IntN.{ℤ, pos}
-use lib.ListN.{length, drop, getD}
+use lib.ListN.{length, getD}
 use mir.Syntax.{w64}
 use mir.Val.{SFits}
 use mir.Facts.{toZ-ofZ}
-use Rattle.rules.specs.Lists.{same}
 use Rattle.rules.specs.Arithmetic.{equal}
-use Rattle.lines.specs.Scan.{same-next, same-end}
-use borrow.Author.Needs.{needs}
+use Rattle.lines.specs.Scan.{Scanned, scanned-start, scanned-next, same-at, same-none}
 use Rattle.lines.proofs.row.same_row.Statement.{statement}
 use Rattle.lines.proofs.row.same_row.Tie as tie
 
 abbrev Inv-loop : tie.InvT-loop
-Inv-loop us ls i₀ i = (i ≤ 8) × (length us ≡ 8) × (length ls ≡ 8) × (same equal us ls ≡ same equal (drop i us) (drop i ls))
+Inv-loop us ls i₀ i = Scanned (λ k. not (equal (getD us k (pos 0)) (getD ls k (pos 0)))) i
 
 abbrev μ-loop : tie.MeasureT-loop
 μ-loop us ls i₀ i = 8 - i
 
 loop-holds : tie.Need-loop-holds Inv-loop μ-loop
-loop-holds c = (omega arith, search needs, search needs, refl)
+loop-holds c = scanned-start (λ k. not (equal (getD (c .args .t1) k (pos 0)) (getD (c .args .t2) k (pos 0))))
 
 mul-equal : tie.Need-mul-equal Inv-loop μ-loop
 mul-equal c = search needs
@@ -40,17 +39,22 @@ array-copy-out-equal-2 c = search needs
 equal-requires : tie.Need-equal-requires Inv-loop μ-loop
 equal-requires c κs = search needs
 
+-- the elements at the place, and their test
+abbrev element : (c : tie.After-equal Inv-loop μ-loop) (s : tie.Start Inv-loop μ-loop → List ℤ) → ℤ
+element c s = getD (s (c .before .before .before .before .before)) (c .before .before .before .before .loop .i) (pos 0)
+
+here : (c : tie.After-equal Inv-loop μ-loop) → not (equal (element c (λ s. s .args .t1)) (element c (λ s. s .args .t2))) ≡ not (c .equal .result)
+here c =
+    let u : SFits w64 (element c (λ s. s .args .t1)) = search (needs, c .before .before) in
+    let l : SFits w64 (element c (λ s. s .args .t2)) = search (needs, c .before) in
+    ap not (sym (rw (toZ-ofZ u, toZ-ofZ l) at (c .equal .ensures)))
+
 returns : tie.Need-returns Inv-loop μ-loop
 returns c =
-    let l = c .before .before .before .before .before .loop in
-    let s = c .before .before .before .before .before .before in
-    let us = s .args .t1 in
-    let ls = s .args .t2 in
-    let fu : SFits w64 (getD us (l .i) (pos 0)) = search (needs, c .before .before .before) in
-    let fl : SFits w64 (getD ls (l .i) (pos 0)) = search (needs, c .before .before) in
-    let t : c .before .equal .result ≡ false = search (needs, not-true, not-false) in
-    let e : equal (getD us (l .i) (pos 0)) (getD ls (l .i) (pos 0)) ≡ false = sym (rw (toZ-ofZ fu, toZ-ofZ fl) at (c .before .equal .ensures)) ∙ t in
-    sym (l .inv .3 ∙ same-next (pos 0) equal us ls (l .i) (omega arith) (omega arith) ∙ rw e)
+    let a = c .before .before .before .before .before in
+    let n : length (a .before .args .t1) ≡ 8 = search needs in
+    let m : length (a .before .args .t2) ≡ 8 = search needs in
+    sym (same-at (pos 0) equal (a .before .args .t1) (a .before .args .t2) (a .loop .i) (omega arith) (omega arith) (here (c .before) ∙ c .if1 .taken))
 
 add-i : tie.Need-add-i Inv-loop μ-loop
 add-i c = search needs
@@ -59,22 +63,14 @@ loop-less : tie.Need-loop-less Inv-loop μ-loop
 loop-less c = search needs
 
 loop-again : tie.Need-loop-again Inv-loop μ-loop
-loop-again c =
-    let l = c .before .before .before .before .before .loop in
-    let s = c .before .before .before .before .before .before in
-    let us = s .args .t1 in
-    let ls = s .args .t2 in
-    let fu : SFits w64 (getD us (l .i) (pos 0)) = search (needs, c .before .before .before) in
-    let fl : SFits w64 (getD ls (l .i) (pos 0)) = search (needs, c .before .before) in
-    let t : c .before .equal .result ≡ true = search (needs, not-true, not-false) in
-    let e : equal (getD us (l .i) (pos 0)) (getD ls (l .i) (pos 0)) ≡ true = sym (rw (toZ-ofZ fu, toZ-ofZ fl) at (c .before .equal .ensures)) ∙ t in
-    (omega arith, l .inv .1, l .inv .2, l .inv .3 ∙ same-next (pos 0) equal us ls (l .i) (omega arith) (omega arith) ∙ rw e)
+loop-again c = let a = c .before .before .before .before .before in scanned-next _ (a .loop .i) (a .loop .inv) (omega arith) (here (c .before) ∙ c .if1 .left)
 
 returns-2 : tie.Need-returns-2 Inv-loop μ-loop
 returns-2 c =
-    let l = c .before .loop in
-    let s = c .before .before in
-    sym (l .inv .3 ∙ same-end (pos 0) equal (s .args .t1) (s .args .t2) (l .i) (omega arith) (omega arith))
+    let a = c .before in
+    let n : length (a .before .args .t1) ≡ 8 = search needs in
+    let m : length (a .before .args .t2) ≡ 8 = search needs in
+    sym (same-none (pos 0) equal (a .before .args .t1) (a .before .args .t2) (omega arith) (λ k h. a .loop .inv .none k (omega arith)))
 
 pub same-row-spec : {M : Type 1} → statement M
 same-row-spec =

@@ -1,29 +1,24 @@
--- `row::wide_row` meets its contract. Invariant: what is left of the row decides. Assumes nothing.
-use borrow.Author.Tests.{not-true, not-false}
-use mathlib.Core.Path.{_≡_, refl, sym, ap, _∙_}
-use mathlib.Core.Bool.{Bool, not, true, false}
-use Prim.Native.Nat.{_-_, _≤_}
+-- `row::wide_row` meets its contract. Invariant: the coefficients passed are amounts. Assumes nothing.
+use mathlib.Core.Path.{_≡_, sym, ap, _∙_}
+use mathlib.Core.Bool.{not}
+use Prim.Native.Nat.{_-_}
 use native.Mathlib.Omega.{arith}
-use lib.IntN.{ℤ, pos}
-use lib.ListN.{length, drop, getD}
-use mir.Syntax.{w64}
-use mir.Val.{SFits}
-use mir.Facts.{toZ-ofZ}
-use Rattle.rules.specs.Lists.{any}
-use Rattle.rules.specs.Problem.{inRange}
-use Rattle.lines.specs.Scan.{any-next, any-end}
 use borrow.Author.Needs.{needs}
+use lib.IntN.{pos}
+use lib.ListN.{length, getD}
+use Rattle.rules.specs.Problem.{inRange}
+use Rattle.lines.specs.Scan.{Scanned, scanned-start, scanned-next, told, any-at, any-none}
 use Rattle.lines.proofs.row.wide_row.Statement.{statement}
 use Rattle.lines.proofs.row.wide_row.Tie as tie
 
 abbrev Inv-loop : tie.InvT-loop
-Inv-loop row i₀ i = (i ≤ 8) × (length row ≡ 8) × (any (λ z. not (inRange z)) row ≡ any (λ z. not (inRange z)) (drop i row))
+Inv-loop row i₀ i = Scanned (λ k. not (inRange (getD row k (pos 0)))) i
 
 abbrev μ-loop : tie.MeasureT-loop
 μ-loop row i₀ i = 8 - i
 
 loop-holds : tie.Need-loop-holds Inv-loop μ-loop
-loop-holds c = (omega arith, search needs, refl)
+loop-holds c = scanned-start (λ k. not (inRange (getD (c .args .t1) k (pos 0))))
 
 mul-in-range : tie.Need-mul-in-range Inv-loop μ-loop
 mul-in-range c = search needs
@@ -34,15 +29,15 @@ array-copy-out-in-range c = search needs
 in-range-requires : tie.Need-in-range-requires Inv-loop μ-loop
 in-range-requires c κs = search needs
 
+-- the test at the place
+here : (c : tie.After-in-range Inv-loop μ-loop) → not (inRange (getD (c .before .before .before .before .args .t1) (c .before .before .before .loop .i) (pos 0))) ≡ not (c .in-range .result)
+here c = ap not (told inRange (getD (c .before .before .before .before .args .t1) (c .before .before .before .loop .i) (pos 0)) (search (needs, c .before)) (c .in-range .ensures))
+
 returns : tie.Need-returns Inv-loop μ-loop
 returns c =
-    let l = c .before .before .before .before .loop in
-    let s = c .before .before .before .before .before in
-    let row = s .args .t1 in
-    let f : SFits w64 (getD row (l .i) (pos 0)) = search (needs, c .before .before) in
-    let t : c .before .in-range .result ≡ false = search (needs, not-true, not-false) in
-    let e : inRange (getD row (l .i) (pos 0)) ≡ false = sym (rw (toZ-ofZ f) at (c .before .in-range .ensures)) ∙ t in
-    sym (l .inv .2 ∙ any-next (pos 0) (λ z. not (inRange z)) row (l .i) (omega arith) ∙ rw e)
+    let a = c .before .before .before .before in
+    let n : length (a .before .args .t1) ≡ 8 = search needs in
+    sym (any-at (pos 0) (λ z. not (inRange z)) (a .before .args .t1) (a .loop .i) (omega arith) (here (c .before) ∙ c .if1 .taken))
 
 add-i : tie.Need-add-i Inv-loop μ-loop
 add-i c = search needs
@@ -51,19 +46,13 @@ loop-less : tie.Need-loop-less Inv-loop μ-loop
 loop-less c = search needs
 
 loop-again : tie.Need-loop-again Inv-loop μ-loop
-loop-again c =
-    let l = c .before .before .before .before .loop in
-    let s = c .before .before .before .before .before in
-    let row = s .args .t1 in
-    let f : SFits w64 (getD row (l .i) (pos 0)) = search (needs, c .before .before) in
-    let t : c .before .in-range .result ≡ true = search (needs, not-true, not-false) in
-    let e : inRange (getD row (l .i) (pos 0)) ≡ true = sym (rw (toZ-ofZ f) at (c .before .in-range .ensures)) ∙ t in
-    (omega arith, l .inv .1, l .inv .2 ∙ any-next (pos 0) (λ z. not (inRange z)) row (l .i) (omega arith) ∙ rw e)
+loop-again c = let a = c .before .before .before .before in scanned-next _ (a .loop .i) (a .loop .inv) (omega arith) (here (c .before) ∙ c .if1 .left)
 
 returns-2 : tie.Need-returns-2 Inv-loop μ-loop
 returns-2 c =
-    let l = c .before .loop in
-    sym (l .inv .2 ∙ any-end (pos 0) (λ z. not (inRange z)) (c .before .before .args .t1) (l .i) (omega arith))
+    let a = c .before in
+    let n : length (a .before .args .t1) ≡ 8 = search needs in
+    sym (any-none (pos 0) (λ z. not (inRange z)) (a .before .args .t1) (λ k h. a .loop .inv .none k (omega arith)))
 
 pub wide-row-spec : {M : Type 1} → statement M
 wide-row-spec =

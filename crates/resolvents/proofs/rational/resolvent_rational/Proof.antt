@@ -1,6 +1,6 @@
 -- `rational::resolvent_rational` meets its contract. Assumes nothing.
-use mathlib.Core.Path.{_≡_, refl, sym, ap, _∙_}
-use Prim.Native.Nat.{ℕ, _≤_, max}
+use mathlib.Core.Path.{_≡_, sym, ap, _∙_}
+use Prim.Native.Nat.{_<_, _≤_}
 use native.Mathlib.Omega.{arith}
 use borrow.Author.Needs.{sfits-of}
 use lib.IntN.{ℤ, pos, natAbs}
@@ -9,10 +9,10 @@ use mir.Syntax.{w64}
 use mir.Val.{toZ, ofZ}
 use mir.Facts.{toZ-ofZ}
 use Rattle.rules.specs.Resolve.{resolvent}
-use Rattle.rows.specs.Amount.{amount-bits}
-use Rattle.lines.specs.Line.{constraintOf, meaning, Shaped}
+use Rattle.rows.specs.Amount.{amount-bits, combine-≤}
+use Rattle.lines.specs.Line.{meaning}
 use Rattle.masks.specs.Mask.{union-bits}
-use Rattle.resolvents.specs.Resolvent.{combined, combination-is, constraints-agree}
+use Rattle.resolvents.specs.Resolvent.{combination-is, constraints-agree, upper-constraint, lower-constraint}
 use borrow.Author.Needs.{needs}
 use Rattle.resolvents.proofs.rational.resolvent_rational.Statement.{statement}
 use Rattle.resolvents.proofs.rational.resolvent_rational.Tie as tie
@@ -64,6 +64,10 @@ combine-requires c κs =
 stricter-requires : tie.Need-stricter-requires
 stricter-requires c κs = search needs
 
+-- both lines have a constraint
+related : (s : tie.Start) → (0 < s .args .upper .relation) × (0 < s .args .lower .relation)
+related s = (upper-constraint (s .args .f) (s .args .upper) (s .pre .1 .1 .1 .0), lower-constraint (s .args .f) (s .args .lower) (s .pre .1 .1 .1 .1))
+
 returns : tie.Need-returns
 unfolding meaning resolvent
 returns c =
@@ -75,20 +79,27 @@ returns c =
     let l = s .args .lower in
     let hu = s .pre .1 .0 in
     let hl = s .pre .1 .1 .0 in
-    let ea = amount-bits (getD (u .coefficients) f (pos 0)) (hu .coefficients .small f) in
+    let hr = related s in
+    let ha = hu .coefficients .small f in
+    let ea = amount-bits (getD (u .coefficients) f (pos 0)) ha in
     let row = rw (factor-is k, ea) at (m .before .before .before .combine-rows .ensures) in
     let bound = toZ-ofZ {w = w64} (sfits-of (m .combine .ok)) ∙ (rw (factor-is k, ea, amount-bits (u .bound) (hu .bound), amount-bits (l .bound) (hl .bound)) at (m .combine .ensures)) in
-    let e = combination-is f (u .coefficients) (u .bound) (l .coefficients) (l .bound) (u .relation) (l .relation) (hu .shaped .related) (hl .shaped .related) (s .pre .1 .1 .1 .0) (s .pre .1 .1 .1 .1) in
+    let e = combination-is f (u .coefficients) (u .bound) (l .coefficients) (l .bound) (u .relation) (l .relation) (hu .shaped .related) (hl .shaped .related) (hr .0) (hr .1) in
     let r = constraints-agree (c .stricter .ensures) row bound in
     let p = sym (union-bits 32 (u .positive) (l .positive)) in
     let n = sym (union-bits 32 (u .negative) (l .negative)) in
     let x = r ∙ e in (
       λ j. record { positive = p j; negative = n j; constraint = x j },
-      record {
-        related = omega (arith, c .stricter .ensures, hu .shaped .related, hl .shaped .related);
-        coefficients = λ z. absurd (omega (arith, c .stricter .ensures, s .pre .1 .1 .1 .0, z));
-        bound = λ z. absurd (omega (arith, c .stricter .ensures, s .pre .1 .1 .1 .0, z));
-      },
+      (
+        record {
+          related = omega (arith, c .stricter .ensures, hu .shaped .related, hl .shaped .related);
+          coefficients = λ z. absurd (omega (arith, c .stricter .ensures, hr .0, z));
+          bound = λ z. absurd (omega (arith, c .stricter .ensures, hr .0, z));
+        },
+        record {
+          coefficients = λ i. rw row (omega (arith, combine-≤ (pos (natAbs (getD (l .coefficients) f (pos 0)))) (u .coefficients) (getD (u .coefficients) f (pos 0)) (l .coefficients) (hl .coefficients .small f) (hu .coefficients) ha (hl .coefficients) i));
+        },
+      ),
     )
 
 pub resolvent-rational-spec : {M : Type 1} → statement M

@@ -1,0 +1,68 @@
+// Whether a constraint holds: "compares the sum of coefficient × numerator with bound × denominator". 64 bits hold a sum of eight
+// products of amounts, and a product of an amount and 32 bits.
+use crate::model::Model;
+use fields::amount_at;
+ghost use mathlib.Core.Path.{_≡_};
+ghost use Prim.Native.Nat.{_+_, _≤_};
+ghost use lib.IntN.{pos, natAbs, _+ℤ_, _*ℤ_};
+ghost use lib.ListN.{length};
+ghost use Rattle.rules.specs.Arithmetic.{sum};
+ghost use Rattle.rules.specs.Meaning.{constraintHolds};
+ghost use Rattle.rows.specs.Amount.{Amounts};
+ghost use Rattle.reader.specs.Values.{valuesAt, behind, amountAt, constraintAt};
+ghost use Rattle.reader.specs.Sound.{Each, Amount, SoundConstraint};
+ghost use Rattle.evaluation.specs.Model.{assignment, value};
+
+fn plus_product(total: i64, z: i64, x: i64) -> i64
+    requires { ⌜ natAbs total ≤ 7000000000000000000 ⌝ }
+    requires { ⌜ natAbs z ≤ 1000000000 ⌝ }
+    requires { ⌜ natAbs x ≤ 1000000000 ⌝ }
+    ensures { λ s. ⌜ s ≡ total +ℤ z *ℤ x ⌝ }
+{
+    total + z * x
+}
+
+// Of so many coefficients.
+fn sum(q: &[u8], from: usize, count: u8, numerators: [i64; 8]) -> i64
+    requires { ⌜ count ≤ 8 ⌝ }
+    requires { ⌜ behind 4 count from ≤ length (now q) ⌝ }
+    requires { ⌜ Each (Amount (now q)) 4 count from ⌝ }
+    requires { ⌜ Amounts numerators ⌝ }
+    ensures { λ s. ⌜ s ≡ sum (valuesAt (amountAt (now (q .entry))) 4 count from) (value numerators) ⌝ }
+{
+    let mut at = from;
+    let mut left = count;
+    let mut i = 0;
+    let mut total = 0 as i64;
+    while 0 < left {
+        let z = amount_at(q, at);
+        let x = numerators[i];
+        total = plus_product(total, z, x);
+        at += 4;
+        left -= 1;
+        i += 1;
+    }
+    total
+}
+
+fn scaled(bound: i64, denominator: u32) -> i64
+    requires { ⌜ natAbs bound ≤ 1000000000 ⌝ }
+    ensures { λ z. ⌜ z ≡ bound *ℤ pos denominator ⌝ }
+{
+    bound * (denominator as i64)
+}
+
+pub fn constraint_holds(q: &[u8], at: usize, r: u8, model: Model) -> bool
+    requires { ⌜ r ≤ 8 ⌝ }
+    requires { ⌜ SoundConstraint (now q) r at ⌝ }
+    requires { ⌜ Amounts (model .numerators) ⌝ }
+    ensures { λ t. ⌜ t ≡ constraintHolds (assignment model) (constraintAt (now (q .entry)) r at) ⌝ }
+{
+    let numerators = model.numerators;
+    let s = sum(q, at + 1, r, numerators);
+    let b = scaled(amount_at(q, at + 1 + (r as usize) * 4), model.denominator);
+    if q[at] == 2 {
+        return s < b;
+    }
+    s <= b
+}

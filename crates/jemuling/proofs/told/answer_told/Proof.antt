@@ -1,0 +1,42 @@
+-- `told::answer_told` meets its contract: by the case that it is. Assumes nothing.
+use mathlib.Core.Path.{sym, ap}
+use Rattle.types.specs.Answers.{answerNumber, answerValue}
+use Rattle.jemuling.specs.Told.{answerTold}
+use borrow.Author.Needs.{needs}
+use Rattle.jemuling.proofs.told.answer_told.Statement.{statement}
+use Rattle.jemuling.proofs.told.answer_told.Tie as tie
+
+enum-known-a : tie.Need-enum-known-a
+enum-known-a c = search needs
+
+verdict-number-requires : tie.Need-verdict-number-requires
+verdict-number-requires c κs = search needs
+
+enum-known-a-2 : tie.Need-enum-known-a-2
+enum-known-a-2 c = search needs
+
+number-requires : tie.Need-number-requires
+number-requires c κs = search needs
+
+cast-t9 : tie.Need-cast-t9
+cast-t9 c = search needs
+
+returns : tie.Need-returns
+unfolding answerTold answerNumber answerValue
+returns c = let e = sym (ap answerTold (c .before .before .a .given .1)) in rw (c .verdict-number .ensures) e
+
+returns-2 : tie.Need-returns-2
+unfolding answerTold answerNumber answerValue
+returns-2 c = let e = sym (ap answerTold (c .before .before .a2 .given .1)) in rw (c .number .ensures) e
+
+pub answer-told-spec : {M : Type 1} → statement M
+answer-told-spec =
+    tie.close
+    (tie.spec
+    enum-known-a
+    verdict-number-requires
+    enum-known-a-2
+    number-requires
+    cast-t9
+    returns
+    returns-2)

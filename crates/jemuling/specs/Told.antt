@@ -1,0 +1,20 @@
+-- Answers as numbers: the number and the value of every case, as types/Answers states them.
+use Rattle.types.specs.declared.answers.Answer.{Answer}
+use Rattle.types.specs.declared.answers.Solved.{Solved}
+use Rattle.types.specs.declared.answers.Checked.{Checked}
+use Rattle.types.specs.declared.answers.Evidence.{Evidence}
+use Rattle.types.specs.Answers.{answerNumber, answerValue, checkedNumber, checkedValue, evidenceNumber, evidenceLength}
+use Rattle.jemuling.specs.declared.told.Told.{Told}
+use Rattle.jemuling.specs.declared.told.SolvedTold.{SolvedTold}
+
+unfoldable pub answerTold : Answer → Told
+answerTold a = record { number = answerNumber a; value = answerValue a }
+
+unfoldable pub solvedTold : Solved → SolvedTold
+solvedTold s = record { number = answerNumber (s .answer); value = answerValue (s .answer); pairs = s .pairs }
+
+unfoldable pub checkedTold : Checked → Told
+checkedTold c = record { number = checkedNumber c; value = checkedValue c }
+
+unfoldable pub evidenceTold : Evidence → Told
+evidenceTold e = record { number = evidenceNumber e; value = evidenceLength e }

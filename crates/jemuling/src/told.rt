@@ -1,0 +1,95 @@
+// Answers as numbers.
+use types::answers::Answer;
+use types::answers::Checked;
+use types::answers::Evidence;
+use types::answers::Solved;
+use types::answers::Verdict;
+ghost use mathlib.Core.Path.{_≡_};
+ghost use Rattle.types.specs.Answers.{verdictNumber};
+ghost use Rattle.jemuling.specs.Told.{answerTold, checkedTold, evidenceTold, solvedTold};
+
+// An answer's number and value.
+#[repr(C)]
+pub struct Told {
+    pub number: u64,
+    pub value: usize,
+}
+
+// The same of solving, with the pairs tried.
+#[repr(C)]
+pub struct SolvedTold {
+    pub number: u64,
+    pub value: usize,
+    pub pairs: u64,
+}
+
+pub fn verdict_number(v: Verdict) -> u64
+    ensures { λ n. ⌜ n ≡ verdictNumber v ⌝ }
+{
+    match v {
+        Verdict::Satisfiable => 64,
+        Verdict::Unsatisfiable => 65,
+        Verdict::Unwritten => 66,
+    }
+}
+
+fn answer_told(a: Answer) -> Told
+    ensures { λ t. ⌜ t ≡ answerTold a ⌝ }
+{
+    match a {
+        Answer::Decided(v, steps) => Told {
+            number: verdict_number(v),
+            value: steps,
+        },
+        Answer::Refused(f, place) => Told {
+            number: f.number() as u64,
+            value: place,
+        },
+    }
+}
+
+pub fn solved_told(s: Solved) -> SolvedTold
+    ensures { λ t. ⌜ t ≡ solvedTold s ⌝ }
+{
+    let answer = s.answer;
+    let told = answer_told(answer);
+    SolvedTold {
+        number: told.number,
+        value: told.value,
+        pairs: s.pairs,
+    }
+}
+
+pub fn checked_told(c: Checked) -> Told
+    ensures { λ t. ⌜ t ≡ checkedTold c ⌝ }
+{
+    match c {
+        Checked::Accepted => Told {
+            number: 67,
+            value: 0,
+        },
+        Checked::Fails(n) => Told {
+            number: 68,
+            value: n,
+        },
+        Checked::Refused(f, place) => Told {
+            number: f.number() as u64,
+            value: place,
+        },
+    }
+}
+
+pub fn evidence_told(e: Evidence) -> Told
+    ensures { λ t. ⌜ t ≡ evidenceTold e ⌝ }
+{
+    match e {
+        Evidence::OfProof(n) => Told {
+            number: 69,
+            value: n,
+        },
+        Evidence::OfModel(n) => Told {
+            number: 70,
+            value: n,
+        },
+    }
+}

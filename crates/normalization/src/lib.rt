@@ -1,0 +1,3 @@
+// Lines brought to one form.
+pub mod normalize;
+pub mod reduce;

@@ -1,0 +1,4 @@
+pub mod Constraint
+pub mod Skip
+pub mod Parts
+pub mod Part

@@ -1,0 +1,5 @@
+// The parts of a clause in order, read from the question's bytes.
+pub mod constraint;
+pub mod part;
+pub mod parts;
+pub mod skip;

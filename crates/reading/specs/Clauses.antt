@@ -1,0 +1,60 @@
+-- The clauses that stand one behind another from a place on: where reading gives a value, it is these.
+use mathlib.Core.Path.{_≡_, refl, ap}
+use mathlib.Core.List.{List, [], _∷_}
+use Prim.Native.Nat.{ℕ, zero, suc, _-_, _≤_, _<_}
+use native.Mathlib.Omega.{arith}
+use lib.ListN.{length, drop}
+use Rattle.rules.specs.Problem.{Clause, repeat, clause}
+use Rattle.reader.specs.Values.{clauseAt, clauseEnd, Valued, there, valued-after, clause-valued}
+use Rattle.clauses.specs.Walk.{clause-≤}
+
+module _ (q : List ℕ) (r : ℕ) where
+  unfoldable pub clausesAt : ℕ → ℕ → List Clause
+  clausesAt zero at = []
+  clausesAt (suc n) at = clauseAt q r at ∷ clausesAt n (clauseEnd q r at)
+
+  -- the place behind them
+  unfoldable pub clausesEnd : ℕ → ℕ → ℕ
+  clausesEnd zero at = at
+  clausesEnd (suc n) at = clausesEnd n (clauseEnd q r at)
+
+  pub clausesEnd-≥ : (n at : ℕ) → at ≤ clausesEnd n at
+  unfolding clausesEnd
+  clausesEnd-≥ zero at = omega arith
+  clausesEnd-≥ (suc n) at = omega (arith, clause-≤ q r at, clausesEnd-≥ n (clauseEnd q r at))
+
+  pub length-clausesAt : (n at : ℕ) → length (clausesAt n at) ≡ n
+  unfolding clausesAt
+  length-clausesAt zero at = refl
+  length-clausesAt (suc n) at = ap suc (length-clausesAt n (clauseEnd q r at))
+
+  -- ---- one turn of a loop over them
+  pub clauses-none : (at : ℕ) → clausesAt 0 at ≡ []
+  unfolding clausesAt
+  clauses-none at = refl
+
+  pub clauses-more : (n at : ℕ) → clausesAt (suc n) at ≡ clauseAt q r at ∷ clausesAt n (clauseEnd q r at)
+  unfolding clausesAt
+  clauses-more n at = refl
+
+  module _ (n at : ℕ) (more : 0 < n) where
+    pub clauses-next : clausesAt n at ≡ clauseAt q r at ∷ clausesAt (n - 1) (clauseEnd q r at)
+    unfolding clausesAt
+    clauses-next = let e : n ≡ suc (n - 1) = omega arith in ap (λ (i : ℕ). clausesAt i at) e
+
+    pub ends-next : clausesEnd n at ≡ clausesEnd (n - 1) (clauseEnd q r at)
+    unfolding clausesEnd
+    ends-next = let e : n ≡ suc (n - 1) = omega arith in ap (λ (i : ℕ). clausesEnd i at) e
+
+    pub end-within : clauseEnd q r at ≤ clausesEnd n at
+    end-within = omega (arith, ends-next, clausesEnd-≥ (n - 1) (clauseEnd q r at))
+
+  -- ---- as reading gives them
+  pub clauses-valued : (b n at : ℕ) → at ≤ length q → Valued q (clausesAt n at) (clausesEnd n at) (repeat n (clause b r) (drop at q) at)
+  unfolding repeat clausesAt clausesEnd
+  clauses-valued b zero at h = there q [] at h
+  clauses-valued b (suc n) at h =
+      let e = clauseEnd q r at in
+      valued-after q (clauseAt q r at) e _ _ (clause b r (drop at q) at) _ (clause-valued q b r at h)
+      (λ l. valued-after q (clausesAt n e) (clausesEnd n e) _ _ (repeat n (clause b r) (drop e q) e) _ (clauses-valued b n e l)
+      (λ l. there q (clauseAt q r at ∷ clausesAt n e) (clausesEnd n e) l))

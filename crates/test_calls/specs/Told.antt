@@ -1,0 +1,24 @@
+-- What a test program is told of a reading.
+use mathlib.Core.Path.{_≡_, refl}
+use Prim.Native.Nat.{ℕ}
+use lib.ListN.{length}
+use Rattle.types.specs.Answers.{refusalNumber}
+use Rattle.rules.specs.Calls.{Reading, faulty, sound}
+use Rattle.reader.specs.declared.cursor.Scan.{Scan}
+use Rattle.reader.specs.declared.cursor.Scan.the-variants.{Sound, Fault}
+use Rattle.reading.specs.Outcome.{outcome}
+use Rattle.test_calls.specs.declared.ReadTold.{ReadTold}
+
+unfoldable pub told : Reading → ReadTold
+told (faulty f place) = record { number = refusalNumber f; place = place; booleans = 0; rationals = 0; clauses = 0 }
+told (sound p) = record { number = 0; place = 0; booleans = p .booleans; rationals = p .rationals; clauses = length (p .clauses) }
+
+-- by what the call for reading gives
+unfoldable pub toldOf : Scan → ReadTold
+toldOf (Fault f place) = record { number = refusalNumber f; place = place; booleans = 0; rationals = 0; clauses = 0 }
+toldOf (Sound b r n) = record { number = 0; place = 0; booleans = b; rationals = r; clauses = n }
+
+pub told-is : (r : Reading) → toldOf (outcome r) ≡ told r
+unfolding told toldOf outcome
+told-is (faulty f place) = refl
+told-is (sound p) = refl

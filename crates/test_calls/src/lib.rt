@@ -1,0 +1,39 @@
+// Calls for the test programs alone: parts of the solver that its own calls do not show one by one.
+use reader::cursor::Scan;
+use reading::read::read;
+ghost use mathlib.Core.Path.{_≡_};
+ghost use Rattle.rules.specs.Calls.{read};
+ghost use Rattle.test_calls.specs.Told.{told};
+
+// A fault's number and place; or 0, 0 and the counts of a question that is read without fault.
+#[repr(C)]
+pub struct ReadTold {
+    pub number: u64,
+    pub place: usize,
+    pub booleans: u64,
+    pub rationals: u64,
+    pub clauses: u64,
+}
+
+#[no_mangle]
+pub extern "C" fn test_read(question: &[u8]) -> ReadTold
+    ensures { λ r. ⌜ r ≡ told (read (now (question .entry))) ⌝ }
+{
+    let s = read(question);
+    match s {
+        Scan::Sound(b, r, n) => ReadTold {
+            number: 0,
+            place: 0,
+            booleans: b as u64,
+            rationals: r as u64,
+            clauses: n,
+        },
+        Scan::Fault(f, place) => ReadTold {
+            number: f.number() as u64,
+            place: place,
+            booleans: 0,
+            rationals: 0,
+            clauses: 0,
+        },
+    }
+}
