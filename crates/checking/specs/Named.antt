@@ -1,6 +1,5 @@
 -- A loaded part is found by the two numbers of its header: no other part has its bytes.
 use mathlib.Core.Path.{_≡_, refl, sym, ap, _∙_}
-use mathlib.Core.Bool.{Bool, true, false}
 use mathlib.Core.Logic.{⊎-elim}
 use mathlib.Core.List.{List, [], _∷_, _++_}
 use mathlib.Core.Option.{Option, none, some}
@@ -16,7 +15,7 @@ use Rattle.rules.specs.Split.{partsOf, splitsOf}
 use Rattle.rules.specs.Steps.{Step, loaded, header, encodeStep}
 use Rattle.rules.specs.Elimination.{partSteps, loadable}
 use Rattle.rules.specs.Checker.{lineAmong}
-use Rattle.lists.specs.Tests.{split, is-true, is-false, clash}
+use Rattle.lists.specs.Tests.{split, is-true, is-false}
 use Rattle.lists.specs.Equal.{same-yes}
 use Rattle.layout.specs.Headers.{first-back, second-back}
 

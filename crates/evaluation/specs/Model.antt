@@ -1,12 +1,9 @@
--- What an assignment in machine words stands for, and when a literal or a constraint holds under it, by its bytes.
+-- What an assignment in machine words stands for.
 use mathlib.Core.Bool.{false}
 use mathlib.Core.List.{List}
-use Prim.Native.Nat.{ℕ, _%_}
+use Prim.Native.Nat.{ℕ}
 use lib.IntN.{ℤ, pos}
-use lib.Dec.{leb}
 use lib.ListN.{getD}
-use Rattle.types.specs.Limits as limit
-use Rattle.rules.specs.Problem.{Literal}
 use Rattle.rules.specs.Meaning.{Assignment}
 use Rattle.masks.specs.Mask.{bits}
 use Rattle.evaluation.specs.declared.model.Model.{Model}
@@ -17,7 +14,3 @@ value numerators f = getD numerators f (pos 0)
 
 unfoldable pub assignment : Model → Assignment
 assignment m = record { booleans = λ i. getD (bits 32 (m .booleans)) i false; numerators = value (m .numerators); denominator = m .denominator }
-
--- "the mark's number, plus 128 if negated"
-abbrev pub literalOf : ℕ → Literal
-literalOf code = record { boolean = code % 128; negated = leb 128 code }

@@ -6,7 +6,8 @@ ghost use mathlib.Core.Bool.{false};
 ghost use lib.ListN.{getD};
 ghost use Rattle.rules.specs.Meaning.{literalHolds};
 ghost use Rattle.masks.specs.Mask.{bits};
-ghost use Rattle.evaluation.specs.Model.{assignment, literalOf};
+ghost use Rattle.clauses.specs.Literals.{literalOf};
+ghost use Rattle.evaluation.specs.Model.{assignment};
 
 // Whether a Boolean variable is yes; those from 32 on are no.
 fn is_yes(mask: u32, i: usize) -> bool

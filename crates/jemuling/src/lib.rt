@@ -1,2 +1,3 @@
-// The library's calls, for C: byte slices and numbers in, numbers out.
+// The library's calls, for C: byte slices and numbers in, numbers out. include/jemuling.h declares them.
+pub mod calls;
 pub mod told;

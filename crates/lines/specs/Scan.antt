@@ -1,8 +1,9 @@
 -- Scans of rows from the front.
 use mathlib.Core.Path.{_≡_, refl, sym, ap, subst, _∙_}
-use mathlib.Core.Bool.{Bool, true, false, not, or-true, and-false}
+use mathlib.Core.Bool.{Bool, true, false, not, _&&_, or-true, and-false}
 use mathlib.Core.List.{List, [], _∷_}
 use Prim.Native.Nat.{ℕ, zero, suc, _+_, _≤_, _<_}
+use native.Mathlib.Numerals.{add-one}
 use native.Mathlib.Omega.{arith}
 use borrow.Author.Count.{below-more}
 use borrow.Author.Tests.{not-true, not-false}
@@ -11,7 +12,8 @@ use lib.Dec.{T, eqb, eqb→eq, eqb-refl}
 use mir.Syntax.{w64}
 use mir.Val.{SFits, ofZ, toZ}
 use mir.Facts.{toZ-ofZ}
-use lib.ListN.{length, getD}
+use lib.ListN.{length, getD, drop}
+use lib.Seq.{drop-cons, drop-length}
 use Rattle.rules.specs.Lists.{any, same}
 use Rattle.rules.specs.Arithmetic.{equal}
 use Rattle.lists.specs.Tests.{tests-agree}
@@ -61,6 +63,19 @@ module _ {A : Type 0} (d : A) where
     same-none [] (b ∷ u) n e = absurd (omega arith)
     same-none (a ∷ s) [] n e = absurd (omega arith)
     same-none (a ∷ s) (b ∷ u) n e = rw (not-false (equals a b) (e 0 (omega arith))) (same-none s u (omega arith) (λ k h. e (suc k) (omega arith)))
+
+  -- ---- of two lists as long as each other: what is left decides
+  module _ (equals : A → A → Bool) (s u : List A) (i : ℕ) where
+    pub same-next : i < length s → i < length u → same equals (drop i s) (drop i u) ≡ equals (getD s i d) (getD u i d) && same equals (drop (i + 1) s) (drop (i + 1) u)
+    unfolding same
+    same-next h k = rw (add-one i, drop-cons s i d h, drop-cons u i d k)
+
+    pub same-end : length s ≡ i → length u ≡ i → same equals (drop i s) (drop i u) ≡ true
+    unfolding same
+    same-end h k = rw (drop-end s h, drop-end u k)
+      where
+        drop-end : (s : List A) → length s ≡ i → drop i s ≡ []
+        drop-end s h = rw (← h) (drop-length s)
 
 -- ---- equal integers, by the bits of two machine words
 pub equal-test : (a b : ℤ) → SFits w64 a → SFits w64 b → eqb (ofZ w64 a) (ofZ w64 b) ≡ equal a b

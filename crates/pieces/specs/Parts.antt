@@ -94,17 +94,17 @@ module _ (q : List ℕ) (r at : ℕ) (c : Parts) (start : Started q r at c) wher
 
 -- ---- one part more
 -- the part's own split variable, except the last's
-unfoldable pub linked : Bool → ℕ → Booleans → Booleans
-linked true k p = including k p
-linked false k p = p
+unfoldable pub withSplit : Bool → ℕ → Booleans → Booleans
+withSplit true k p = including k p
+withSplit false k p = p
 
 module _ (k : ℕ) (p n : Booleans) (d : Constraint) (stay : ℕ) where
   abbrev withFirst : Option (List Constraint) → Option (List Constraint)
   withFirst o = elim o [ none ↦ none | some ds ↦ some (d ∷ ds) ]
 
   pub next-part : (o : Option (List Constraint)) → counted 0 (withFirst o) ≡ Count stay
-      → partsBy k p n (withFirst o) ≡ record { positive = linked (ltb 1 stay) k p; negative = n; constraint = some d } ∷ partsIf (ltb 1 stay) (k + 1) noBooleans (including k noBooleans) o
-  unfolding partsBy partsIf linked counted parts chain
+      → partsBy k p n (withFirst o) ≡ record { positive = withSplit (ltb 1 stay) k p; negative = n; constraint = some d } ∷ partsIf (ltb 1 stay) (k + 1) noBooleans (including k noBooleans) o
+  unfolding partsBy partsIf withSplit counted parts chain
   next-part none e = let z : _≡_ {A = ℕ} 0 1 = cc in absurd (omega arith)
   next-part (some []) e =
       let s : 0 + 1 ≡ stay = cc in
@@ -162,6 +162,6 @@ module _ (q : List ℕ) (r : ℕ) (c : Parts) (cursor : Cursor q r c) (more : c 
     behind-count = next-count (c .split) (bits 32 (c .positive)) (bits 32 (c .negative)) (reduced here) (c .stay) behind count-kept
 
     pub from-kept : partsFrom q r c
-        ≡ record { positive = linked (ltb 1 (c .stay)) (c .split) (bits 32 (c .positive)); negative = bits 32 (c .negative); constraint = some (reduced here) } ∷ partsBehind q r c p
+        ≡ record { positive = withSplit (ltb 1 (c .stay)) (c .split) (bits 32 (c .positive)); negative = bits 32 (c .negative); constraint = some (reduced here) } ∷ partsBehind q r c p
     unfolding partsFrom partsIf partsBehind
     from-kept = rw (more, first-kept) (next-part (c .split) (bits 32 (c .positive)) (bits 32 (c .negative)) (reduced here) (c .stay) behind count-kept)

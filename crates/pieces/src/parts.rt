@@ -26,7 +26,7 @@ ghost use Rattle.reader.specs.Values.{constraintAt, clauseAt};
 ghost use Rattle.reader.specs.Sound.{SoundConstraint, SoundClause};
 ghost use Rattle.lines.specs.Line.{meaning, Ready};
 ghost use Rattle.pieces.specs.Constraint.{lineOf};
-ghost use Rattle.pieces.specs.Parts.{partsFrom, Cursor, linked, partsBehind};
+ghost use Rattle.pieces.specs.Parts.{partsFrom, Cursor, withSplit, partsBehind};
 ghost use Rattle.pieces.specs.Skip.{Skipped};
 
 pub struct Parts {
@@ -81,7 +81,7 @@ pub fn begin(q: &[u8], at: usize, r: u8, split: usize) -> Parts
 
 // The positive literals of the next part: with its split variable, except the last.
 fn own(parts: Parts) -> u32
-    ensures { λ m. ⌜ bits 32 m ≡ linked (ltb 1 (parts .stay)) (parts .split) (bits 32 (parts .positive)) ⌝ }
+    ensures { λ m. ⌜ bits 32 m ≡ withSplit (ltb 1 (parts .stay)) (parts .split) (bits 32 (parts .positive)) ⌝ }
 {
     if 1 < parts.stay {
         return with(parts.positive, parts.split);

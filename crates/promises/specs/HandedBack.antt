@@ -65,7 +65,7 @@ module _ (limits : Limits) (number steps : ℕ) (proof model : List ℕ) where
   of-proof n = parts (λ e. e ≡ OfProof n → (n ≡ 0) ⊎ ((number ≡ 65) × (n ≡ limit.stepBytes * steps))) (λ e. inl cc) (λ k e. absurd (let z : _≡_ {A = ℕ} 0 1 = cc in omega arith)) (λ k e. inr (k, cc))
 
 -- ---- whose number it is
-refusal-below : (f : Refusal) → refusalNumber f < 64
+pub refusal-below : (f : Refusal) → refusalNumber f < 64
 unfolding refusalNumber
 refusal-below ShortProof = omega arith
 refusal-below ShortModel = omega arith

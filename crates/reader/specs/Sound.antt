@@ -2,7 +2,7 @@
 use mathlib.Core.Path.{_≡_, refl, sym, ap, subst, _∙_}
 use mathlib.Core.Bool.{Bool, true, false, _||_}
 use mathlib.Core.Logic.{⊎-elim}
-use mathlib.Core.List.{List, _++_}
+use mathlib.Core.List.{List, [], _∷_, _++_}
 use Prim.Native.Nat.{ℕ, zero, suc, _+_, _*_, _-_, _%_, _≤_, _<_}
 use native.Mathlib.Nat.{eq-zero-or-pos}
 use native.Mathlib.Omega.{arith}
@@ -14,8 +14,9 @@ use Rattle.types.specs.declared.answers.Refusal.{Refusal}
 use Rattle.types.specs.declared.answers.Refusal.the-variants as refusal
 use Rattle.types.specs.Limits as limit
 use Rattle.rules.specs.Bytes.{fromUnsigned, fieldAt}
-use Rattle.rules.specs.Problem.{Clause, Read, fault, got, Reader, after, repeat, field, inRange, amount, literal, constraint, clause}
+use Rattle.rules.specs.Problem.{Clause, Problem, Read, fault, got, Reader, after, return, repeat, field, inRange, amount, literal, constraint, clause, end, problem}
 use Rattle.reader.specs.Fields.{field-short, field-bad, field-good, fieldAt-1}
+use Rattle.reader.specs.Read.{Outlined}
 use Rattle.reader.specs.Values.{valuesAt, behind, behind-is, amountAt, boundOf, countOf, clauseEnd}
 
 -- ---- so many values, the next one so many bytes on: each has the property
@@ -84,17 +85,22 @@ module _ (q : List ℕ) where
     ends-after P n Q m (fault f place) next t h = tt
     ends-after P n Q m (got a bytes place) next t h = rw (t .left, t .end) (h a (t .holds) (t .within))
 
-  field-ends : {B : Type 0} (k : ℕ) (good : ℕ → Bool) (f : Refusal) (at : ℕ) (Q : Type 0) (m : ℕ) (next : ℕ → Reader B) → at ≤ length q
-      → (at + k ≤ length q → good (fieldAt at k q) ≡ true → Ends Q m (next (fieldAt at k q) (drop (at + k) q) (at + k))) → Ends Q m (after (field k good f (drop at q) at) next)
+  -- a field and what comes next: what holds of every fault, and of the value where the test passes
+  field-by : {B : Type 0} (M : Read B → Type 0) → ((g : Refusal) (place : ℕ) → M (fault g place)) → (k : ℕ) (good : ℕ → Bool) (f : Refusal) (at : ℕ) (next : ℕ → Reader B) → at ≤ length q
+      → (at + k ≤ length q → good (fieldAt at k q) ≡ true → M (next (fieldAt at k q) (drop (at + k) q) (at + k))) → M (after (field k good f (drop at q) at) next)
   unfolding after
-  field-ends k good f at Q m next h go = ⊎-elim
+  field-by M bad k good f at next h go = ⊎-elim
       (λ z. by (omega arith) (good (fieldAt at k q)) refl)
-      (λ z. rw (field-short q k good f at h (omega arith)) tt)
+      (λ z. rw (field-short q k good f at h (omega arith)) (bad refusal.Truncated (length q)))
       (eq-zero-or-pos (at + k - length q))
     where
-      by : at + k ≤ length q → (t : Bool) → good (fieldAt at k q) ≡ t → Ends Q m (after (field k good f (drop at q) at) next)
+      by : at + k ≤ length q → (t : Bool) → good (fieldAt at k q) ≡ t → M (after (field k good f (drop at q) at) next)
       by l true e = rw (field-good q k good f at l e) (go l e)
-      by l false e = rw (field-bad q k good f at l e) tt
+      by l false e = rw (field-bad q k good f at l e) (bad f at)
+
+  field-ends : {B : Type 0} (k : ℕ) (good : ℕ → Bool) (f : Refusal) (at : ℕ) (Q : Type 0) (m : ℕ) (next : ℕ → Reader B) → at ≤ length q
+      → (at + k ≤ length q → good (fieldAt at k q) ≡ true → Ends Q m (next (fieldAt at k q) (drop (at + k) q) (at + k))) → Ends Q m (after (field k good f (drop at q) at) next)
+  field-ends k good f at Q m next h go = field-by (λ r. Ends Q m r) (λ g place. tt) k good f at next h go
 
   byte-ends : {B : Type 0} (good : ℕ → Bool) (f : Refusal) (at : ℕ) (Q : Type 0) (m : ℕ) (next : ℕ → Reader B) → at ≤ length q
       → (at + 1 ≤ length q → good (getD q at 0) ≡ true → Ends Q m (next (getD q at 0) (drop (at + 1) q) (at + 1))) → Ends Q m (after (field 1 good f (drop at q) at) next)
@@ -154,3 +160,64 @@ module _ (q : List ℕ) where
 -- a clause that reading gave
 pub sound-clause : (q : List ℕ) (b r at : ℕ) (c : Clause) (rest : List ℕ) (next : ℕ) → at ≤ length q → clause b r (drop at q) at ≡ got c rest next → Sound q b r at
 sound-clause q b r at c rest next h e = (subst (Ends q (Sound q b r at) (clauseEnd q r at)) e (clause-ends q b r at h)) .holds
+
+-- ---- all clauses of a question, each behind the one before
+module _ (q : List ℕ) (b r : ℕ) where
+  unfoldable pub SoundClauses : ℕ → ℕ → Type 0
+  SoundClauses zero at = Unit {0}
+  SoundClauses (suc n) at = Sound q b r at × SoundClauses n (clauseEnd q r at)
+
+  module _ (n at : ℕ) (more : 0 < n) (each : SoundClauses n at) where
+    opened : Sound q b r at × SoundClauses (n - 1) (clauseEnd q r at)
+    unfolding SoundClauses
+    opened = let e : n ≡ suc (n - 1) = omega arith in subst (λ (k : ℕ). SoundClauses k at) e each
+
+    pub clauses-first : Sound q b r at
+    clauses-first = opened .0
+
+    pub clauses-rest : SoundClauses (n - 1) (clauseEnd q r at)
+    clauses-rest = opened .1
+
+  -- so many values, where reading gave some
+  abbrev Given : ℕ → ℕ → Read (List Clause) → Type 0
+  Given n at (fault f place) = Unit {0}
+  Given n at (got cs bytes place) = SoundClauses n at × (length cs ≡ n)
+
+  given-next : (n at : ℕ) (c : Clause) → Sound q b r at → (cs : Read (List Clause)) → Given n (clauseEnd q r at) cs → Given (suc n) at (after cs (λ xs. return (c ∷ xs)))
+  unfolding after SoundClauses
+  given-next n at c s (fault f place) g = tt
+  given-next n at c s (got cs bytes place) g = ((s, g .0), ap suc (g .1))
+
+  given-first : (n at : ℕ) (c : Read Clause) → Ends q (Sound q b r at) (clauseEnd q r at) c → (clauseEnd q r at ≤ length q → Given n (clauseEnd q r at) (repeat n (clause b r) (drop (clauseEnd q r at) q) (clauseEnd q r at)))
+      → Given (suc n) at (after c (λ x bytes place. after (repeat n (clause b r) bytes place) (λ xs. return (x ∷ xs))))
+  unfolding after
+  given-first n at (fault f place) t h = tt
+  given-first n at (got c bytes place) t h = rw (t .left, t .end) (given-next n at c (t .holds) (repeat n (clause b r) (drop (clauseEnd q r at) q) (clauseEnd q r at)) (h (t .within)))
+
+  given-clauses : (n at : ℕ) → at ≤ length q → Given n at (repeat n (clause b r) (drop at q) at)
+  unfolding repeat SoundClauses
+  given-clauses zero at h = (tt, refl)
+  given-clauses (suc n) at h = given-first n at (clause b r (drop at q) at) (clause-ends q b r at h) (λ l. given-clauses n (clauseEnd q r at) l)
+
+module _ (q : List ℕ) where
+  abbrev GivenProblem : Read Problem → Type 0
+  GivenProblem (fault f place) = Unit {0}
+  GivenProblem (got w bytes place) = SoundClauses q (w .booleans) (w .rationals) (length (w .clauses)) 4
+
+  given-end : (b r n : ℕ) (cs : Read (List Clause)) → Given q b r n 4 cs → GivenProblem (after cs (λ xs. end (record { booleans = b; rationals = r; clauses = xs })))
+  unfolding after end
+  given-end b r n (fault f place) g = tt
+  given-end b r n (got cs [] place) g = rw (g .1) (g .0)
+  given-end b r n (got cs (x ∷ bytes) place) g = tt
+
+  given-problem : GivenProblem (problem q 0)
+  unfolding problem
+  given-problem =
+      field-by q (λ w. GivenProblem w) (λ g place. tt) 1 (λ b. leb b limit.booleans) refusal.Booleans 0 _ (omega arith)
+      (λ l e. field-by q (λ w. GivenProblem w) (λ g place. tt) 1 (λ r. leb r limit.rationals) refusal.Rationals 1 _ l
+      (λ l e. field-by q (λ w. GivenProblem w) (λ g place. tt) 2 (λ n. leb n limit.clauses) refusal.Clauses 2 _ l
+      (λ l e. given-end (fieldAt 0 1 q) (fieldAt 1 1 q) (fieldAt 2 2 q) (repeat (fieldAt 2 2 q) (clause (fieldAt 0 1 q) (fieldAt 1 1 q)) (drop 4 q) 4) (given-clauses q (fieldAt 0 1 q) (fieldAt 1 1 q) (fieldAt 2 2 q) 4 l))))
+
+  -- a question that is read without fault to 12
+  pub sound-clauses : (b r n : ℕ) → Outlined q b r n → SoundClauses q b r n 4
+  sound-clauses b r n o = rw (← o .booleans, ← o .rationals, ← o .clauses) (subst GivenProblem (o .got-it) given-problem)

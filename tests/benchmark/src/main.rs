@@ -10,6 +10,11 @@ const ROUNDS: usize = 20;
 const CALLS: u32 = 200;
 
 fn main() {
+    reading();
+    checks();
+}
+
+fn reading() {
     println!("reading the largest question (32,768 bytes), time of a call");
     for kind in [Kind::Dropped, Kind::Struck] {
         let question = largest::question(32_768, kind);
@@ -23,6 +28,62 @@ fn main() {
             },
         );
     }
+}
+
+/// Books of 1,024 lines: pieces of the largest question, over and over; and the results of a
+/// question with few clauses.
+fn checks() {
+    println!("checking a book of 65,536 bytes, time of a call");
+    let question = largest::question(32_768, Kind::Struck);
+    let mut book = vec![0; 65_536];
+    let mut sheet = [0; 64];
+    let answer = reference::solve(&question, &mut book, &mut sheet);
+    println!("pieces: solving says {answer:?}");
+    repeat_lines(&mut book, 256);
+    compare_books("pieces", &question, &book);
+    let question = largest::run(12).encode();
+    let answer = reference::solve(&question, &mut book, &mut sheet);
+    println!("results: solving says {answer:?}");
+    compare_books("results", &question, &book);
+    println!("checking a sheet against the largest question, time of a call");
+    let question = largest::question(32_768, Kind::Dropped);
+    reference::solve(&question, &mut book, &mut sheet);
+    compare(
+        "sheet",
+        || {
+            black_box(proved::check_sheet(black_box(&question), black_box(&sheet)));
+        },
+        || {
+            black_box(reference::check_sheet(
+                black_box(&question),
+                black_box(&sheet),
+            ));
+        },
+    );
+}
+
+/// The first lines of a book, again and again up to its end.
+fn repeat_lines(book: &mut [u8], lines: usize) {
+    let used = book[..64 * lines].to_vec();
+    for chunk in book.chunks_mut(used.len()) {
+        chunk.copy_from_slice(&used[..chunk.len()]);
+    }
+}
+
+fn compare_books(name: &str, question: &[u8], book: &[u8]) {
+    println!(
+        "{name}: the check says {:?}",
+        proved::check_book(question, book)
+    );
+    compare(
+        name,
+        || {
+            black_box(proved::check_book(black_box(question), black_box(book)));
+        },
+        || {
+            black_box(reference::check_book(black_box(question), black_box(book)));
+        },
+    );
 }
 
 /// Both in turn, so that what slows the machine slows both.

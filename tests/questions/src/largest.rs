@@ -1,5 +1,6 @@
-//! Questions with 256 clauses of three constraints in eight figures, as long as a question may be
-//! or nearly so. All are read without fault, since no clause keeps two constraints.
+//! Questions as long as they may be, and the one with the largest run known. The long ones have 256
+//! clauses of three constraints in eight figures, and are read without fault, since no clause keeps
+//! two constraints.
 
 use crate::problem::{at_most, below, no, yes, Problem, Term};
 
@@ -25,6 +26,17 @@ pub fn question(length: usize, kind: Kind) -> Vec<u8> {
     let last = problem.clauses.len() - 1;
     problem.clauses[last] = clause(CLAUSES, literals, kind);
     problem.encode()
+}
+
+/// The largest run known, with last = 12: x + 100m·y ≤ 1 for m = ±1 .. ±last, -x + j·y ≤ 0 for
+/// j = ±1 .. ±20.
+pub fn run(last: i32) -> Problem {
+    let both = |most: i32| (1..=most).flat_map(|i| [i, -i]);
+    let uppers = both(last).map(|m| at_most(&[1, 100 * m], 1));
+    let lowers = both(20).map(|j| at_most(&[-1, j], 0));
+    uppers
+        .chain(lowers)
+        .fold(Problem::new(0, 2), |problem, term| problem.clause([term]))
 }
 
 fn clause(i: i32, literals: usize, kind: Kind) -> Vec<Term> {

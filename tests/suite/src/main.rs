@@ -4,6 +4,7 @@
 
 mod arbitrary;
 mod buffers;
+mod checks;
 mod consistency;
 mod damage;
 mod examples;
@@ -27,6 +28,7 @@ fn main() -> ExitCode {
     arbitrary::run(&mut sums);
     lengths::run(&mut sums);
     reading::run(&mut sums);
+    checks::run(&mut sums);
     println!("{} passed, {} failed", sums.passed, sums.failed);
     match sums.failed {
         0 => ExitCode::SUCCESS,

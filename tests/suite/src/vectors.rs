@@ -35,6 +35,18 @@ pub fn questions() -> Vec<Result<Vec<u8>, String>> {
     second.chain(padded).collect()
 }
 
+/// The second and third field of a file's lines: a question, and a book or a sheet.
+pub fn questions_with(file: &str) -> Vec<Result<(Vec<u8>, Vec<u8>), String>> {
+    let parts = |line: String| {
+        let fields: Vec<&str> = line.split('|').collect();
+        let [_, question, part, ..] = fields[..] else {
+            return Err("malformed".into());
+        };
+        Ok((bytes(question)?, bytes(part)?))
+    };
+    lines(file).into_iter().map(parts).collect()
+}
+
 /// A file's lines: the first ones, which begin with #, say the fields; every other one is a case.
 fn lines(file: &str) -> Vec<String> {
     let folder = Path::new(env!("CARGO_MANIFEST_DIR")).join("../vectors");

@@ -58,8 +58,10 @@ loop-again c =
     let a = c .before in
     let t = a .before .loop-test .taken in
     let l = a .before .before .loop in
-    let s = a .before .before .before .before in
-    (scan-next (constraintHolds (assignment (s .args .model))) (constraintAt (s .args .q .now) (s .args .r)) (5 + s .args .r * 4) (s .args .from) (s .args .count) (l .at) (l .left) (l .inv .0) t (a .constraint-holds .result) (a .constraint-holds .ensures) (c .if1 .left), each-rest (SoundConstraint (s .args .q .now) (s .args .r)) (5 + s .args .r * 4) (l .left) (l .at) t (l .inv .1))
+    let s = a .before .before .before .before in (
+      scan-next (constraintHolds (assignment (s .args .model))) (constraintAt (s .args .q .now) (s .args .r)) (5 + s .args .r * 4) (s .args .from) (s .args .count) (l .at) (l .left) (l .inv .0) t (a .constraint-holds .result) (a .constraint-holds .ensures) (c .if1 .left),
+      each-rest (SoundConstraint (s .args .q .now) (s .args .r)) (5 + s .args .r * 4) (l .left) (l .at) t (l .inv .1),
+    )
 
 returns-2 : tie.Need-returns-2 Inv-loop μ-loop
 returns-2 c =

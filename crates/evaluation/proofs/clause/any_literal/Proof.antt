@@ -6,6 +6,7 @@ use borrow.Author.Needs.{needs}
 use lib.ListN.{length}
 use Rattle.rules.specs.Meaning.{literalHolds}
 use Rattle.reader.specs.Values.{literalAt}
+use Rattle.clauses.specs.Literals.{literalOf}
 use Rattle.evaluation.specs.Model.{assignment}
 use Rattle.evaluation.specs.Scan.{Scan, scan-done, scan-within, scan-found, scan-next}
 use Rattle.evaluation.proofs.clause.any_literal.Statement.{statement}
@@ -29,7 +30,7 @@ within c =
 
 -- the test that was called is the definition's
 tested : (c : tie.After-literal-holds Inv-loop μ-loop) → let a = c .before .before .before in c .literal-holds .result ≡ literalHolds (assignment (a .before .before .args .model)) (literalAt (a .before .before .args .q .now) (a .loop .at))
-unfolding literalAt
+unfolding literalAt literalOf
 tested c = c .literal-holds .ensures
 
 shared-slice-read-literal-holds : tie.Need-shared-slice-read-literal-holds Inv-loop μ-loop

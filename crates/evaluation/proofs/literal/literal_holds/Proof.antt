@@ -4,6 +4,7 @@ use mathlib.Core.Bool.{not}
 use borrow.Author.Needs.{needs}
 use borrow.Author.Tests.{le-leb, lt-leb}
 use Rattle.rules.specs.Meaning.{literalHolds}
+use Rattle.clauses.specs.Literals.{literalOf}
 use Rattle.evaluation.specs.Model.{assignment}
 use Rattle.evaluation.proofs.literal.literal_holds.Statement.{statement}
 use Rattle.evaluation.proofs.literal.literal_holds.Tie as tie
@@ -15,11 +16,11 @@ is-yes-requires : tie.Need-is-yes-requires
 is-yes-requires c κs = search needs
 
 returns : tie.Need-returns
-unfolding literalHolds assignment
+unfolding literalHolds assignment literalOf
 returns c = let s = c .before .before in rw (le-leb 128 (s .args .code) (c .if1 .taken)) (ap not (c .before .is-yes .ensures))
 
 returns-2 : tie.Need-returns-2
-unfolding literalHolds assignment
+unfolding literalHolds assignment literalOf
 returns-2 c = let s = c .before .before in rw (lt-leb 128 (s .args .code) (c .if1 .left)) (c .before .is-yes .ensures)
 
 pub literal-holds-spec : {M : Type 1} → statement M

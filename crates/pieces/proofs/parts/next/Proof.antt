@@ -14,7 +14,7 @@ use Rattle.masks.specs.Mask.{bits}
 use Rattle.reader.specs.Values.{constraintAt}
 use Rattle.reader.specs.Sound.{SoundConstraint, each-first}
 use Rattle.lines.specs.Line.{meaning}
-use Rattle.pieces.specs.Parts.{partsFrom, partsIf, linked, from-bare, from-kept}
+use Rattle.pieces.specs.Parts.{partsFrom, partsIf, withSplit, from-bare, from-kept}
 use Rattle.pieces.proofs.parts.next.Statement.{statement}
 use Rattle.pieces.proofs.parts.next.Tie as tie
 
@@ -57,7 +57,7 @@ returns-2 c =
     let p = k .before .before in
     let s = p .before .before .before .before in
     let parts = s .args .parts in
-    let line : record { positive = linked (ltb 1 (parts .stay)) (parts .split) (bits 32 (parts .positive)); negative = bits 32 (parts .negative); constraint = some (reduced (constraintAt (s .args .q .now) (s .args .r) (p .skip .result .at))) } ≡ meaning (k .kept .result) =
+    let line : record { positive = withSplit (ltb 1 (parts .stay)) (parts .split) (bits 32 (parts .positive)); negative = bits 32 (parts .negative); constraint = some (reduced (constraintAt (s .args .q .now) (s .args .r) (p .skip .result .at))) } ≡ meaning (k .kept .result) =
     rw (← k .before .own .ensures) (sym (k .kept .ensures .0)) in (
       from-kept (s .args .q .now) (s .args .r) parts (s .pre .1 .0) (s .pre .1 .1) (p .skip .result) (p .skip .ensures) ∙ (λ i. line i ∷ sym (c .rest .ensures .0) i),
       (k .kept .ensures .1, c .rest .ensures .1),

@@ -1,0 +1,64 @@
+-- The constraint of a line in machine words, and whether it holds.
+use mathlib.Core.Path.{_≡_, refl, sym, ap, _∙_}
+use mathlib.Core.Bool.{Bool, false}
+use mathlib.Core.Option.{Option, some}
+use Prim.Native.Nat.{ℕ, zero, suc, _≤_, _<_}
+use native.Mathlib.Omega.{arith}
+use lib.IntN.{ℤ, pos, natAbs, _*ℤ_}
+use lib.Dec.{eqb, eqb·suc-suc}
+use lib.ListN.{length, getD}
+use Rattle.rules.specs.Problem.{Constraint}
+use Rattle.rules.specs.Arithmetic.{sum, related}
+use Rattle.rules.specs.Meaning.{constraintHolds}
+use Rattle.rules.specs.Lines.{coefficient, theConstraintHolds}
+use Rattle.rules.specs.Values.{quotient, beyond, boundOf}
+use Rattle.bounds.specs.Meets.{rest}
+use Rattle.fractions.specs.Range.{Small, Scaled}
+use Rattle.fractions.specs.Enough.{gathered-≤}
+use Rattle.fractions.specs.Kept.{quotient-small}
+use Rattle.lines.specs.declared.line.Line.{Line}
+use Rattle.lines.specs.Line.{constraintOf, meaning, Ready}
+use Rattle.evaluation.specs.declared.model.Model.{Model}
+use Rattle.evaluation.specs.Model.{value, assignment}
+use Rattle.gathering.specs.Range.{InRange}
+
+abbrev pub constraintIn : Line → Constraint
+constraintIn l = record { strict = eqb (l .relation) 2; coefficients = l .coefficients; bound = l .bound }
+
+pub constraint-is : (l : Line) → 0 < l .relation → meaning l .constraint ≡ some (constraintIn l)
+unfolding meaning constraintOf
+constraint-is l h = by (l .relation) h
+  where
+    by : (r : ℕ) → 0 < r → constraintOf r (l .coefficients) (l .bound) ≡ some (record { strict = eqb r 2; coefficients = l .coefficients; bound = l .bound })
+    by zero h = absurd (omega arith)
+    by (suc r) h = ap (λ (s : Bool). some (record { strict = s; coefficients = l .coefficients; bound = l .bound })) (sym (eqb·suc-suc r 1))
+
+module _ (l : Line) (m : Model) where
+  pub none-holds : l .relation ≡ 0 → theConstraintHolds (assignment m) (meaning l .constraint) ≡ false
+  unfolding meaning constraintOf theConstraintHolds
+  none-holds e = rw e
+
+  -- by the sum and bound × denominator
+  pub some-holds : (t : Bool) (s b : ℤ) → 0 < l .relation → eqb (l .relation) 2 ≡ t → s ≡ sum (l .coefficients) (value (m .numerators)) → b ≡ l .bound *ℤ pos (m .denominator)
+      → related t s b ≡ theConstraintHolds (assignment m) (meaning l .constraint)
+  unfolding theConstraintHolds constraintHolds assignment
+  some-holds t s b h e i j = rw (i, j, ← e) (ap (theConstraintHolds (assignment m)) (sym (constraint-is l h)))
+
+-- ---- what it bounds a variable by
+module _ (l : Line) (m : Model) (f : ℕ) (n : length (l .coefficients) ≡ 8) (h : f < 8) (k : Ready l) (r : InRange m) where
+  abbrev other : ℤ
+  other = rest f (l .coefficients) (l .bound) (value (m .numerators)) (m .denominator)
+
+  pub rest-≤ : natAbs other ≤ 8000000000000000000
+  unfolding value
+  rest-≤ = gathered-≤ f (l .coefficients) (l .bound) (value (m .numerators)) (m .denominator) n h (k .coefficients .small) (k .bound) (r .amounts .small) (r .small)
+
+  pub rest-scaled : 0 < natAbs (getD (l .coefficients) f (pos 0)) → Scaled other (getD (l .coefficients) f (pos 0)) (m .denominator)
+  rest-scaled z = record { numerator = rest-≤; nonzero = z; coefficient = k .coefficients .small f; positive = r .positive; denominator = r .small }
+
+  pub bound-is : quotient other (getD (l .coefficients) f (pos 0)) (m .denominator) ≡ boundOf (assignment m) f (constraintIn l)
+  unfolding boundOf assignment coefficient
+  bound-is = refl
+
+  pub bound-small : 0 < natAbs (getD (l .coefficients) f (pos 0)) → beyond (boundOf (assignment m) f (constraintIn l)) ≡ false → Small (boundOf (assignment m) f (constraintIn l))
+  bound-small z = rw (← bound-is) (quotient-small other (getD (l .coefficients) f (pos 0)) (m .denominator) (rest-scaled z))

@@ -1,0 +1,58 @@
+-- Sums of coefficient × numerator from the last term on, and their widths.
+use mathlib.Core.Path.{_≡_, refl, sym, ap, _∙_}
+use mathlib.Core.List.{List, [], _∷_}
+use Prim.Native.Nat.{ℕ, zero, suc, _+_, _*_, _-_, _≤_, _<_}
+use native.Mathlib.Numerals.{add-one}
+use native.Mathlib.Omega.{arith}
+use lib.IntN.{ℤ, pos, natAbs, _+ℤ_, _*ℤ_}
+use lib.ListN.{length, getD, set, drop}
+use lib.Seq.{drop-cons, drop-length}
+use Rattle.integers.specs.Size.{abs-+-≤}
+use Rattle.rules.specs.Arithmetic.{sum}
+use Rattle.vectors.specs.Dot.{sum-values}
+use Rattle.rows.specs.Amount.{Amounts, product-≤}
+use Rattle.evaluation.specs.Model.{value}
+
+-- the terms from place i on
+unfoldable pub termsFrom : List ℤ → List ℤ → ℕ → ℤ
+termsFrom row numerators i = sum (drop i row) (λ f. value numerators (i + f))
+
+module _ (row numerators : List ℤ) where
+  pub terms-none : length row ≡ 8 → pos 0 ≡ termsFrom row numerators 8
+  unfolding termsFrom sum
+  terms-none h = rw (← h, drop-length row)
+
+  pub terms-all : termsFrom row numerators 0 ≡ sum row (value numerators)
+  unfolding termsFrom
+  terms-all = sum-values row (λ f. ap (value numerators) (zero-plus f))
+    where
+      zero-plus : (f : ℕ) → 0 + f ≡ f
+      zero-plus f = omega arith
+
+  module _ (i : ℕ) (h : i < length row) where
+    pub terms-more : termsFrom row numerators i ≡ getD row i (pos 0) *ℤ value numerators i +ℤ termsFrom row numerators (suc i)
+    unfolding termsFrom sum
+    terms-more =
+        let e : i + 0 ≡ i = omega arith in
+        rw (drop-cons row i (pos 0), e) (ap (λ (s : ℤ). getD row i (pos 0) *ℤ value numerators i +ℤ s) (sum-values (drop (suc i) row) (λ f. ap (value numerators) (shift f))))
+      where
+        shift : (f : ℕ) → i + suc f ≡ suc i + f
+        shift f = omega arith
+
+    -- a term is at most 10^18 in size
+    pub terms-≤ : (k : ℕ) → Amounts row → Amounts numerators → natAbs (termsFrom row numerators (suc i)) ≤ k * 1000000000000000000 → natAbs (termsFrom row numerators i) ≤ suc k * 1000000000000000000
+    unfolding value
+    terms-≤ k a b t =
+        rw terms-more
+        (omega (arith, abs-+-≤ (getD row i (pos 0) *ℤ value numerators i) (termsFrom row numerators (suc i)) (product-≤ (getD row i (pos 0)) (value numerators i) (a .small i) (b .small i)) t))
+
+-- ---- one amount for another
+pub amounts-set : (cs : List ℤ) (f : ℕ) (z : ℤ) → Amounts cs → natAbs z ≤ 1000000000 → Amounts (set cs f z)
+amounts-set cs f z h k = record { small = other cs f (h .small) }
+  where
+    other : (cs : List ℤ) (f : ℕ) → ((i : ℕ) → natAbs (getD cs i (pos 0)) ≤ 1000000000) → (i : ℕ) → natAbs (getD (set cs f z) i (pos 0)) ≤ 1000000000
+    other [] f h i = h i
+    other (c ∷ cs) zero h zero = k
+    other (c ∷ cs) zero h (suc i) = h (suc i)
+    other (c ∷ cs) (suc f) h zero = h zero
+    other (c ∷ cs) (suc f) h (suc i) = other cs f (λ j. h (suc j)) i

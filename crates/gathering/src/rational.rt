@@ -1,0 +1,44 @@
+// A rational variable's value in its round, or that a gathered bound or the value is beyond the range of amounts.
+use crate::gather::gathered;
+use evaluation::model::Model;
+use fractions::bound::value;
+use fractions::fraction::Fraction;
+ghost use mathlib.Core.Path.{_≡_};
+ghost use Prim.Native.Nat.{_*_, _≤_, _<_};
+ghost use lib.ListN.{length};
+ghost use Rattle.fractions.specs.Meaning.{meaning};
+ghost use Rattle.proof_lines.specs.Held.{linesIn, ReadyLines};
+ghost use Rattle.evaluation.specs.Model.{assignment};
+ghost use Rattle.gathering.specs.Range.{InRange};
+ghost use Rattle.gathering.specs.Gather.{Chosen};
+
+pub struct Choice {
+    pub beyond: bool,
+    pub value: Fraction,
+}
+
+pub fn rational_value(proof: &[u8], n: usize, f: usize, model: Model) -> Choice
+    requires { ⌜ 64 * n ≤ length (now proof) ⌝ }
+    requires { ⌜ ReadyLines (now proof) n ⌝ }
+    requires { ⌜ f < 8 ⌝ }
+    requires { ⌜ InRange model ⌝ }
+    ensures { λ r. ⌜ Chosen (r .beyond) (assignment model) f (linesIn (now (proof .entry)) n) (meaning (r .value)) ⌝ }
+{
+    let b = gathered(proof, n, f, model);
+    if b.beyond {
+        return Choice {
+            beyond: true,
+            value: Fraction {
+                numerator: 0,
+                denominator: 1,
+            },
+        };
+    }
+    let lower = b.lower;
+    let upper = b.upper;
+    let x = value(lower, upper);
+    Choice {
+        beyond: x.beyond(),
+        value: x,
+    }
+}

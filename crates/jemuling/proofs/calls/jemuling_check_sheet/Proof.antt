@@ -1,0 +1,18 @@
+-- `calls::jemuling_check_sheet` meets its contract. Assumes nothing.
+use mathlib.Core.Path.{ap, _∙_}
+use Rattle.jemuling.specs.Told.{checkedTold}
+use borrow.Author.Needs.{needs}
+use Rattle.jemuling.proofs.calls.jemuling_check_sheet.Statement.{statement}
+use Rattle.jemuling.proofs.calls.jemuling_check_sheet.Tie as tie
+
+check-model-requires : tie.Need-check-model-requires
+check-model-requires c κs = search needs
+
+checked-told-requires : tie.Need-checked-told-requires
+checked-told-requires c κs = search needs
+
+returns : tie.Need-returns
+returns c = c .checked-told .ensures ∙ ap checkedTold (c .before .check-model .ensures)
+
+pub jemuling-check-sheet-spec : {M : Type 1} → statement M
+jemuling-check-sheet-spec = tie.close (tie.spec check-model-requires checked-told-requires returns)

@@ -1,0 +1,33 @@
+// "accepted, or the first clause that fails".
+use clauses::walk::next;
+use evaluation::clause::clause_holds;
+use evaluation::model::Model;
+use types::answers::Checked;
+ghost use mathlib.Core.Path.{_≡_};
+ghost use Prim.Native.Nat.{_≤_};
+ghost use Rattle.rules.specs.Checker.{checkClauses};
+ghost use Rattle.rows.specs.Amount.{Amounts};
+ghost use Rattle.evaluation.specs.Model.{assignment};
+ghost use Rattle.reading.specs.Clauses.{clausesAt};
+ghost use Rattle.model_check.specs.Failing.{SoundFrom};
+
+// Of so many clauses, numbered from 0.
+pub fn check_clauses(q: &[u8], from: usize, r: u8, count: u64, model: Model) -> Checked
+    requires { ⌜ r ≤ 8 ⌝ }
+    requires { ⌜ SoundFrom (now q) r count from ⌝ }
+    requires { ⌜ Amounts (model .numerators) ⌝ }
+    ensures { λ c. ⌜ c ≡ checkClauses (assignment model) 0 (clausesAt (now (q .entry)) r count from) ⌝ }
+{
+    let mut at = from;
+    let mut left = count;
+    let mut k: usize = 0;
+    while 0 < left {
+        if !clause_holds(q, at, r, model) {
+            return Checked::Fails(k);
+        }
+        at = next(q, at, r);
+        left -= 1;
+        k += 1;
+    }
+    Checked::Accepted
+}

@@ -1,0 +1,104 @@
+-- The Boolean variables' bytes: refused at the first that is neither 0 nor 1, or a set.
+use mathlib.Core.Path.{_≡_, refl, sym, ap, _∙_}
+use mathlib.Core.Bool.{Bool, true, false, cond}
+use mathlib.Core.List.{List}
+use Prim.Native.Nat.{ℕ, zero, suc, _+_, _*_, _≤_, _<_}
+use native.Mathlib.Omega.{arith}
+use borrow.Author.Tests.{le-leb, lt-leb}
+use lib.Dec.{eqb, leb}
+use lib.ListN.{length, drop, getD, set}
+use lib.Seq.{getD-set-same, getD-set-other}
+use Rattle.types.specs.declared.answers.Refusal.the-variants as refusal
+use Rattle.rules.specs.Problem.{Reader, repeat, field}
+use Rattle.rules.specs.Lines.{Booleans, including}
+use Rattle.lists.specs.Tests.{clash, of-false}
+use Rattle.masks.specs.Mask.{bits, length-bits}
+use Rattle.reader.specs.Fields.{field-good, field-bad, fieldAt-1}
+use Rattle.reader.specs.Values.{valuesAt}
+use Rattle.models.specs.declared.booleans.Flags.{Flags}
+use Rattle.models.specs.Fields.{reading, Tested, repeat-good, repeat-bad, Filled, filled-none, filled-more, filled-values}
+
+-- "mark not 0 or 1"
+unfoldable pub flag : Reader ℕ
+flag = field 1 (λ n. leb n 1) refusal.BadModel
+
+unfoldable pub joined : ℕ → ℕ → Booleans → Booleans
+joined i byte s = cond (eqb byte 1) (including i s) s
+
+-- the bytes from a place on
+abbrev pub bytesAt : List ℕ → ℕ → ℕ → List ℕ
+bytesAt s count from = valuesAt (λ at. getD s at 0) 1 count from
+
+pub record ReadBooleans (s : List ℕ) (from count : ℕ) (f : Flags) : Type 0 where
+  pub same : repeat count flag (drop from s) from ≡ reading s (f .sound) (f .place) (bytesAt s count from)
+  pub end : f .sound ≡ true → f .place ≡ from + count
+  pub members : f .sound ≡ true → (j : ℕ) → getD (bits 32 (f .mask)) j false ≡ eqb (getD (bytesAt s count from) j 0) 1
+
+flag-tested : (s : List ℕ) → Tested s flag 1 (λ at. leb (getD s at 0) 1) (λ at. getD s at 0)
+unfolding flag
+flag-tested s =
+    record {
+      good = λ at h t. let e = fieldAt-1 s at (omega arith) in field-good s 1 (λ n. leb n 1) refusal.BadModel at h (rw e t) ∙ rw e;
+      bad = λ at h t. let e = fieldAt-1 s at (omega arith) in field-bad s 1 (λ n. leb n 1) refusal.BadModel at h (rw e t);
+    }
+
+module _ (i byte : ℕ) (s : Booleans) where
+  pub joined-here : i < length s → getD s i false ≡ false → getD (joined i byte s) i false ≡ eqb byte 1
+  unfolding joined including
+  joined-here h e = by (eqb byte 1)
+    where
+      by : (b : Bool) → getD (cond b (set s i true) s) i false ≡ b
+      by true = getD-set-same s i true false h
+      by false = e
+
+  pub joined-other : (j : ℕ) → (j ≡ i → ⊥) → getD (joined i byte s) j false ≡ getD s j false
+  unfolding joined including
+  joined-other j o = by (eqb byte 1)
+    where
+      by : (b : Bool) → getD (cond b (set s i true) s) j false ≡ getD s j false
+      by true = getD-set-other s i j true false o
+      by false = refl
+
+-- ---- the loop: the first i bytes are 0 or 1, and those that are 1 are members
+pub record FlagsTo (s : List ℕ) (from i mask : ℕ) : Type 0 where
+  pub filled : Filled (λ j. leb (getD s (from + j * 1) 0) 1) (λ j. eqb (getD s (from + j * 1) 0) 1) false i (λ j. getD (bits 32 mask) j false)
+
+module _ {s : List ℕ} {from : ℕ} where
+  pub flags-none : FlagsTo s from 0 0
+  unfolding bits
+  flags-none = record { filled = filled-none (zeros 32) }
+    where
+      zeros : (k j : ℕ) → getD (bits k 0) j false ≡ false
+      zeros zero j = refl
+      zeros (suc k) zero = refl
+      zeros (suc k) (suc j) = zeros k j
+
+  pub flags-more : {i mask : ℕ} (m : ℕ) → FlagsTo s from i mask → i < 32 → getD s (from + i) 0 ≤ 1 → bits 32 m ≡ joined i (getD s (from + i) 0) (bits 32 mask) → FlagsTo s from (i + 1) m
+  flags-more {i} {mask} m f l t e =
+      let p : from + i ≡ from + i * 1 = omega arith in
+      let k : i < length (bits 32 mask) = omega (arith, length-bits 32 mask) in
+      record {
+        filled = filled-more (f .filled) (rw (sym p) (le-leb (getD s (from + i) 0) 1 t))
+            (rw e (joined-here i (getD s (from + i) 0) (bits 32 mask) k (f .filled .beyond i (omega arith))) ∙ ap (λ (at : ℕ). eqb (getD s at 0) 1) p)
+            (λ j o. rw e (joined-other i (getD s (from + i) 0) (bits 32 mask) j o));
+      }
+
+  pub flags-bad : {i mask count : ℕ} → FlagsTo s from i mask → i < count → from + count ≤ length s → 1 < getD s (from + i) 0
+      → ReadBooleans s from count (record { sound = false; place = from + i; mask = mask })
+  flags-bad {i} {mask} {count} f l h t =
+      let p : from + i ≡ from + i * 1 = omega arith in
+      record {
+        same = repeat-bad (flag-tested s) i count from l (omega arith) (f .filled .passed) (rw (sym p) (lt-leb (getD s (from + i) 0) 1 t)) ∙ rw (sym p);
+        end = λ e. absurd (clash true tt (of-false true (sym e)));
+        members = λ e. absurd (clash true tt (of-false true (sym e)));
+      }
+
+  pub flags-done : {i mask count : ℕ} → FlagsTo s from i mask → i ≡ count → from + count ≤ length s → ReadBooleans s from count (record { sound = true; place = from + count; mask = mask })
+  flags-done {i} {mask} {count} f e h =
+      let p : from + count * 1 ≡ from + count = omega arith in
+      let g : FlagsTo s from count mask = rw e at f in
+      record {
+        same = repeat-good (flag-tested s) count from (omega arith) (g .filled .passed) ∙ rw p;
+        end = λ t. refl;
+        members = λ t. filled-values (λ at. getD s at 0) 1 0 (λ n. eqb n 1) count from (g .filled);
+      }

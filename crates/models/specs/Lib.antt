@@ -1,0 +1,4 @@
+pub mod Fields
+pub mod Booleans
+pub mod Numerators
+pub mod Sheet

@@ -1,0 +1,53 @@
+// "b bytes of 0 or 1" as a set.
+use masks::with;
+ghost use mathlib.Core.Path.{_≡_};
+ghost use Prim.Native.Nat.{_+_, _≤_};
+ghost use lib.ListN.{length};
+ghost use Rattle.masks.specs.Mask.{bits};
+ghost use Rattle.models.specs.Booleans.{joined, ReadBooleans};
+
+// Bit i of the mask: byte i is 1. Where one is refused, its place.
+pub struct Flags {
+    pub sound: bool,
+    pub place: usize,
+    pub mask: u32,
+}
+
+// With variable i, where its byte is 1.
+fn joined(mask: u32, i: usize, byte: u8) -> u32
+    ensures { λ m. ⌜ bits 32 m ≡ joined i byte (bits 32 mask) ⌝ }
+{
+    if byte == 1 {
+        return with(mask, i);
+    }
+    mask
+}
+
+// So many bytes.
+pub fn booleans(s: &[u8], from: usize, count: u8) -> Flags
+    requires { ⌜ from + count ≤ length (now s) ⌝ }
+    requires { ⌜ count ≤ 16 ⌝ }
+    ensures { λ f. ⌜ ReadBooleans (now (s .entry)) from count f ⌝ }
+{
+    let end = from + count as usize;
+    let mut mask: u32 = 0;
+    let mut i: u8 = 0;
+    while i < count {
+        let at = from + i as usize;
+        let byte = s[at];
+        if 1 < byte {
+            return Flags {
+                sound: false,
+                place: at,
+                mask: mask,
+            };
+        }
+        mask = joined(mask, i as usize, byte);
+        i += 1;
+    }
+    Flags {
+        sound: true,
+        place: end,
+        mask: mask,
+    }
+}

@@ -1,0 +1,128 @@
+-- Clauses by their numbers: the place of each, and its first split variable.
+use mathlib.Core.Path.{_≡_, ap, _∙_}
+use mathlib.Core.Logic.{⊎-elim}
+use mathlib.Core.List.{List}
+use Prim.Native.Nat.{ℕ, suc, _+_, _-_, _≤_, _<_}
+use native.Mathlib.Nat.{eq-zero-or-pos}
+use native.Mathlib.Omega.{arith}
+use borrow.Author.Tests.{lt-ltb}
+use lib.ListN.{length, getD, getElem?, set}
+use lib.Seq.{getD-set-same, getD-set-other}
+use Rattle.types.specs.Limits as limit
+use Rattle.rules.specs.Problem.{Problem}
+use Rattle.rules.specs.Split.{partsOf, splitsOf}
+use Rattle.rules.specs.Calls.{read}
+use Rattle.reader.specs.Values.{clauseAt, clauseEnd}
+use Rattle.reader.specs.Sound.{SoundClause, sound-clause}
+use Rattle.clauses.specs.Walk.{clause-≤}
+use Rattle.reading.specs.Clauses.{clausesAt, clauses-next}
+use Rattle.reading.specs.Readable.{Readable, Ahead, ahead-start, ahead-within, ahead-gives, ahead-few, ahead-next}
+use Rattle.reading.specs.Parsed.{problemAt}
+use Rattle.checking.specs.Named.{partNamed}
+use Rattle.proof_check.specs.declared.index.Sizes.{Sizes}
+
+-- clause c stands there, and that is its first split variable
+pub record Entry (q : List ℕ) (b r n place variable c : ℕ) : Type 0 where
+  pub sound : SoundClause q r place
+  pub small : variable ≤ 32
+  pub named : (k : ℕ) → partNamed b (clausesAt q r n 4) c k ≡ getElem? (partsOf variable (clauseAt q r place)) k
+
+-- the first m clauses
+abbrev pub Indexed : List ℕ → ℕ → ℕ → ℕ → List ℕ → List ℕ → ℕ → Type 0
+Indexed q b r n places variables m = (c : ℕ) → c < m → Entry q b r n (getD places c 0) (getD variables c 0) c
+
+-- a question that is read without fault, of these sizes, with its clauses indexed
+pub record Known (q : List ℕ) (s : Sizes) (places variables : List ℕ) : Type 0 where
+  pub readable : Readable q (s .booleans) (s .rationals) (s .clauses)
+  pub places-length : length places ≡ 256
+  pub variables-length : length variables ≡ 256
+  pub entries : Indexed q (s .booleans) (s .rationals) (s .clauses) places variables (s .clauses)
+
+abbrev pub problemOf : List ℕ → Sizes → Problem
+problemOf q s = problemAt q (s .booleans) (s .rationals) (s .clauses)
+
+-- m clauses are done; the next stands at `at`, and `variable` is its first split variable
+pub record Indexing (q : List ℕ) (b r n : ℕ) (places variables : List ℕ) (at variable m : ℕ) : Type 0 where
+  pub few : m ≤ n
+  pub used : ℕ
+  pub variable-is : variable ≡ b + used
+  pub ahead : Ahead q b r (n - m) at used
+  pub done : Indexed q b r n places variables m
+  pub rest : (d k : ℕ) → partNamed b (clausesAt q r n 4) (m + d) k ≡ partNamed variable (clausesAt q r (n - m) at) d k
+
+-- a question that is read without fault has at most 32,768 bytes
+pub readable-short : {q : List ℕ} {b r n : ℕ} → Readable q b r n → length q ≤ limit.problemBytes
+unfolding read
+readable-short {q} h = ⊎-elim (λ z. omega arith) (λ z. absurd (long (omega arith))) (eq-zero-or-pos (length q - limit.problemBytes))
+  where
+    long : limit.problemBytes < length q → ⊥
+    long l =
+        let i = rw (lt-ltb limit.problemBytes (length q) l, read) at (h .is-read) in
+        let z : _≡_ {A = ℕ} 0 1 = cc in
+        omega arith
+
+pub indexing-start : {q : List ℕ} {b r n : ℕ} (places variables : List ℕ) → Readable q b r n → Indexing q b r n places variables 4 b 0
+indexing-start {q} {b} {r} {n} places variables h =
+    let e : n - 0 ≡ n = omega arith in
+    record {
+      few = omega arith;
+      used = 0;
+      variable-is = omega arith;
+      ahead = rw e (ahead-start h);
+      done = λ c l. absurd (omega arith);
+      rest = λ d k. let z : 0 + d ≡ d = omega arith in rw (e, z);
+    }
+
+-- one more in both lists
+stored : (P : ℕ → ℕ → ℕ → Type 0) (xs ys : List ℕ) (x y m : ℕ) → m < length xs → m < length ys → ((c : ℕ) → c < m → P (getD xs c 0) (getD ys c 0) c) → P x y m
+    → (c : ℕ) → c < m + 1 → P (getD (set xs m x) c 0) (getD (set ys m y) c 0) c
+stored P xs ys x y m h i old new c l = ⊎-elim
+    (λ z. let e : c ≡ m = omega arith in rw (e, getD-set-same xs m x 0 h, getD-set-same ys m y 0 i) new)
+    (λ z. rw (getD-set-other xs m c x 0 (λ e. omega arith), getD-set-other ys m c y 0 (λ e. omega arith)) (old c (omega arith)))
+    (eq-zero-or-pos (m - c))
+
+module _ (q : List ℕ) (r variable m at : ℕ) (more : 0 < m) where
+  named-first : (k : ℕ) → partNamed variable (clausesAt q r m at) 0 k ≡ getElem? (partsOf variable (clauseAt q r at)) k
+  unfolding partNamed
+  named-first k = rw (clauses-next q r m at more)
+
+  named-later : (d k : ℕ) → partNamed variable (clausesAt q r m at) (suc d) k ≡ partNamed (variable + splitsOf (clauseAt q r at)) (clausesAt q r (m - 1) (clauseEnd q r at)) d k
+  unfolding partNamed
+  named-later d k = rw (clauses-next q r m at more)
+
+module _ {q : List ℕ} {b r n : ℕ} {places variables : List ℕ} {at variable m : ℕ} (run : Indexing q b r n places variables at variable m) (more : m < n) where
+  left : 0 < n - m
+  left = omega arith
+
+  -- what the loop needs of the clause at hand
+  pub indexing-within : clauseEnd q r at ≤ length q
+  indexing-within = ahead-within (run .ahead) left
+
+  pub indexing-place : at ≤ length q
+  indexing-place = omega (arith, clause-≤ q r at, indexing-within)
+
+  pub indexing-small : b ≤ limit.booleans → variable + splitsOf (clauseAt q r at) ≤ 32
+  indexing-small h = omega (arith, run .variable-is, ahead-few (run .ahead) left)
+
+  entry : b ≤ limit.booleans → Entry q b r n at variable m
+  entry h =
+      record {
+        sound = sound-clause q b r at _ _ _ indexing-place (ahead-gives (run .ahead) left) .clause;
+        small = omega (arith, indexing-small h);
+        named = λ k. let z : m ≡ m + 0 = omega arith in ap (λ (c : ℕ). partNamed b (clausesAt q r n 4) c k) z ∙ run .rest 0 k ∙ named-first q r variable (n - m) at left k;
+      }
+
+  pub indexing-next : b ≤ limit.booleans → m < length places → m < length variables
+      → Indexing q b r n (set places m at) (set variables m variable) (clauseEnd q r at) (variable + splitsOf (clauseAt q r at)) (m + 1)
+  indexing-next h i j =
+      let e : n - (m + 1) ≡ n - m - 1 = omega arith in
+      record {
+        few = omega arith;
+        used = run .used + splitsOf (clauseAt q r at);
+        variable-is = omega (arith, run .variable-is);
+        ahead = rw e (ahead-next (run .ahead) left);
+        done = stored (Entry q b r n) places variables at variable m i j (run .done) (entry h);
+        rest = λ d k.
+            let z : m + 1 + d ≡ m + suc d = omega arith in
+            ap (λ (c : ℕ). partNamed b (clausesAt q r n 4) c k) z ∙ run .rest (suc d) k ∙ named-later q r variable (n - m) at left d k ∙ rw e;
+      }

@@ -1,0 +1,5 @@
+pub mod Few
+pub mod Index
+pub mod Loaded
+pub mod Checking
+pub mod Called

@@ -1,0 +1,104 @@
+-- The part that a step's bytes name, found by the index of the clauses.
+use mathlib.Core.Path.{_≡_, refl, sym, ap, _∙_}
+use mathlib.Core.Bool.{Bool, true, false}
+use mathlib.Core.List.{List, [], _∷_}
+use mathlib.Core.Option.{Option, none, some}
+use Prim.Native.Nat.{ℕ, zero, suc, _≤_}
+use native.Mathlib.Omega.{arith}
+use lib.Dec.{eqb, eqb→eq}
+use lib.ListN.{length, getElem?}
+use Rattle.rules.specs.Lists.{same}
+use Rattle.rules.specs.Bytes.{fieldAt}
+use Rattle.rules.specs.Problem.{Clause}
+use Rattle.rules.specs.Lines.{Line}
+use Rattle.rules.specs.Split.{partsOf}
+use Rattle.rules.specs.Steps.{Step, loaded, header, encodeStep}
+use Rattle.rules.specs.Elimination.{loadableOf}
+use Rattle.rules.specs.Checker.{lineAmong, variableNamed, resultNamed, statedLine}
+use Rattle.lists.specs.Tests.{of-true}
+use Rattle.lists.specs.Equal.{same-yes}
+use Rattle.layout.specs.Headers.{how-back}
+use Rattle.reader.specs.Values.{clauseAt}
+use Rattle.line_bytes.specs.Encoding.{headerOf}
+use Rattle.reading.specs.Clauses.{clausesAt, length-clausesAt}
+use Rattle.reading.specs.Parsed.{problemAt}
+use Rattle.reading.specs.Readable.{Readable, ahead-start}
+use Rattle.pieces.specs.declared.part.Found.{Found}
+use Rattle.pieces.specs.Part.{partOf}
+use Rattle.checking.specs.Stated.{lineFound, matched, among-one}
+use Rattle.checking.specs.Derived.{resultStated}
+use Rattle.checking.specs.Named.{partNamed, ownStep, among-named}
+use Rattle.proof_check.specs.Few.{few-parts}
+use Rattle.proof_check.specs.Index.{Entry}
+
+-- ---- a part and its step
+pub found-part : (f : Found) → lineFound (record { found = f .found; line = f .line }) ≡ partOf f
+unfolding lineFound partOf
+found-part f = by (f .found)
+  where
+    by : (b : Bool) → lineFound (record { found = b; line = f .line }) ≡ partOf (record { found = b; line = f .line })
+    by true = refl
+    by false = refl
+
+named-beyond : (link : ℕ) (xs : List Clause) (c k : ℕ) → length xs ≤ c → partNamed link xs c k ≡ none
+unfolding partNamed
+named-beyond link [] c k h = refl
+named-beyond link (x ∷ xs) zero k h = absurd (omega arith)
+named-beyond link (x ∷ xs) (suc c) k h = named-beyond _ xs c k (omega arith)
+
+module _ (bytes : List ℕ) (c k : ℕ) where
+  own-matched : (o : Option Line) → ownStep bytes c k o ≡ matched (headerOf 0 0 c k) bytes o
+  unfolding ownStep matched header
+  own-matched none = refl
+  own-matched (some l) = among-one (record { origin = loaded c k; line = l }) bytes
+
+  -- bytes whose first is not 0 are no part's
+  own-other : (fieldAt 0 1 bytes ≡ 0 → ⊥) → (o : Option Line) → ownStep bytes c k o ≡ none
+  unfolding ownStep lineAmong header
+  own-other h none = refl
+  own-other h (some l) = by (same eqb (encodeStep s) bytes) refl
+    where
+      s : Step
+      s = record { origin = loaded c k; line = l }
+
+      by : (t : Bool) → same eqb (encodeStep s) bytes ≡ t → lineAmong (s ∷ []) bytes ≡ none
+      by true e = absurd (h (ap (fieldAt 0 1) (sym (same-yes eqb eqb→eq (encodeStep s) bytes (of-true (same eqb (encodeStep s) bytes) e))) ∙ how-back s))
+      by false e = rw (e, lineAmong)
+
+-- ---- among the parts of all clauses
+module _ {q : List ℕ} {b r n : ℕ} (read : Readable q b r n) (bytes : List ℕ) where
+  among-clauses : lineAmong (loadableOf (problemAt q b r n)) bytes ≡ ownStep bytes (fieldAt 2 2 bytes) (fieldAt 4 2 bytes) (partNamed b (clausesAt q r n 4) (fieldAt 2 2 bytes) (fieldAt 4 2 bytes))
+  unfolding loadableOf
+  among-clauses =
+      among-named bytes 0 (fieldAt 2 2 bytes) b (clausesAt q r n 4) (omega (arith, length-clausesAt q r n 4, read .parsed .clauses)) (few-parts q b r n 4 0 (ahead-start read)) (omega arith)
+
+  pub loaded-beyond : n ≤ fieldAt 2 2 bytes → lineAmong (loadableOf (problemAt q b r n)) bytes ≡ none
+  unfolding ownStep
+  loaded-beyond h =
+      among-clauses ∙ ap (ownStep bytes (fieldAt 2 2 bytes) (fieldAt 4 2 bytes)) (named-beyond b (clausesAt q r n 4) (fieldAt 2 2 bytes) (fieldAt 4 2 bytes) (omega (arith, length-clausesAt q r n 4)))
+
+  pub loaded-other : (fieldAt 0 1 bytes ≡ 0 → ⊥) → lineAmong (loadableOf (problemAt q b r n)) bytes ≡ none
+  loaded-other h = among-clauses ∙ own-other bytes (fieldAt 2 2 bytes) (fieldAt 4 2 bytes) h (partNamed b (clausesAt q r n 4) (fieldAt 2 2 bytes) (fieldAt 4 2 bytes))
+
+  pub loaded-found : {c k place variable : ℕ} (f : Found) → c ≡ fieldAt 2 2 bytes → k ≡ fieldAt 4 2 bytes → Entry q b r n place variable c
+      → partOf f ≡ getElem? (partsOf variable (clauseAt q r place)) k
+      → lineAmong (loadableOf (problemAt q b r n)) bytes ≡ matched (headerOf 0 0 c k) bytes (lineFound (record { found = f .found; line = f .line }))
+  loaded-found {c} {k} f x y entry e =
+      among-clauses
+      ∙ (λ t. ownStep bytes (sym x t) (sym y t) (partNamed b (clausesAt q r n 4) (sym x t) (sym y t)))
+      ∙ own-matched bytes c k (partNamed b (clausesAt q r n 4) c k)
+      ∙ ap (matched (headerOf 0 0 c k) bytes) (entry .named k ∙ sym e ∙ sym (found-part f))
+
+-- ---- a part, or else a result
+module _ (parts : List Step) (earlier : List Line) (bytes : List ℕ) where
+  pub stated-loaded : fieldAt 0 1 bytes ≡ 0 → statedLine parts earlier bytes ≡ lineAmong parts bytes
+  unfolding statedLine resultNamed variableNamed
+  stated-loaded e = by (lineAmong parts bytes)
+    where
+      by : (o : Option Line) → _≡_ {A = Option Line} (elim o [ some l ↦ some l | none ↦ elim (resultNamed earlier bytes) [ none ↦ none | some s ↦ lineAmong (s ∷ []) bytes ] ]) o
+      by none = rw (e, resultNamed)
+      by (some l) = refl
+
+  pub stated-derived : lineAmong parts bytes ≡ none → statedLine parts earlier bytes ≡ resultStated earlier bytes
+  unfolding statedLine resultStated
+  stated-derived e = rw (e, statedLine)

@@ -1,0 +1,66 @@
+// The check of a proof: faults of the question, then 16, then the steps.
+use crate::index::Sizes;
+use crate::index::index;
+use crate::steps::check_steps;
+use reader::cursor::Scan;
+use reading::read::read;
+use types::answers::Checked;
+use types::answers::Refusal;
+use types::limits::Limits;
+ghost use mathlib.Core.Path.{_≡_};
+ghost use Rattle.types.specs.Limits.{standard};
+ghost use Rattle.rules.specs.Checker.{checkProof};
+ghost use Rattle.rules.specs.Calls.{wholeSteps, proofChecked};
+ghost use Rattle.reading.specs.Readable.{Readable};
+ghost use Rattle.proof_check.specs.Index.{problemOf};
+
+// 16: "length not 64 to 65,536 by 64s".
+fn whole_steps(limits: Limits, n: usize) -> bool
+    ensures { λ w. ⌜ w ≡ wholeSteps limits n ⌝ }
+{
+    if n < Limits::STEP_BYTES {
+        return false;
+    }
+    if limits.proof_bytes() < n {
+        return false;
+    }
+    n % Limits::STEP_BYTES == 0
+}
+
+// Of a question that is read without fault.
+fn check_readable(question: &[u8], sizes: Sizes, proof: &[u8]) -> Checked
+    requires { ⌜ Readable (now question) (sizes .booleans) (sizes .rationals) (sizes .clauses) ⌝ }
+    ensures { λ c. ⌜ c ≡ checkProof (problemOf (now (question .entry)) sizes) (now (proof .entry)) ⌝ }
+{
+    let mut places = [0u16; 256];
+    let mut variables = [0u8; 256];
+    index(question, sizes, &mut places, &mut variables);
+    check_steps(question, sizes, &places, &variables, proof)
+}
+
+pub fn check_proof(question: &[u8], proof: &[u8], limits: Limits) -> Checked
+    ensures { λ c. ⌜ c ≡ proofChecked limits (now (question .entry)) (now (proof .entry)) ⌝ }
+{
+    let s = read(question);
+    match s {
+        Scan::Fault(f, place) => Checked::Refused(f, place),
+        Scan::Sound(b, r, n) => {
+            if !whole_steps(limits, proof.len()) {
+                return Checked::Refused(Refusal::ProofLength, proof.len());
+            }
+            let sizes = Sizes {
+                booleans: b,
+                rationals: r,
+                clauses: n,
+            };
+            check_readable(question, sizes, proof)
+        }
+    }
+}
+
+// With the limits of a caller who lends the whole proof.
+pub fn check_standard(question: &[u8], proof: &[u8]) -> Checked
+    ensures { λ c. ⌜ c ≡ proofChecked standard (now (question .entry)) (now (proof .entry)) ⌝ }
+{
+    check_proof(question, proof, Limits::standard())
+}

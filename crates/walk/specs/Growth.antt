@@ -1,0 +1,141 @@
+-- What is too large stays too large: the common denominator becomes a multiple of itself, and the numerators grow with it.
+use mathlib.Core.Path.{_≡_, refl, sym, ap, _∙_}
+use mathlib.Core.Bool.{Bool, true, false, _||_}
+use mathlib.Core.List.{List, [], _∷_}
+use Prim.Native.Nat.{ℕ, zero, suc, _*_, _/_, _≤_, _<_}
+use native.Mathlib.Nat.{mul-div-cancel', le-mul-of-pos-right, le-of-dvd, pos-of-dvd-of-pos, dvd-mul-left}
+use native.Mathlib.Omega.{arith}
+use lib.IntN.{ℤ, pos, natAbs, _*ℤ_}
+use lib.Dec.{eqb, ltb}
+use lib.ListN.{drop}
+use borrow.Author.Tests.{ltb-true, lt-ltb, eqb-true, eqb-false}
+use Rattle.types.specs.Limits.{amount}
+use Rattle.integers.specs.Size.{abs-*}
+use Rattle.integers.specs.Ring.{*-zeroˡ}
+use Rattle.rules.specs.Lists.{any, tabulate, put}
+use Rattle.rules.specs.Arithmetic.{lcm}
+use Rattle.rules.specs.Meaning.{Assignment}
+use Rattle.rules.specs.Lines.{Line, Variable, rational, boolean}
+use Rattle.rules.specs.Elimination.{order}
+use Rattle.rules.specs.Values.{Fraction, rationalValue, withRational, withBoolean, assign, exceeds, Walked, start, walkFrom}
+use Rattle.rules.specs.Model.{tooLarge}
+use Rattle.vectors.specs.Put.{put-same, put-other}
+use Rattle.vectors.specs.Lcm.{lcm-dvdˡ, lcm-positive}
+use Rattle.bounds.specs.Below.{Positive}
+use Rattle.bounds.specs.Meets.{with-denominator}
+use Rattle.saturation.specs.Gathered.{rational-sound}
+use Rattle.gathering.specs.Round.{own}
+use Rattle.walk.specs.Order.{variableAt, order-from, Aligned, order-aligned}
+
+-- of functions, place by place
+any-grows : (p : ℤ → Bool) (n : ℕ) (g h : ℕ → ℤ) → ((i : ℕ) → p (g i) ≡ true → p (h i) ≡ true) → any p (tabulate n g) ≡ true → any p (tabulate n h) ≡ true
+unfolding any tabulate
+any-grows p zero g h k e = e
+any-grows p (suc n) g h k e = by (p (g 0)) refl e (any-grows p n (λ i. g (suc i)) (λ i. h (suc i)) (λ i. k (suc i)))
+  where
+    or-true : (a : Bool) → a || true ≡ true
+    or-true true = refl
+    or-true false = refl
+
+    by : (b : Bool) → p (g 0) ≡ b → b || any p (tabulate n (λ i. g (suc i))) ≡ true → (any p (tabulate n (λ i. g (suc i))) ≡ true → any p (tabulate n (λ i. h (suc i))) ≡ true) → p (h 0) || any p (tabulate n (λ i. h (suc i))) ≡ true
+    by true i w r = rw (k 0 i)
+    by false i w r = rw (r w) (or-true (p (h 0)))
+
+module _ (f : ℕ) (x : Fraction) (χ : Assignment) (z : 0 < χ .denominator) (q : Positive x) (free : χ .numerators f ≡ pos 0) where
+  abbrev d : ℕ
+  d = χ .denominator
+
+  abbrev D : ℕ
+  D = lcm d (x .denominator)
+
+  larger : d ≤ D
+  larger = le-of-dvd (lcm-positive d (x .denominator) z q) (lcm-dvdˡ d (x .denominator) z)
+
+  factor : 0 < D / d
+  factor = pos-of-dvd-of-pos (dvd-mul-left (D / d) d) (rw (mul-div-cancel' d (lcm-dvdˡ d (x .denominator) z)) (lcm-positive d (x .denominator) z q))
+
+  numerator-grows : (j : ℕ) → ltb amount (natAbs (χ .numerators j)) ≡ true → ltb amount (natAbs (put f (x .numerator *ℤ pos (D / x .denominator)) (λ j. χ .numerators j *ℤ pos (D / d)) j)) ≡ true
+  numerator-grows j e = by (eqb j f) refl
+    where
+      by : (t : Bool) → eqb j f ≡ t → ltb amount (natAbs (put f (x .numerator *ℤ pos (D / x .denominator)) (λ j. χ .numerators j *ℤ pos (D / d)) j)) ≡ true
+      by true i =
+          let h : natAbs (χ .numerators j) ≡ 0 = ap (λ (k : ℕ). natAbs (χ .numerators k)) (eqb-true j f i) ∙ ap natAbs free in
+          absurd (omega (arith, ltb-true amount (natAbs (χ .numerators j)) e))
+      by false i =
+          rw (put-other f (x .numerator *ℤ pos (D / x .denominator)) (λ j. χ .numerators j *ℤ pos (D / d)) j (eqb-false j f i), abs-* (χ .numerators j) (pos (D / d)))
+          (lt-ltb amount (natAbs (χ .numerators j) * (D / d)) (omega (arith, le-mul-of-pos-right (natAbs (χ .numerators j)) factor, ltb-true amount (natAbs (χ .numerators j)) e)))
+
+  rational-grows : (r : ℕ) → tooLarge r χ ≡ true → tooLarge r (withRational f x χ) ≡ true
+  unfolding tooLarge withRational
+  rational-grows r e = by (ltb amount d) refl e
+    where
+      or-true : (a b : Bool) → b ≡ true → a || b ≡ true
+      or-true true b e = refl
+      or-true false b e = e
+
+      by : (t : Bool) → ltb amount d ≡ t → t || any (λ z. ltb amount (natAbs z)) (tabulate r (χ .numerators)) ≡ true
+          → ltb amount D || any (λ z. ltb amount (natAbs z)) (tabulate r (put f (x .numerator *ℤ pos (D / x .denominator)) (λ j. χ .numerators j *ℤ pos (D / d)))) ≡ true
+      by true i w = rw (lt-ltb amount D (omega (arith, larger, ltb-true amount d i)))
+      by false i w =
+          or-true (ltb amount D) (any (λ z. ltb amount (natAbs z)) (tabulate r (put f (x .numerator *ℤ pos (D / x .denominator)) (λ j. χ .numerators j *ℤ pos (D / d)))))
+          (any-grows (λ z. ltb amount (natAbs z)) r (χ .numerators) (put f (x .numerator *ℤ pos (D / x .denominator)) (λ j. χ .numerators j *ℤ pos (D / d))) numerator-grows w)
+
+split : (t : ℕ) (v : Variable) (vs : List Variable) → Aligned t (v ∷ vs) → Aligned t (v ∷ []) × Aligned (suc t) vs
+split t (rational f) vs h = ((h .0, tt), h .1)
+split t (boolean i) vs h = (tt, h)
+
+-- ---- what holds at the end of round t: a rational variable of an earlier round is still 0
+pub record Sound (t : ℕ) (χ : Assignment) : Type 0 where
+  pub positive : 0 < χ .denominator
+  pub free : (f : ℕ) → f < t → χ .numerators f ≡ pos 0
+
+module _ (t : ℕ) (ls : List Line) (χ : Assignment) (s : Sound (suc t) χ) where
+  pub assign-sound : (v : Variable) → Aligned t (v ∷ []) → Sound t (assign v ls χ)
+  unfolding assign withBoolean withRational
+  assign-sound (boolean i) h = record { positive = s .positive; free = λ f l. s .free f (omega arith) }
+  assign-sound (rational g) h =
+      let x = rationalValue χ g ls in
+      let D = lcm (χ .denominator) (x .denominator) in
+      record {
+        positive = with-denominator g x χ (s .positive) (rational-sound χ (s .positive) g ls);
+        free = λ f l.
+            put-other g (x .numerator *ℤ pos (D / x .denominator)) (λ j. χ .numerators j *ℤ pos (D / χ .denominator)) f (λ e. omega (arith, h .0))
+            ∙ rw (s .free f (omega arith)) (*-zeroˡ (pos (D / χ .denominator)));
+      }
+
+  pub assign-grows : (v : Variable) (r : ℕ) → Aligned t (v ∷ []) → tooLarge r χ ≡ true → tooLarge r (assign v ls χ) ≡ true
+  unfolding assign withBoolean tooLarge
+  assign-grows (boolean i) r h e = e
+  assign-grows (rational g) r h e = rational-grows g (rationalValue χ g ls) χ (s .positive) (rational-sound χ (s .positive) g ls) (s .free g (omega (arith, h .0))) r e
+
+-- ---- the walk
+module _ (lines : List Line) where
+  pub walk-sound : (t : ℕ) (vs : List Variable) → Aligned t vs → Sound t (walkFrom order lines t vs .assignment)
+  unfolding walkFrom start
+  walk-sound t [] h = record { positive = omega arith; free = λ f l. refl }
+  walk-sound t (v ∷ vs) h = let a = split t v vs h in assign-sound t (own t lines) (walkFrom order lines (suc t) vs .assignment) (walk-sound (suc t) vs (a .1)) v (a .0)
+
+  -- it cannot be written, and so not at the end
+  abbrev pub unwritable : ℕ → Walked → Bool
+  unwritable r w = w .exceeded || tooLarge r (w .assignment)
+
+  unwritable-next : (r t : ℕ) (v : Variable) (vs : List Variable) → Aligned t (v ∷ vs) → unwritable r (walkFrom order lines (suc t) vs) ≡ true → unwritable r (walkFrom order lines t (v ∷ vs)) ≡ true
+  unfolding walkFrom
+  unwritable-next r t v vs h e = by (w .exceeded) (tooLarge r (w .assignment)) refl (exceeds v (own t lines) (w .assignment)) e
+    where
+      w : Walked
+      w = walkFrom order lines (suc t) vs
+
+      or-true : (a : Bool) → a || true ≡ true
+      or-true true = refl
+      or-true false = refl
+
+      by : (x l : Bool) → tooLarge r (w .assignment) ≡ l → (y : Bool) → x || l ≡ true → (x || y) || tooLarge r (assign v (own t lines) (w .assignment)) ≡ true
+      by true l i y k = refl
+      by false l i y k = let a = split t v vs h in rw (assign-grows t (own t lines) (w .assignment) (walk-sound (suc t) vs (a .1)) v r (a .0) (i ∙ k)) (or-true y)
+
+  pub unwritable-end : (r t : ℕ) → t ≤ 40 → unwritable r (walkFrom order lines t (drop t order)) ≡ true → unwritable r (walkFrom order lines 0 order) ≡ true
+  unwritable-end r zero h e = e
+  unwritable-end r (suc t) h e =
+      let o = order-from t (omega arith) in
+      unwritable-end r t (omega arith) (rw o (unwritable-next r t (variableAt t) (drop (suc t) order) (rw o at (order-aligned t)) e))

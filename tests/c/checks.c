@@ -1,0 +1,83 @@
+/* Calls the checks from C on document 01's examples: right books and sheets, and wrong ones. */
+#include <stdio.h>
+#include <string.h>
+
+#include "examples.h"
+#include "jemuling.h"
+
+static int passed, failed;
+
+static void expect(const char *name, jemuling_told told, uint64_t number, size_t value)
+{
+    if (told.number == number && told.value == value) {
+        passed++;
+        return;
+    }
+    failed++;
+    printf("FAILED %s: expected %llu %zu, got %llu %zu\n", name, (unsigned long long)number, value,
+           (unsigned long long)told.number, told.value);
+}
+
+#define BOOK(question, book) jemuling_check_book(question, sizeof question, book, sizeof book)
+#define SHEET(question, sheet) jemuling_check_sheet(question, sizeof question, sheet, sizeof sheet)
+
+static void right_ones(void)
+{
+    expect("sheet of example 1", SHEET(example_1_question, example_1_sheet), JEMULING_ACCEPTED, 0);
+    expect("book of example 2", BOOK(example_2_question, example_2_book), JEMULING_ACCEPTED, 0);
+    expect("sheet of example 3", SHEET(example_3_question, example_3_sheet), JEMULING_ACCEPTED, 0);
+    expect("book of example 4", BOOK(example_4_question, example_4_book), JEMULING_ACCEPTED, 0);
+    expect("sheet of example 5", SHEET(example_5_question, example_5_sheet), JEMULING_ACCEPTED, 0);
+    expect("sheet of example 6", SHEET(example_6_question, example_6_sheet), JEMULING_ACCEPTED, 0);
+    expect("book of example 7", BOOK(example_7_question, example_7_book), JEMULING_ACCEPTED, 0);
+    expect("book of example 8", BOOK(example_8_question, example_8_book), JEMULING_ACCEPTED, 0);
+    expect("sheet of example 9", SHEET(example_9_question, example_9_sheet), JEMULING_ACCEPTED, 0);
+}
+
+static void wrong_ones(void)
+{
+    unsigned char book[sizeof example_7_book];
+    memcpy(book, example_7_book, sizeof book);
+    book[3 * JEMULING_LINE_BYTES + 60] = 1;
+    expect("a byte after line 3's numbers", BOOK(example_7_question, book), JEMULING_FAILS, 3);
+    memcpy(book, example_7_book, sizeof book);
+    book[4 * JEMULING_LINE_BYTES + 2] = 2;
+    book[4 * JEMULING_LINE_BYTES + 4] = 3;
+    expect("line 4's parents exchanged", BOOK(example_7_question, book), JEMULING_FAILS, 4);
+    expect("the empty end missing",
+           jemuling_check_book(example_7_question, sizeof example_7_question, example_7_book, 4 * JEMULING_LINE_BYTES),
+           JEMULING_FAILS, 4);
+    expect("the book of another question", BOOK(example_8_question, example_4_book), JEMULING_FAILS, 0);
+    expect("a book of 63 bytes", jemuling_check_book(example_8_question, sizeof example_8_question, example_8_book, 63),
+           JEMULING_CLAIM, 63);
+    expect("no book", jemuling_check_book(example_8_question, sizeof example_8_question, NULL, 0), JEMULING_CLAIM, 0);
+    expect("no question", jemuling_check_book(NULL, 0, example_8_book, sizeof example_8_book), JEMULING_SHORT, 0);
+    expect("the sheet of another question", SHEET(example_5_question, example_3_sheet), JEMULING_FAILS, 0);
+    expect("a sheet with other counts", SHEET(example_9_question, example_3_sheet), JEMULING_SLIP, 0);
+    expect("a sheet of 63 bytes", jemuling_check_sheet(example_5_question, sizeof example_5_question, example_5_sheet, 63),
+           JEMULING_SHEET, 0);
+}
+
+static void handing_back(void)
+{
+    static unsigned char book[JEMULING_BOOK_BYTES], sheet[JEMULING_SHEET_BYTES];
+    expect("after agrees", jemuling_hand_back(JEMULING_AGREES, 4, book, sizeof book, sheet, sizeof sheet),
+           JEMULING_OF_SHEET, JEMULING_SHEET_BYTES);
+    expect("after cannot", jemuling_hand_back(JEMULING_CANNOT, 5, book, sizeof book, sheet, sizeof sheet),
+           JEMULING_OF_BOOK, 5 * JEMULING_LINE_BYTES);
+    expect("after unwritten", jemuling_hand_back(JEMULING_UNWRITTEN, 2, book, sizeof book, sheet, sizeof sheet),
+           JEMULING_OF_BOOK, 0);
+    expect("too many lines", jemuling_hand_back(JEMULING_CANNOT, 1025, book, sizeof book, sheet, sizeof sheet),
+           JEMULING_OF_BOOK, 0);
+    expect("a short book", jemuling_hand_back(JEMULING_CANNOT, 1, book, sizeof book - 1, sheet, sizeof sheet),
+           JEMULING_OF_BOOK, 0);
+}
+
+int main(void)
+{
+    right_ones();
+    wrong_ones();
+    handing_back();
+    printf("%d passed, %d failed\n", passed, failed);
+    return failed != 0;
+}

@@ -1,0 +1,275 @@
+//! The checks: the proved code and the second solver accept the same books and sheets, and name
+//! the same first line, clause or place where they do not.
+
+use crate::buffers::{solve_filled, BOOK_LENGTH, LINE_LENGTH, SHEET_LENGTH};
+use crate::report::{demand, equal, Group, Outcome, Sums};
+use crate::vectors;
+use questions::random::Random;
+use reference::{Answer, Checked, Verdict};
+
+const SEED: u64 = 6;
+const BOOKS: usize = 100_000;
+const SHEETS: usize = 100_000;
+const FLIPPED: usize = 20;
+const FLIPPED_LINES: usize = 24;
+
+pub fn run(sums: &mut Sums) {
+    let mut random = Random::new(SEED);
+    check_vectors(sums);
+    check_flipped(&mut random, sums);
+    check_books(&mut random, sums);
+    check_sheets(&mut random, sums);
+    check_lengths(sums);
+}
+
+fn compare_book(question: &[u8], book: &[u8]) -> Outcome {
+    let expected = reference::check_book(question, book);
+    equal("check", &expected, &proved::check_book(question, book))
+}
+
+fn compare_sheet(question: &[u8], sheet: &[u8]) -> Outcome {
+    let expected = reference::check_sheet(question, sheet);
+    equal("check", &expected, &proved::check_sheet(question, sheet))
+}
+
+fn check_vectors(sums: &mut Sums) {
+    let mut group = Group::new("checks: the vectors' books and sheets");
+    let compared: [(_, fn(&[u8], &[u8]) -> Outcome); 2] = [
+        ("check_book.txt", compare_book),
+        ("check_sheet.txt", compare_sheet),
+    ];
+    for (file, compare) in compared {
+        let parts = vectors::questions_with(file);
+        for (number, part) in parts.iter().enumerate() {
+            group.case(&format!("{file} {number}"), || {
+                let (question, part) = part.as_ref()?;
+                compare(question, part)
+            });
+        }
+        group.case(file, || demand(!parts.is_empty(), "no case could be read"));
+    }
+    group.finish(sums);
+}
+
+/// A question with what solving it left, and whether there is something to check.
+struct Case {
+    question: Vec<u8>,
+    book: Vec<u8>,
+    sheet: Vec<u8>,
+    verdict: Option<Verdict>,
+}
+
+fn case(random: &mut Random) -> Case {
+    let question = match random.once_in(10) {
+        true => random.dense_problem(6).encode(),
+        false => random.problem().encode(),
+    };
+    let solved = solve_filled(&question);
+    let verdict = match solved.answer {
+        Answer::Verdict { verdict, .. } => Some(verdict),
+        Answer::Refused { .. } => None,
+    };
+    Case {
+        book: solved.used().to_vec(),
+        sheet: solved.sheet().to_vec(),
+        question,
+        verdict,
+    }
+}
+
+/// Every bit of right books turned.
+fn check_flipped(random: &mut Random, sums: &mut Sums) {
+    let mut group = Group::new("checks: every bit of a right book turned");
+    let cases = std::iter::repeat_with(|| case(random));
+    let right = cases.filter(|case| {
+        let lines = case.book.len() / LINE_LENGTH;
+        case.verdict == Some(Verdict::Cannot) && (3..=FLIPPED_LINES).contains(&lines)
+    });
+    for (number, case) in right.take(FLIPPED).enumerate() {
+        group.case(&format!("number {number}"), || {
+            let accepted = proved::check_book(&case.question, &case.book);
+            equal("check", &Checked::Accepted, &accepted)?;
+            let mut book = case.book.clone();
+            for bit in 0..8 * book.len() {
+                book[bit / 8] ^= 1 << (bit % 8);
+                compare_book(&case.question, &book)?;
+                book[bit / 8] ^= 1 << (bit % 8);
+            }
+            Ok(())
+        });
+    }
+    group.finish(sums);
+}
+
+/// Right books, and right ones damaged. Each answer must come.
+fn check_books(random: &mut Random, sums: &mut Sums) {
+    let mut group = Group::new("checks: right and damaged books");
+    let mut other = case(random);
+    let mut tally = Tally::default();
+    for number in 0..BOOKS {
+        let case = case(random);
+        let mut book = case.book.clone();
+        damage_book(random, &mut book, &other.book);
+        let question = match random.once_in(30) {
+            true => &other.question,
+            false => &case.question,
+        };
+        group.case(&format!("number {number}"), || {
+            tally.add(reference::check_book(question, &book));
+            compare_book(question, &book)
+        });
+        other = case;
+    }
+    tally.demand_all(&mut group);
+    group.finish(sums);
+}
+
+/// A byte or more changed, parents swapped, lines moved, repeated or taken from another book, the
+/// end cut; or nothing.
+fn damage_book(random: &mut Random, book: &mut Vec<u8>, other: &[u8]) {
+    let lines = book.len() / LINE_LENGTH;
+    let line = |random: &mut Random, lines: usize| random.between(0, lines as i64 - 1) as usize;
+    if lines == 0 {
+        book.extend(other);
+        return;
+    }
+    match random.between(0, 9) {
+        0 | 1 => (),
+        2 | 3 => {
+            for _ in 0..random.between(1, 3) {
+                let place = random.between(0, book.len() as i64 - 1) as usize;
+                book[place] = match random.once_in(2) {
+                    true => random.word() as u8,
+                    false => random.between(0, 3) as u8,
+                };
+            }
+        }
+        4 => {
+            let at = line(random, lines) * LINE_LENGTH;
+            let (first, second) = ([book[at + 2], book[at + 3]], [book[at + 4], book[at + 5]]);
+            book[at + 2..at + 4].copy_from_slice(&second);
+            book[at + 4..at + 6].copy_from_slice(&first);
+        }
+        5 => {
+            let (i, j) = (line(random, lines), line(random, lines));
+            for k in 0..LINE_LENGTH {
+                book.swap(i * LINE_LENGTH + k, j * LINE_LENGTH + k);
+            }
+        }
+        6 => {
+            let at = line(random, lines) * LINE_LENGTH;
+            let repeated = book[at..at + LINE_LENGTH].to_vec();
+            let place = line(random, lines + 1) * LINE_LENGTH;
+            book.splice(place..place, repeated);
+        }
+        7 if other.len() >= LINE_LENGTH => {
+            let from = line(random, other.len() / LINE_LENGTH) * LINE_LENGTH;
+            let at = line(random, lines) * LINE_LENGTH;
+            book[at..at + LINE_LENGTH].copy_from_slice(&other[from..from + LINE_LENGTH]);
+        }
+        8 => book.truncate(line(random, lines) * LINE_LENGTH),
+        _ => {
+            let at = line(random, lines) * LINE_LENGTH;
+            let named = [random.between(0, 3), random.between(0, 9)];
+            book[at] = named[0] as u8;
+            book[at + 1] = named[1] as u8;
+            book[at + 2] = line(random, lines) as u8;
+            book[at + 4] = line(random, lines) as u8;
+        }
+    }
+    if random.once_in(40) {
+        book.push(0);
+    }
+}
+
+/// Right sheets, right ones damaged, and sheets of another question. Each answer must come.
+fn check_sheets(random: &mut Random, sums: &mut Sums) {
+    let mut group = Group::new("checks: right and damaged sheets");
+    let mut other = case(random);
+    let mut tally = Tally::default();
+    for number in 0..SHEETS {
+        let case = case(random);
+        let mut sheet = case.sheet.clone();
+        damage_sheet(random, &mut sheet, &other.sheet);
+        group.case(&format!("number {number}"), || {
+            tally.add(reference::check_sheet(&case.question, &sheet));
+            compare_sheet(&case.question, &sheet)
+        });
+        other = case;
+    }
+    tally.demand_all(&mut group);
+    group.finish(sums);
+}
+
+fn damage_sheet(random: &mut Random, sheet: &mut Vec<u8>, other: &[u8]) {
+    match random.between(0, 5) {
+        0 | 1 => (),
+        2 => sheet.copy_from_slice(other),
+        3 if random.once_in(4) => sheet.truncate(random.between(0, 63) as usize),
+        3 => sheet.extend((0..random.between(1, 9)).map(|_| 0xab)),
+        _ => {
+            for _ in 0..random.between(1, 3) {
+                let place = random.between(0, 20) as usize;
+                sheet[place] = match random.once_in(3) {
+                    true => random.word() as u8,
+                    false => random.between(0, 2) as u8,
+                };
+            }
+        }
+    }
+}
+
+/// How often each answer came: accepted, fails, refused.
+#[derive(Default)]
+struct Tally([usize; 3]);
+
+impl Tally {
+    fn add(&mut self, checked: Checked) {
+        let answer = match checked {
+            Checked::Accepted => 0,
+            Checked::Fails(_) => 1,
+            Checked::Refused { .. } => 2,
+        };
+        self.0[answer] += 1;
+    }
+
+    fn demand_all(&self, group: &mut Group) {
+        group.case("each answer comes often", || {
+            let often = self.0.iter().all(|&count| count >= 500);
+            demand(often, &format!("answers came {:?} times", self.0))
+        });
+    }
+}
+
+/// Zeros of every length about those that a book and a sheet may have.
+fn check_lengths(sums: &mut Sums) {
+    let mut group = Group::new("checks: lengths");
+    let question = questions::problem::Problem::new(0, 0).clause([]).encode();
+    for length in [
+        0,
+        1,
+        63,
+        64,
+        65,
+        128,
+        BOOK_LENGTH - 64,
+        BOOK_LENGTH - 1,
+        BOOK_LENGTH,
+    ] {
+        for length in [length, length + 1, length + LINE_LENGTH] {
+            group.case(&format!("book of {length} bytes"), || {
+                compare_book(&question, &vec![0; length])
+            });
+        }
+    }
+    for length in [0, 1, 63, SHEET_LENGTH, SHEET_LENGTH + 1, 1_000] {
+        group.case(&format!("sheet of {length} bytes"), || {
+            let mut sheet = vec![0; length];
+            if let Some(denominator) = sheet.get_mut(2) {
+                *denominator = 1;
+            }
+            compare_sheet(&question, &sheet)
+        });
+    }
+    group.finish(sums);
+}
