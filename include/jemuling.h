@@ -1,6 +1,13 @@
 /*
  * Jemuling: whether a batch of open bank entries can agree.
  *
+ * A question, little-endian: a byte b, its marks (0 to 16); a byte r, its
+ * figures (0 to 8); two bytes n, its clauses (0 to 256). Each clause: a byte m
+ * (0 to 32) and m literals of one byte, a mark's number, plus 128 if negated; a
+ * byte t (0 to 8) and t conditions: a byte 1 (at most) or 2 (below), r
+ * coefficients and a bound, each four bytes and signed, at most 1,000,000,000
+ * in size. A clause holds if one of its literals or conditions does.
+ *
  * A question, a book and a sheet are bytes that the caller owns and lends for
  * the time of one call. No call keeps a pointer or any state, allocates,
  * prints or stops the process; every call ends, for bytes of every kind and
@@ -43,15 +50,18 @@ enum {
     JEMULING_AMOUNT = 11,     /* beyond 1,000,000,000 in size; its first byte */
     JEMULING_TAIL = 12,       /* bytes follow the last clause; the first of them */
     JEMULING_LINKS = 13,      /* the tidied clauses take more than 16 links; first byte of the clause passing it */
+    /* Solving: the course met a limit. The book's 65,536 bytes are 0, the sheet is as it was. */
+    JEMULING_WIDE = 14,       /* an amount beyond 1,000,000,000 in size arose; lines held */
+    JEMULING_FULL = 15,       /* a line too many for the book; lines held */
     /* A buffer is refused. */
     JEMULING_BOOK = 1,        /* a book to write has under 65,536 bytes; 0 */
     JEMULING_SHEET = 2,       /* a sheet has under 64 bytes; 0 */
     JEMULING_CLAIM = 16,      /* a book to check has not 64 to 65,536 bytes by 64s; its length */
     JEMULING_SLIP = 17,       /* a sheet to check has a field out of its range; first byte of the first such field */
-    /* A verdict, for jemuling_hand_back; `value` is the count of lines. */
-    JEMULING_AGREES = 64,
-    JEMULING_CANNOT = 65,
-    JEMULING_UNWRITTEN = 66,
+    /* A verdict; `value` is the count of the book's lines. */
+    JEMULING_AGREES = 64,     /* the marks and figures on the sheet satisfy the question */
+    JEMULING_CANNOT = 65,     /* no marks and figures do; the book's lines show it */
+    JEMULING_UNWRITTEN = 66,  /* some do, but a number of those that the value rule gives is too large for the sheet */
     /* What a check found. */
     JEMULING_ACCEPTED = 67,   /* the book is a refutation, or the sheet satisfies every clause; 0 */
     JEMULING_FAILS = 68,      /* the first line that does not follow (the count of lines if only an empty last line
@@ -66,6 +76,30 @@ typedef struct {
     uint64_t number;
     size_t value;
 } jemuling_told;
+
+/* The same for solving, with the pairs of lines that it tried; 0 pairs where it refuses a question or a buffer. */
+typedef struct {
+    uint64_t number;
+    size_t value;
+    uint64_t pairs;
+} jemuling_solved;
+
+/*
+ * Solves a question. Says JEMULING_BOOK, JEMULING_SHEET, then 3 to 13, in this
+ * order, and then alters no byte; or a verdict; or 14 or 15.
+ *
+ * After a verdict the book's first `value` lines of 64 bytes are those of the
+ * course and the rest of its 65,536 bytes is 0; the sheet's 64 bytes are the
+ * marks and figures after JEMULING_AGREES and 0 otherwise. Bytes beyond 65,536
+ * and 64 keep their content always.
+ *
+ * The sheet: the count b of marks, b bytes of 0 or 1, the count r of figures,
+ * four bytes denominator, r numerators of four bytes (signed, little-endian),
+ * zeros. Figure i is numerator i by the denominator.
+ */
+jemuling_solved jemuling_solve(const uint8_t *question, size_t question_length,
+                               uint8_t *book, size_t book_length,
+                               uint8_t *sheet, size_t sheet_length);
 
 /*
  * Checks that a book refutes a question: every line is a piece of a clause or

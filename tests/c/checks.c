@@ -1,4 +1,4 @@
-/* Calls the checks from C on document 01's examples: right books and sheets, and wrong ones. */
+/* Calls the library from C on document 01's examples: right books and sheets, wrong ones, and solving. */
 #include <stdio.h>
 #include <string.h>
 
@@ -73,11 +73,49 @@ static void handing_back(void)
            JEMULING_OF_BOOK, 0);
 }
 
+/* Solves, and compares the part that is handed back with the second solver's. */
+static void solves(const char *name, const unsigned char *question, size_t length, uint64_t number, size_t lines,
+                   const unsigned char *part, size_t part_length)
+{
+    static unsigned char book[JEMULING_BOOK_BYTES + 1], sheet[JEMULING_SHEET_BYTES + 1];
+    memset(book, 0xab, sizeof book);
+    memset(sheet, 0xcd, sizeof sheet);
+    jemuling_solved said = jemuling_solve(question, length, book, sizeof book, sheet, sizeof sheet);
+    expect(name, (jemuling_told){ said.number, said.value }, number, lines);
+    jemuling_told told = jemuling_hand_back(said.number, said.value, book, sizeof book, sheet, sizeof sheet);
+    const unsigned char *from = told.number == JEMULING_OF_SHEET ? sheet : book;
+    if (told.value == part_length && memcmp(from, part, part_length) == 0 && book[JEMULING_BOOK_BYTES] == 0xab
+        && sheet[JEMULING_SHEET_BYTES] == 0xcd) {
+        passed++;
+    } else {
+        failed++;
+        printf("FAILED %s: another part, or bytes beyond\n", name);
+    }
+}
+
+#define SOLVES(name, question, number, lines, part) solves(name, question, sizeof question, number, lines, part, sizeof part)
+
+static void solving(void)
+{
+    SOLVES("example 1", example_1_question, JEMULING_AGREES, 0, example_1_sheet);
+    SOLVES("example 2", example_2_question, JEMULING_CANNOT, 1, example_2_book);
+    SOLVES("example 3", example_3_question, JEMULING_AGREES, 2, example_3_sheet);
+    SOLVES("example 4", example_4_question, JEMULING_CANNOT, 3, example_4_book);
+    SOLVES("example 5", example_5_question, JEMULING_AGREES, 2, example_5_sheet);
+    SOLVES("example 6", example_6_question, JEMULING_AGREES, 1, example_6_sheet);
+    SOLVES("example 7", example_7_question, JEMULING_CANNOT, 5, example_7_book);
+    SOLVES("example 8", example_8_question, JEMULING_CANNOT, 3, example_8_book);
+    SOLVES("example 9", example_9_question, JEMULING_AGREES, 3, example_9_sheet);
+    jemuling_solved said = jemuling_solve(example_1_question, sizeof example_1_question, NULL, 0, NULL, 0);
+    expect("no book", (jemuling_told){ said.number, said.value }, JEMULING_BOOK, 0);
+}
+
 int main(void)
 {
     right_ones();
     wrong_ones();
     handing_back();
+    solving();
     printf("%d passed, %d failed\n", passed, failed);
     return failed != 0;
 }

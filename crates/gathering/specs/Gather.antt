@@ -1,7 +1,7 @@
 -- The bounds that lines give a rational variable, gathered from the last line on: the tightest so far on either side, none of them
 -- beyond; or that one of them is beyond.
-use mathlib.Core.Path.{_≡_, refl, sym, ap, _∙_}
-use mathlib.Core.Bool.{Bool, true, false, not, _&&_, _||_}
+use mathlib.Core.Path.{_≡_, refl, ap, _∙_}
+use mathlib.Core.Bool.{Bool, true, false, not, _&&_, _||_, or-true}
 use mathlib.Core.List.{List, [], _∷_}
 use mathlib.Core.Option.{Option, none, some}
 use Prim.Native.Nat.{ℕ, zero, suc}
@@ -14,9 +14,9 @@ use Rattle.rules.specs.Meaning.{Assignment}
 use Rattle.rules.specs.Lines as rules
 use Rattle.rules.specs.Lines.{Variable, rational, aLiteralHolds, positively, negatively}
 use Rattle.rules.specs.Elimination.{order, roundOf}
-use Rattle.rules.specs.Values.{Fraction, beyond, less, Bound, absent, tighter, boundOf, Gathered, boundsOf, gather, tightest, value, rationalValue, exceeds}
+use Rattle.rules.specs.Values.{Fraction, beyond, less, Bound, absent, tighter, boundOf, Gathered, boundsOf, gather, tightest}
 use Rattle.fractions.specs.Range.{Small, Within}
-use Rattle.fractions.specs.Kept.{small-not-beyond, tighter-within, value-small}
+use Rattle.fractions.specs.Kept.{small-not-beyond, tighter-within}
 use Rattle.gathering.specs.Round.{own, filter-other, filter-more}
 
 -- ---- one side
@@ -61,14 +61,10 @@ module _ (side : Variable → rules.Line → Bool) (χ : Assignment) (f : ℕ) (
   unfolding gather filter boundsOf any
   beyond-kept h = by (gives l) (l .constraint) refl
     where
-      or-true : (a b : Bool) → b ≡ true → a || b ≡ true
-      or-true true b e = refl
-      or-true false b e = e
-
       by : (t : Bool) (k : Option Constraint) → l .constraint ≡ k → anyBeyond (boundsOf χ f (elim t [ true ↦ l ∷ filter gives ls | false ↦ filter gives ls ])) ≡ true
       by false k e = h
       by true none e = rw e h
-      by true (some c) e = rw e (or-true (beyond (boundOf χ f c)) (anyBeyond (boundsOf χ f (filter gives ls))) h)
+      by true (some c) e = rw (e, h) (or-true (beyond (boundOf χ f c)))
 
 -- ---- both sides
 pub record Collected (χ : Assignment) (f : ℕ) (ls : List rules.Line) (L U : Bound) : Type 0 where
@@ -158,10 +154,6 @@ module _ (χ : Assignment) (f : ℕ) (l : rules.Line) (ls : List rules.Line) whe
         unfolding exceeding
         exceeding-here v b = rw mine (by (positively (rational f) l) (negatively (rational f) l) refl refl v)
           where
-            or-true : (a : Bool) → a || true ≡ true
-            or-true true = refl
-            or-true false = refl
-
             by : (p n : Bool) → positively (rational f) l ≡ p → negatively (rational f) l ≡ n → p || n ≡ true → anyBeyond (gather negatively χ f (l ∷ own f ls)) || anyBeyond (gather positively χ f (l ∷ own f ls)) ≡ true
             by p true i j w = rw (beyond-here negatively χ f l (own f ls) c (only (negatively (rational f) l) ∙ j) given b)
             by true false i j w = rw (beyond-here positively χ f l (own f ls) c (only (positively (rational f) l) ∙ i) given b) (or-true (anyBeyond (gather negatively χ f (l ∷ own f ls))))
@@ -171,37 +163,3 @@ pub exceeding-front : (χ : Assignment) (f j : ℕ) (ls : List rules.Line) → e
 exceeding-front χ f zero ls h = h
 exceeding-front χ f (suc j) [] h = h
 exceeding-front χ f (suc j) (l ∷ ls) h = exceeding-more χ f l ls (exceeding-front χ f j ls h)
-
--- ---- the value
-pub record Value (χ : Assignment) (f : ℕ) (ls : List rules.Line) (x : Fraction) : Type 0 where
-  pub same : x ≡ rationalValue χ f (own f ls)
-  pub small : Small x
-  pub none : exceeds (rational f) (own f ls) χ ≡ false
-
-abbrev pub Chosen : Bool → Assignment → ℕ → List rules.Line → Fraction → Type 0
-Chosen true χ f ls x = exceeds (rational f) (own f ls) χ ≡ true
-Chosen false χ f ls x = Value χ f ls x
-
-module _ (χ : Assignment) (f : ℕ) (ls : List rules.Line) where
-  pub chosen-beyond : (x : Fraction) → exceeding χ f ls ≡ true → Chosen true χ f ls x
-  unfolding exceeds exceeding
-  chosen-beyond x h = by (anyBeyond (gather negatively χ f (own f ls))) (anyBeyond (gather positively χ f (own f ls))) h
-    where
-      by : (a b : Bool) → a || b ≡ true → a || b || beyond (rationalValue χ f (own f ls)) ≡ true
-      by true b e = refl
-      by false true e = refl
-      by false false e = let z : _≡_ {A = ℕ} 0 1 = cc in absurd (omega arith)
-
-  pub chosen-value : (L U : Bound) (x : Fraction) → Collected χ f ls L U → x ≡ value L U → (t : Bool) → t ≡ beyond x → Chosen t χ f ls x
-  unfolding exceeds rationalValue
-  chosen-value L U x h e t b = by t b
-    where
-      same : x ≡ rationalValue χ f (own f ls)
-      same = e ∙ rw (h .lower .tightest, h .upper .tightest)
-
-      last : exceeds (rational f) (own f ls) χ ≡ beyond x
-      last = rw (h .lower .none, h .upper .none) (ap beyond (sym same))
-
-      by : (t : Bool) → t ≡ beyond x → Chosen t χ f ls x
-      by true b = last ∙ sym b
-      by false b = record { same = same; small = rw e (value-small L U (h .lower .within) (h .upper .within) (rw e at (sym b))); none = last ∙ sym b }

@@ -5,7 +5,7 @@ use mathlib.Core.List.{List, [], _∷_}
 use Prim.Native.Nat.{ℕ, zero, suc, _<_}
 use native.Mathlib.Omega.{arith}
 use lib.IntN.{ℤ, pos, negsuc, natAbs}
-use lib.ListN.{length, getD, replicate}
+use lib.ListN.{length, getD}
 use lib.Count.{trailingZeros}
 use lib.Bits.{bitOr}
 use Rattle.rules.specs.Arithmetic.{isPositive, isNegative, isZero}

@@ -1,13 +1,12 @@
 -- Whether a literal holds, by masks: a positive variable is one of those that are yes, a negative one is one of the others.
 use mathlib.Core.Path.{_≡_, refl, sym, ap, _∙_}
 use mathlib.Core.Bool.{Bool, true, false, not, _&&_, _||_}
-use mathlib.Core.List.{List, [], _∷_, map}
-use Prim.Native.Nat.{ℕ, zero, suc, _*_, _-_, _/_, _%_, _^_, _≤_, _<_}
+use mathlib.Core.List.{[], _∷_, map}
+use Prim.Native.Nat.{ℕ, zero, suc, _*_, _-_, _/_, _%_, _^_, _<_}
 use native.Mathlib.Nat.{mod-lt, pow-succ'}
 use native.Mathlib.Omega.{arith}
 use lib.Dec.{eqb}
 use lib.ListN.{length, getD}
-use Rattle.rules.specs.Lines as rules
 use Rattle.rules.specs.Lines.{Booleans, meet, someYes, aLiteralHolds}
 use Rattle.masks.specs.Mask.{bits, length-bits}
 use Rattle.lines.specs.declared.line.Line.{Line}

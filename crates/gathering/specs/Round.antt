@@ -1,5 +1,5 @@
 -- The lines of one round, and lists of lines by their last elements.
-use mathlib.Core.Path.{_≡_, refl, sym, ap, _∙_}
+use mathlib.Core.Path.{_≡_, refl, ap}
 use mathlib.Core.Bool.{Bool, true, false, _&&_, _||_}
 use mathlib.Core.List.{List, [], _∷_}
 use Prim.Native.Nat.{ℕ, zero, suc, _+_, _<_}
@@ -13,7 +13,7 @@ use Rattle.rules.specs.Elimination.{order, roundOf}
 use Rattle.lines.specs.Line.{meaning}
 use Rattle.proof_lines.specs.Held.{lineAt, linesIn}
 
--- "A line belongs to the earliest turn whose figure or mark it contains": those of turn t
+-- "A line belongs to the earliest turn whose figure or mark it contains": those of round t
 abbrev pub own : ℕ → List rules.Line → List rules.Line
 own t ls = filter (λ l. eqb (roundOf order l) t) ls
 

@@ -3,14 +3,13 @@ use crate::gather::gathered;
 use evaluation::model::Model;
 use fractions::bound::value;
 use fractions::fraction::Fraction;
-ghost use mathlib.Core.Path.{_≡_};
 ghost use Prim.Native.Nat.{_*_, _≤_, _<_};
 ghost use lib.ListN.{length};
 ghost use Rattle.fractions.specs.Meaning.{meaning};
 ghost use Rattle.proof_lines.specs.Held.{linesIn, ReadyLines};
 ghost use Rattle.evaluation.specs.Model.{assignment};
 ghost use Rattle.gathering.specs.Range.{InRange};
-ghost use Rattle.gathering.specs.Gather.{Chosen};
+ghost use Rattle.gathering.specs.Choice.{Chosen};
 
 pub struct Choice {
     pub beyond: bool,

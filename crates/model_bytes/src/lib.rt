@@ -73,13 +73,13 @@ fn encode_model(b: u8, r: u8, model: Model) -> [u8; 64]
     bytes
 }
 
-pub fn write_model(sheet: &mut [u8], b: u8, r: u8, model: Model)
-    requires { ⌜ 64 ≤ length (now sheet) ⌝ }
+pub fn write_model(buffer: &mut [u8], b: u8, r: u8, model: Model)
+    requires { ⌜ 64 ≤ length (now buffer) ⌝ }
     requires { ⌜ b ≤ 16 ⌝ }
     requires { ⌜ r ≤ 8 ⌝ }
     requires { ⌜ Amounts (model .numerators) ⌝ }
-    ensures { λ _. ⌜ now (sheet .exit) ≡ encodeModel b r (assignment model) ++ drop 64 (now (sheet .entry)) ⌝ }
+    ensures { λ _. ⌜ now (buffer .exit) ≡ encodeModel b r (assignment model) ++ drop 64 (now (buffer .entry)) ⌝ }
 {
     let bytes = encode_model(b, r, model);
-    put(sheet, 0, bytes);
+    put(buffer, 0, bytes);
 }

@@ -85,21 +85,21 @@ refusal-below OutOfSteps = omega arith
 refusal-below ProofLength = omega arith
 refusal-below BadModel = omega arith
 
-number-satisfiable : (a : Answer) → answerNumber a ≡ 64 → Comes Satisfiable a
+pub number-satisfiable : (a : Answer) → answerNumber a ≡ 64 → Comes Satisfiable a
 unfolding answerNumber verdictNumber
 number-satisfiable (Decided Satisfiable n) e = refl
 number-satisfiable (Decided Unsatisfiable n) e = absurd (omega arith)
 number-satisfiable (Decided Unwritten n) e = absurd (omega arith)
 number-satisfiable (Refused f n) e = absurd (omega (arith, refusal-below f))
 
-number-unsatisfiable : (a : Answer) → answerNumber a ≡ 65 → Comes Unsatisfiable a
+pub number-unsatisfiable : (a : Answer) → answerNumber a ≡ 65 → Comes Unsatisfiable a
 unfolding answerNumber verdictNumber
 number-unsatisfiable (Decided Satisfiable n) e = absurd (omega arith)
 number-unsatisfiable (Decided Unsatisfiable n) e = refl
 number-unsatisfiable (Decided Unwritten n) e = absurd (omega arith)
 number-unsatisfiable (Refused f n) e = absurd (omega (arith, refusal-below f))
 
-comes-number : (v : Verdict) (a : Answer) → Comes v a → answerNumber a ≡ verdictNumber v
+pub comes-number : (v : Verdict) (a : Answer) → Comes v a → answerNumber a ≡ verdictNumber v
 unfolding answerNumber
 comes-number v (Decided u n) e = ap verdictNumber e
 comes-number v (Refused f n) e = absurd e

@@ -1,11 +1,11 @@
 -- The walk in machine words, from the last round to the first: where it stands before round t, how it goes on, and how it ends.
 use mathlib.Core.Path.{_≡_, refl, sym, ap, subst, _∙_}
-use mathlib.Core.Bool.{Bool, true, false, _||_}
+use mathlib.Core.Bool.{true, false, _||_}
 use mathlib.Core.List.{List}
-use mathlib.Core.Option.{Option, none, some}
+use mathlib.Core.Option.{none, some}
 use Prim.Native.Nat.{ℕ, suc, _≤_, _<_}
 use native.Mathlib.Omega.{arith}
-use lib.IntN.{ℤ, pos}
+use lib.IntN.{pos}
 use lib.ListN.{getD, drop, replicate}
 use Rattle.rules.specs.Lists.{tabulate}
 use Rattle.rules.specs.Lines.{Line, Variable}
@@ -22,7 +22,7 @@ use Rattle.gathering.specs.Round.{own}
 use Rattle.walk.specs.Outcome.{Next, Assigned}
 use Rattle.walk.specs.Order.{variableAt, order-from}
 use Rattle.walk.specs.Words.{range-written}
-use Rattle.walk.specs.Growth.{unwritable, unwritable-end}
+use Rattle.walk.specs.Growth.{unwritable-end}
 use Rattle.walk.specs.Narrow.{Without, walk-zero, large-narrow}
 
 pub record Walking (lines : List Line) (t : ℕ) (m : Model) : Type 0 where

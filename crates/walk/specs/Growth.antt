@@ -1,6 +1,6 @@
 -- What is too large stays too large: the common denominator becomes a multiple of itself, and the numerators grow with it.
-use mathlib.Core.Path.{_≡_, refl, sym, ap, _∙_}
-use mathlib.Core.Bool.{Bool, true, false, _||_}
+use mathlib.Core.Path.{_≡_, refl, ap, _∙_}
+use mathlib.Core.Bool.{Bool, true, false, _||_, or-true}
 use mathlib.Core.List.{List, [], _∷_}
 use Prim.Native.Nat.{ℕ, zero, suc, _*_, _/_, _≤_, _<_}
 use native.Mathlib.Nat.{mul-div-cancel', le-mul-of-pos-right, le-of-dvd, pos-of-dvd-of-pos, dvd-mul-left}
@@ -19,7 +19,7 @@ use Rattle.rules.specs.Lines.{Line, Variable, rational, boolean}
 use Rattle.rules.specs.Elimination.{order}
 use Rattle.rules.specs.Values.{Fraction, rationalValue, withRational, withBoolean, assign, exceeds, Walked, start, walkFrom}
 use Rattle.rules.specs.Model.{tooLarge}
-use Rattle.vectors.specs.Put.{put-same, put-other}
+use Rattle.vectors.specs.Put.{put-other}
 use Rattle.vectors.specs.Lcm.{lcm-dvdˡ, lcm-positive}
 use Rattle.bounds.specs.Below.{Positive}
 use Rattle.bounds.specs.Meets.{with-denominator}
@@ -33,10 +33,6 @@ unfolding any tabulate
 any-grows p zero g h k e = e
 any-grows p (suc n) g h k e = by (p (g 0)) refl e (any-grows p n (λ i. g (suc i)) (λ i. h (suc i)) (λ i. k (suc i)))
   where
-    or-true : (a : Bool) → a || true ≡ true
-    or-true true = refl
-    or-true false = refl
-
     by : (b : Bool) → p (g 0) ≡ b → b || any p (tabulate n (λ i. g (suc i))) ≡ true → (any p (tabulate n (λ i. g (suc i))) ≡ true → any p (tabulate n (λ i. h (suc i))) ≡ true) → p (h 0) || any p (tabulate n (λ i. h (suc i))) ≡ true
     by true i w r = rw (k 0 i)
     by false i w r = rw (r w) (or-true (p (h 0)))
@@ -54,10 +50,13 @@ module _ (f : ℕ) (x : Fraction) (χ : Assignment) (z : 0 < χ .denominator) (q
   factor : 0 < D / d
   factor = pos-of-dvd-of-pos (dvd-mul-left (D / d) d) (rw (mul-div-cancel' d (lcm-dvdˡ d (x .denominator) z)) (lcm-positive d (x .denominator) z q))
 
-  numerator-grows : (j : ℕ) → ltb amount (natAbs (χ .numerators j)) ≡ true → ltb amount (natAbs (put f (x .numerator *ℤ pos (D / x .denominator)) (λ j. χ .numerators j *ℤ pos (D / d)) j)) ≡ true
+  abbrev scaled : ℕ → ℤ
+  scaled = put f (x .numerator *ℤ pos (D / x .denominator)) (λ j. χ .numerators j *ℤ pos (D / d))
+
+  numerator-grows : (j : ℕ) → ltb amount (natAbs (χ .numerators j)) ≡ true → ltb amount (natAbs (scaled j)) ≡ true
   numerator-grows j e = by (eqb j f) refl
     where
-      by : (t : Bool) → eqb j f ≡ t → ltb amount (natAbs (put f (x .numerator *ℤ pos (D / x .denominator)) (λ j. χ .numerators j *ℤ pos (D / d)) j)) ≡ true
+      by : (t : Bool) → eqb j f ≡ t → ltb amount (natAbs (scaled j)) ≡ true
       by true i =
           let h : natAbs (χ .numerators j) ≡ 0 = ap (λ (k : ℕ). natAbs (χ .numerators k)) (eqb-true j f i) ∙ ap natAbs free in
           absurd (omega (arith, ltb-true amount (natAbs (χ .numerators j)) e))
@@ -69,17 +68,14 @@ module _ (f : ℕ) (x : Fraction) (χ : Assignment) (z : 0 < χ .denominator) (q
   unfolding tooLarge withRational
   rational-grows r e = by (ltb amount d) refl e
     where
-      or-true : (a b : Bool) → b ≡ true → a || b ≡ true
-      or-true true b e = refl
-      or-true false b e = e
-
       by : (t : Bool) → ltb amount d ≡ t → t || any (λ z. ltb amount (natAbs z)) (tabulate r (χ .numerators)) ≡ true
-          → ltb amount D || any (λ z. ltb amount (natAbs z)) (tabulate r (put f (x .numerator *ℤ pos (D / x .denominator)) (λ j. χ .numerators j *ℤ pos (D / d)))) ≡ true
+          → ltb amount D || any (λ z. ltb amount (natAbs z)) (tabulate r scaled) ≡ true
       by true i w = rw (lt-ltb amount D (omega (arith, larger, ltb-true amount d i)))
       by false i w =
-          or-true (ltb amount D) (any (λ z. ltb amount (natAbs z)) (tabulate r (put f (x .numerator *ℤ pos (D / x .denominator)) (λ j. χ .numerators j *ℤ pos (D / d)))))
-          (any-grows (λ z. ltb amount (natAbs z)) r (χ .numerators) (put f (x .numerator *ℤ pos (D / x .denominator)) (λ j. χ .numerators j *ℤ pos (D / d))) numerator-grows w)
+          rw (any-grows (λ z. ltb amount (natAbs z)) r (χ .numerators) scaled numerator-grows w)
+          (or-true (ltb amount D))
 
+-- the first variable, and the rest
 split : (t : ℕ) (v : Variable) (vs : List Variable) → Aligned t (v ∷ vs) → Aligned t (v ∷ []) × Aligned (suc t) vs
 split t (rational f) vs h = ((h .0, tt), h .1)
 split t (boolean i) vs h = (tt, h)
@@ -125,10 +121,6 @@ module _ (lines : List Line) where
     where
       w : Walked
       w = walkFrom order lines (suc t) vs
-
-      or-true : (a : Bool) → a || true ≡ true
-      or-true true = refl
-      or-true false = refl
 
       by : (x l : Bool) → tooLarge r (w .assignment) ≡ l → (y : Bool) → x || l ≡ true → (x || y) || tooLarge r (assign v (own t lines) (w .assignment)) ≡ true
       by true l i y k = refl

@@ -30,7 +30,7 @@ use Rattle.gathering.specs.Round.{own}
 use Rattle.walk.specs.Words.{any-none}
 
 pub record Narrow (proof : List ℕ) (n r : ℕ) : Type 0 where
-  pub zero : (i : ℕ) → i < n → (f : ℕ) → r ≤ f → getD (lineAt proof i .coefficients) f (pos 0) ≡ pos 0
+  pub zeros : (i : ℕ) → i < n → (f : ℕ) → r ≤ f → getD (lineAt proof i .coefficients) f (pos 0) ≡ pos 0
 
 -- ---- without a coefficient there is no bound, and the value is 0
 abbrev pub Without : ℕ → List rules.Line → Type 0
@@ -103,4 +103,4 @@ large-narrow r χ l h =
 -- ---- of the lines that a proof holds
 pub narrow-lines : (proof : List ℕ) (n r : ℕ) → ReadyLines proof n → Narrow proof n r → (f : ℕ) → r ≤ f → Without f (linesIn proof n)
 unfolding linesIn
-narrow-lines proof n r k h f l = all-tabulate (λ l. coefficient f (l .constraint) ≡ pos 0) n (λ i. meaning (lineAt proof i)) (λ i b. coefficient-is (lineAt proof i) (k i b .shaped) f ∙ h .zero i b f l)
+narrow-lines proof n r k h f l = all-tabulate (λ l. coefficient f (l .constraint) ≡ pos 0) n (λ i. meaning (lineAt proof i)) (λ i b. coefficient-is (lineAt proof i) (k i b .shaped) f ∙ h .zeros i b f l)

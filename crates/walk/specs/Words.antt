@@ -1,6 +1,6 @@
 -- Assignments in machine words, with one variable more, and which of them are too large.
 use mathlib.Core.Path.{_≡_, refl, sym, ap, _∙_}
-use mathlib.Core.Bool.{Bool, true, false, not, _||_}
+use mathlib.Core.Bool.{Bool, true, false, not, _||_, or-true}
 use mathlib.Core.List.{List, [], _∷_}
 use Prim.Native.Nat.{ℕ, zero, suc, _/_, _≤_, _<_}
 use native.Mathlib.Omega.{arith}
@@ -17,7 +17,7 @@ use Rattle.rules.specs.Meaning.{Assignment}
 use Rattle.rules.specs.Values.{Fraction, withRational, withBoolean}
 use Rattle.rules.specs.Model.{tooLarge}
 use Rattle.lists.specs.Tests.{of-true, of-false, is-false, tests-agree}
-use Rattle.lists.specs.All.{All, every, any-no, all-map, yes-all, any-agree, getD-replicate-same}
+use Rattle.lists.specs.All.{every, any-no, all-map, yes-all, any-agree, getD-replicate-same}
 use Rattle.vectors.specs.Dot.{getD-combine}
 use Rattle.masks.specs.Mask.{bits, length-bits}
 use Rattle.rows.specs.Amount.{Amounts, all-amounts}
@@ -123,10 +123,6 @@ module _ (m : Model) (f : ℕ) (x : Fraction) (D : ℕ) (common : D ≡ lcm (m .
 
     pub numerators-large : any (λ z. not (inRange z)) row ≡ true → tooLarge 8 (withRational f x (assignment m)) ≡ true
     numerators-large h = rw (← grown-is, large-words row grown n refl, h) (or-true (ltb amount D))
-      where
-        or-true : (a : Bool) → a || true ≡ true
-        or-true true = refl
-        or-true false = refl
 
     pub rational-words : any (λ z. not (inRange z)) row ≡ false → 0 < D → D ≤ amount → Same (record { booleans = m .booleans; numerators = row; denominator = D }) (withRational f x (assignment m))
     unfolding assignment

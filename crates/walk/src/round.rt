@@ -5,7 +5,6 @@ use crate::assign::with_rational;
 use evaluation::model::Model;
 use gathering::boolean::boolean_value;
 use gathering::rational::rational_value;
-ghost use mathlib.Core.Path.{_≡_};
 ghost use Prim.Native.Nat.{_+_, _*_, _≤_, _<_};
 ghost use lib.ListN.{length};
 ghost use Rattle.rules.specs.Lines.{rational, boolean};

@@ -1,17 +1,21 @@
 //! Times the proved code beside the second solver, on the same questions and in the same run. It
 //! prints, and judges nothing.
 
+mod solved;
+
 use questions::largest::{self, Kind};
+use reference::{Answer, Search};
 use std::hint::black_box;
 use std::time::{Duration, Instant};
 
-/// The best of so many rounds of so many calls.
-const ROUNDS: usize = 20;
-const CALLS: u32 = 200;
+/// The best of so many rounds of about this time.
+const ROUNDS: usize = 15;
+const ROUND: Duration = Duration::from_millis(20);
 
 fn main() {
     reading();
     checks();
+    solving();
 }
 
 fn reading() {
@@ -41,7 +45,7 @@ fn checks() {
     println!("pieces: solving says {answer:?}");
     repeat_lines(&mut book, 256);
     compare_books("pieces", &question, &book);
-    let question = largest::run(12).encode();
+    let question = largest::run(None).encode();
     let answer = reference::solve(&question, &mut book, &mut sheet);
     println!("results: solving says {answer:?}");
     compare_books("results", &question, &book);
@@ -60,6 +64,45 @@ fn checks() {
             ));
         },
     );
+}
+
+/// Solving: small, medium and large questions, the largest run known, one whose results nearly all
+/// equal a line late in the book, and one with neighbouring Fibonacci coefficients.
+fn solving() {
+    println!("solving, time of a call");
+    for (name, problem) in solved::questions() {
+        let question = problem.encode();
+        let (mut book, mut sheet) = (vec![0; 65_536], [0; 64]);
+        let answer = proved::solve(&question, &mut book, &mut sheet);
+        let pairs = match answer {
+            Answer::Verdict { pairs, .. } | Answer::Refused { pairs, .. } => pairs,
+        };
+        println!("{name}: {answer:?}");
+        let (mut other_book, mut other_sheet) = (book.clone(), sheet);
+        let ours = compare(
+            name,
+            || {
+                black_box(proved::solve(black_box(&question), &mut book, &mut sheet));
+            },
+            || {
+                let (book, sheet) = (&mut other_book, &mut other_sheet);
+                black_box(reference::solve(black_box(&question), book, sheet));
+            },
+        );
+        let by_hash = best(1, &mut || {
+            let (book, sheet) = (&mut other_book, &mut other_sheet);
+            let question = black_box(&question);
+            black_box(reference::solve_by(Search::Hashed, question, book, sheet));
+        });
+        let ratio = ours.as_secs_f64() / by_hash.as_secs_f64();
+        println!("{name}: second solver with a hash {by_hash:?}, ratio {ratio:.2}");
+        if pairs > 0 {
+            println!(
+                "{name}: {:.0} ns for each pair",
+                ours.as_secs_f64() * 1e9 / pairs as f64
+            );
+        }
+    }
 }
 
 /// The first lines of a book, again and again up to its end.
@@ -86,21 +129,35 @@ fn compare_books(name: &str, question: &[u8], book: &[u8]) {
     );
 }
 
-/// Both in turn, so that what slows the machine slows both.
-fn compare(name: &str, mut proved: impl FnMut(), mut reference: impl FnMut()) {
+/// Both in turn, so that what slows the machine slows both. Our best time.
+fn compare(name: &str, mut proved: impl FnMut(), mut reference: impl FnMut()) -> Duration {
+    let calls = calls(&mut proved);
     let (mut ours, mut theirs) = (Duration::MAX, Duration::MAX);
     for _ in 0..ROUNDS {
-        ours = ours.min(timed(&mut proved));
-        theirs = theirs.min(timed(&mut reference));
+        ours = ours.min(timed(calls, &mut proved));
+        theirs = theirs.min(timed(calls, &mut reference));
     }
     let ratio = ours.as_secs_f64() / theirs.as_secs_f64();
     println!("{name}: proved {ours:?}, second solver {theirs:?}, ratio {ratio:.2}");
+    ours
 }
 
-fn timed(call: &mut impl FnMut()) -> Duration {
+/// The best of all rounds, of so many calls each.
+fn best(calls: u32, call: &mut impl FnMut()) -> Duration {
+    let rounds = (0..ROUNDS).map(|_| timed(calls, call));
+    rounds.min().unwrap_or_default()
+}
+
+/// So many calls take about a round's time.
+fn calls(call: &mut impl FnMut()) -> u32 {
+    let one = timed(1, call).max(Duration::from_nanos(100));
+    (ROUND.as_nanos() / one.as_nanos()).clamp(1, 1_000) as u32
+}
+
+fn timed(calls: u32, call: &mut impl FnMut()) -> Duration {
     let start = Instant::now();
-    for _ in 0..CALLS {
+    for _ in 0..calls {
         call();
     }
-    start.elapsed() / CALLS
+    start.elapsed() / calls
 }

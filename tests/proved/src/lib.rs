@@ -1,7 +1,7 @@
 //! The proved code behind safe functions, with the second solver's answers. The declarations below
 //! repeat those of `crates/jemuling` and `crates/test_calls`: nothing but the tests compares them.
 
-use reference::{Answer, Checked, Part};
+use reference::{Answer, Checked, Part, Verdict};
 
 /// An answer's number and value.
 #[repr(C)]
@@ -10,7 +10,23 @@ struct Told {
     value: usize,
 }
 
+/// The same of solving, with the pairs tried.
+#[repr(C)]
+struct SolvedTold {
+    number: u64,
+    value: usize,
+    pairs: u64,
+}
+
 extern "C" {
+    fn jemuling_solve(
+        question: *const u8,
+        question_length: usize,
+        book: *mut u8,
+        book_length: usize,
+        sheet: *mut u8,
+        sheet_length: usize,
+    ) -> SolvedTold;
     fn jemuling_check_book(
         question: *const u8,
         question_length: usize,
@@ -31,6 +47,39 @@ extern "C" {
         sheet: *const u8,
         sheet_length: usize,
     ) -> Told;
+}
+
+/// Solves a question; book and sheet are left as 01 says.
+pub fn solve(question: &[u8], book: &mut [u8], sheet: &mut [u8]) -> Answer {
+    // SAFETY: the call reads the question's bytes, reads and writes the buffers' bytes and nothing
+    // else, and keeps no pointer; a caller of safe Rust lends no bytes twice.
+    let told = unsafe {
+        jemuling_solve(
+            question.as_ptr(),
+            question.len(),
+            book.as_mut_ptr(),
+            book.len(),
+            sheet.as_mut_ptr(),
+            sheet.len(),
+        )
+    };
+    let verdict = match told.number {
+        64 => Verdict::Agrees,
+        65 => Verdict::Cannot,
+        66 => Verdict::Unwritten,
+        number => {
+            return Answer::Refused {
+                number: u8::try_from(number).unwrap_or(0),
+                place: told.value,
+                pairs: told.pairs,
+            }
+        }
+    };
+    Answer::Verdict {
+        verdict,
+        lines: told.value,
+        pairs: told.pairs,
+    }
 }
 
 /// What a check's numbers say; a number that no check has is none of the answers.

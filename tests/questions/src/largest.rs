@@ -28,11 +28,11 @@ pub fn question(length: usize, kind: Kind) -> Vec<u8> {
     problem.encode()
 }
 
-/// The largest run known, with last = 12: x + 100m·y ≤ 1 for m = ±1 .. ±last, -x + j·y ≤ 0 for
-/// j = ±1 .. ±20.
-pub fn run(last: i32) -> Problem {
+/// The largest run known: x + 100m·y ≤ 1 for m = ±1 .. ±12 and for one more where it is given,
+/// -x + j·y ≤ 0 for j = ±1 .. ±20.
+pub fn run(more: Option<i32>) -> Problem {
     let both = |most: i32| (1..=most).flat_map(|i| [i, -i]);
-    let uppers = both(last).map(|m| at_most(&[1, 100 * m], 1));
+    let uppers = both(12).chain(more).map(|m| at_most(&[1, 100 * m], 1));
     let lowers = both(20).map(|j| at_most(&[-1, j], 0));
     uppers
         .chain(lowers)

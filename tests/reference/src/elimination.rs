@@ -4,6 +4,7 @@
 
 use crate::normalize::{normalize, split, Body};
 use crate::problem::{Constraint, Literals, Problem, Relation, MAX_AMOUNT};
+use std::collections::HashSet;
 
 pub const MAX_STEPS: usize = 1_024;
 pub const STEP_LENGTH: usize = 64;
@@ -52,6 +53,8 @@ pub struct Elimination {
     pub steps: Vec<Step>,
     pub pairs: u64,
     pub end: End,
+    /// The lines once more, where a hash is asked for.
+    bodies: Option<HashSet<Body>>,
 }
 
 /// The figure or mark of a turn; none from turn 40 on.
@@ -174,12 +177,24 @@ impl Step {
     }
 }
 
+/// How an equal earlier line is looked for: by a plain search through all lines, or by a hash,
+/// which only the benchmark asks for.
+#[derive(Clone, Copy)]
+pub enum Search {
+    Plain,
+    Hashed,
+}
+
 /// Runs the course of a problem to its end.
-pub fn eliminate(problem: &Problem) -> Elimination {
+pub fn eliminate(problem: &Problem, search: Search) -> Elimination {
     let mut elimination = Elimination {
         steps: Vec::new(),
         pairs: 0,
         end: End::Saturated,
+        bodies: match search {
+            Search::Plain => None,
+            Search::Hashed => Some(HashSet::new()),
+        },
     };
     if let Err(end) = elimination.run(problem) {
         elimination.end = end;
@@ -248,14 +263,19 @@ impl Elimination {
             return Err(End::OutOfSteps);
         }
         self.steps.push(Step { origin, body });
+        if let Some(bodies) = &mut self.bodies {
+            bodies.insert(body);
+        }
         match body.is_empty() {
             true => Err(End::Empty),
             false => Ok(()),
         }
     }
 
-    /// A plain search through all lines.
     fn has_equal(&self, body: &Body) -> bool {
-        self.steps.iter().any(|step| step.body == *body)
+        match &self.bodies {
+            None => self.steps.iter().any(|step| step.body == *body),
+            Some(bodies) => bodies.contains(body),
+        }
     }
 }

@@ -12,6 +12,7 @@ mod print;
 mod problem;
 
 pub use checker::{check_book, check_sheet, Checked};
+pub use elimination::Search;
 pub use evidence::{hand_back, Part};
 pub use print::print;
 pub use problem::{read, Fault, Problem};
@@ -44,6 +45,11 @@ pub enum Answer {
 
 /// Solves a question; book and sheet are left as 01's "What each call says" has them.
 pub fn solve(question: &[u8], book: &mut [u8], sheet: &mut [u8]) -> Answer {
+    solve_by(Search::Plain, question, book, sheet)
+}
+
+/// The same, with a choice how equal lines are looked for.
+pub fn solve_by(search: Search, question: &[u8], book: &mut [u8], sheet: &mut [u8]) -> Answer {
     let refused = |number, place| Answer::Refused {
         number,
         place,
@@ -56,7 +62,7 @@ pub fn solve(question: &[u8], book: &mut [u8], sheet: &mut [u8]) -> Answer {
         return refused(2, 0);
     }
     match read(question) {
-        Ok(problem) => answer(&problem, &eliminate(&problem), book, sheet),
+        Ok(problem) => answer(&problem, &eliminate(&problem, search), book, sheet),
         Err(Fault { number, place }) => refused(number, place),
     }
 }

@@ -147,6 +147,13 @@ fn examples_7_to_12() -> Vec<Example> {
     ]
 }
 
+/// The examples' questions, with their answers.
+pub fn questions() -> Vec<(&'static str, Vec<u8>, Answer)> {
+    let examples = examples_1_to_6().into_iter().chain(examples_7_to_12());
+    let question = |example: Example| (example.name, example.problem.encode(), example.answer);
+    examples.map(question).collect()
+}
+
 /// Runs the examples.
 pub fn run(sums: &mut Sums) {
     let mut group = Group::new("examples 1 to 12");

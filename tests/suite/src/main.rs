@@ -12,6 +12,7 @@ mod integers;
 mod lengths;
 mod reading;
 mod report;
+mod solving;
 mod vectors;
 
 use report::Sums;
@@ -29,6 +30,7 @@ fn main() -> ExitCode {
     lengths::run(&mut sums);
     reading::run(&mut sums);
     checks::run(&mut sums);
+    solving::run(&mut sums);
     println!("{} passed, {} failed", sums.passed, sums.failed);
     match sums.failed {
         0 => ExitCode::SUCCESS,

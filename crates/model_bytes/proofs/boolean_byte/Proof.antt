@@ -1,5 +1,5 @@
 -- `boolean_byte` meets its contract. Assumes nothing.
-use mathlib.Core.Path.{_≡_, sym, _∙_}
+use mathlib.Core.Path.{sym, _∙_}
 use borrow.Author.Needs.{needs}
 use Rattle.rules.specs.Model.{booleanByte}
 use Rattle.model_bytes.proofs.boolean_byte.Statement.{statement}

@@ -25,8 +25,8 @@ returns c =
     let e = p .before .before in
     let s = e .before .before in
     p .put .ensures
-    ∙ ap (λ (k : ℕ). e .encode-model .result ++ drop (0 + k) (s .args .sheet .now)) (sixty-four e)
-    ∙ ap (λ (x : List ℕ). x ++ drop 64 (s .args .sheet .now)) (e .encode-model .ensures)
+    ∙ ap (λ (k : ℕ). e .encode-model .result ++ drop (0 + k) (s .args .buffer .now)) (sixty-four e)
+    ∙ ap (λ (x : List ℕ). x ++ drop 64 (s .args .buffer .now)) (e .encode-model .ensures)
 
 pub write-model-spec : {M : Type 1} → statement M
 write-model-spec = tie.close (tie.spec encode-model-requires put-requires same-length returns)

@@ -2,14 +2,11 @@
 use mathlib.Core.Path.{_≡_, sym, ap, _∙_}
 use mathlib.Core.Bool.{not, true, false}
 use Prim.Native.Nat.{_+_}
-use native.Mathlib.Omega.{arith}
 use borrow.Author.Needs.{needs}
 use borrow.Author.Tests.{eq-eqb, ne-eqb, not-true, not-false}
 use lib.Dec.{eqb}
 use Rattle.rules.specs.Elimination.{order, roundOf}
-use Rattle.rules.specs.Lines.{lineHolds}
 use Rattle.lines.specs.Line.{meaning}
-use Rattle.evaluation.specs.Model.{assignment}
 use Rattle.gathering.specs.Boolean.{forces}
 use Rattle.gathering.proofs.boolean.forces.Statement.{statement}
 use Rattle.gathering.proofs.boolean.forces.Tie as tie

@@ -1,5 +1,4 @@
 -- `boolean::without_boolean` meets its contract. Assumes nothing.
-use mathlib.Core.Path.{_≡_}
 use Rattle.rules.specs.Values.{withoutBoolean}
 use Rattle.lines.specs.Line.{constraintOf, meaning}
 use borrow.Author.Needs.{needs}

@@ -1,15 +1,12 @@
 -- `gather::gathered` meets its contract. Invariant: the bounds are those of the lines from j on. Assumes nothing.
-use mathlib.Core.Path.{_≡_, refl, sym, ap, subst, _∙_}
-use mathlib.Core.Bool.{Bool, true, false}
-use mathlib.Core.List.{List, _∷_}
-use Prim.Native.Nat.{ℕ, _+_, _-_, _≤_, _<_}
+use mathlib.Core.Path.{_≡_, refl}
+use mathlib.Core.Bool.{false}
+use Prim.Native.Nat.{_+_, _-_, _≤_, _<_}
 use native.Mathlib.Omega.{arith}
 use borrow.Author.Needs.{needs}
 use lib.ListN.{drop}
-use Rattle.rules.specs.Lines as rules
 use Rattle.fractions.specs.Meaning.{boundMeaning}
-use Rattle.lines.specs.Line.{meaning}
-use Rattle.proof_lines.specs.Held.{lineAt, linesIn}
+use Rattle.proof_lines.specs.Held.{linesIn}
 use Rattle.evaluation.specs.Model.{assignment}
 use Rattle.gathering.specs.Gather.{Collected, Gathering, collected-none, exceeding-front}
 use Rattle.gathering.specs.Round.{lines-next, lines-end}

@@ -1,5 +1,5 @@
 -- `gather::rest` meets its contract: bound and seven other terms are at most 8 × 10^18. Assumes nothing.
-use mathlib.Core.Path.{_≡_, _∙_}
+use mathlib.Core.Path.{_≡_}
 use native.Mathlib.Omega.{arith}
 use borrow.Author.Needs.{needs, sfits-of}
 use lib.IntN.{pos, _-ℤ_}

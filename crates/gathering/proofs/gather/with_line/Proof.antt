@@ -1,6 +1,6 @@
 -- `gather::with_line` meets its contract: a return for each thing that a line can be to the variable. Assumes nothing.
-use mathlib.Core.Path.{_≡_, refl, sym, ap, _∙_}
-use mathlib.Core.Bool.{Bool, true, false, not, _||_}
+use mathlib.Core.Path.{_≡_, sym, ap, _∙_}
+use mathlib.Core.Bool.{Bool, true, false, not, or-not-self}
 use mathlib.Core.List.{List, _∷_}
 use mathlib.Core.Option.{some}
 use Prim.Native.Nat.{_<_}
@@ -78,12 +78,8 @@ returns-3 c = λ ls h.
     let o = b .before .before .before in
     let s = o .before .before in
     exceeding-here (assignment (s .args .model)) (s .args .f) (meaning (s .args .line)) ls (boundMeaning (s .args .earlier .lower)) (boundMeaning (s .args .earlier .upper)) h (own-round o) (free (b .before)) (constraintIn (s .args .line)) (constrained o)
-    (either (positively (rational (s .args .f)) (meaning (s .args .line))) (negatively (rational (s .args .f)) (meaning (s .args .line))) (one-side o))
+    (rw (one-side o) (or-not-self (positively (rational (s .args .f)) (meaning (s .args .line)))))
     (rw (← b .bound-of .ensures, ← c .before .beyond .ensures) (c .if3 .taken))
-  where
-    either : (p n : Bool) → n ≡ not p → p || n ≡ true
-    either true n e = refl
-    either false n e = e
 
 -- the bound is in range
 small : (c : tie.Else3) → let s = c .before .before .before .before .before .before .before in Small (boundOf (assignment (s .args .model)) (s .args .f) (constraintIn (s .args .line)))

@@ -1,5 +1,4 @@
 -- `holds::line_holds` meets its contract. Assumes nothing.
-use mathlib.Core.Path.{_≡_, sym, _∙_}
 use borrow.Author.Needs.{needs}
 use Rattle.rules.specs.Lines.{lineHolds}
 use Rattle.gathering.proofs.holds.line_holds.Statement.{statement}

@@ -1,9 +1,6 @@
 -- `holds::literal_holds` meets its contract. Assumes nothing.
-use mathlib.Core.Path.{_≡_, sym, _∙_}
-use mathlib.Core.Bool.{true, false}
+use mathlib.Core.Path.{sym, _∙_}
 use Prim.Native.Nat.{_<_}
-use Rattle.rules.specs.Lines.{meet}
-use Rattle.masks.specs.Mask.{bits}
 use Rattle.gathering.specs.Literals.{literal-is}
 use borrow.Author.Needs.{needs}
 use Rattle.gathering.proofs.holds.literal_holds.Statement.{statement}

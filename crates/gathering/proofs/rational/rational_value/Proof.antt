@@ -4,7 +4,8 @@ use lib.IntN.{pos}
 use Rattle.fractions.specs.Meaning.{meaning as fractionMeaning, boundMeaning}
 use Rattle.proof_lines.specs.Held.{linesIn}
 use Rattle.evaluation.specs.Model.{assignment}
-use Rattle.gathering.specs.Gather.{Collected, chosen-beyond, chosen-value}
+use Rattle.gathering.specs.Gather.{Collected}
+use Rattle.gathering.specs.Choice.{chosen-beyond, chosen-value}
 use Rattle.gathering.proofs.rational.rational_value.Statement.{statement}
 use Rattle.gathering.proofs.rational.rational_value.Tie as tie
 
@@ -21,7 +22,7 @@ collected : (c : tie.Else1) → let s = c .before .before .before in let b = c .
 collected c = rw (c .if1 .left) at (c .before .gathered .ensures)
 
 value-requires : tie.Need-value-requires
-value-requires c κs = (collected c .lower .within, collected c .upper .within)
+value-requires c κs = search (needs, collected c)
 
 beyond-requires : tie.Need-beyond-requires
 beyond-requires c κs = search needs

@@ -1,10 +1,9 @@
 -- `assign::over` meets its contract: a combination of the other numerators and the new one. Assumes nothing.
 use mathlib.Core.Path.{_≡_, ap, _∙_}
-use mathlib.Core.List.{List}
 use Prim.Native.Nat.{ℕ, _≤_}
 use native.Mathlib.Omega.{arith}
 use borrow.Author.Needs.{needs}
-use lib.IntN.{ℤ, pos}
+use lib.IntN.{pos}
 use lib.ListN.{length, replicate}
 use mir.Syntax.{w64}
 use mir.Val.{toZ}

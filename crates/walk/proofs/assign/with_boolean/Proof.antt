@@ -1,5 +1,4 @@
 -- `assign::with_boolean` meets its contract. Assumes nothing.
-use mathlib.Core.Path.{_≡_}
 use borrow.Author.Needs.{needs}
 use Rattle.rules.specs.Lines.{including, excluding}
 use Rattle.walk.specs.Words.{boolean-words}

@@ -1,10 +1,10 @@
 -- `assign::with_rational` meets its contract. Assumes nothing.
 use mathlib.Core.Path.{_≡_, sym, _∙_}
-use Prim.Native.Nat.{_/_, _≤_, _<_}
+use Prim.Native.Nat.{_/_, _≤_}
 use native.Mathlib.Nat.{div-le-self}
 use native.Mathlib.Omega.{arith}
 use borrow.Author.Needs.{needs}
-use lib.IntN.{ℤ, pos, natAbs, _*ℤ_}
+use lib.IntN.{ℤ, pos, _*ℤ_}
 use lib.ListN.{length}
 use Rattle.rules.specs.Lists.{put}
 use Rattle.vectors.specs.Lcm.{lcm-positive}
@@ -38,10 +38,10 @@ over-requires c κs =
     let D = n .before .lcm .result in
     let s = n .before .before .before in
     let x = s .args .x in
-    let h : D ≤ 1000000000 = omega (arith, n .if1 .left) in (
-      s .pre .1 .1 .amounts,
-      (omega (arith, div-le-self D (s .args .model .denominator)), (s .pre .0, (rw (amount-bits (x .numerator) (s .pre .1 .0 .numerator)) (s .pre .1 .0 .numerator), omega (arith, div-le-self D (x .denominator))))),
-    )
+    let h : D ≤ 1000000000 = omega (arith, n .if1 .left) in
+    let k = div-le-self D (s .args .model .denominator) in
+    let m = div-le-self D (x .denominator) in
+    (s .pre .1 .1 .amounts, (omega arith, (s .pre .0, (rw (amount-bits (x .numerator) (s .pre .1 .0 .numerator)) (s .pre .1 .0 .numerator), omega arith))))
 
 -- the row that was computed
 scaled : (c : tie.After-over) → let a = c .before .before .before .before .before .before .args in let D = c .before .before .before .before .lcm .result in

@@ -1,12 +1,11 @@
 -- `backwards::walk` meets its contract. Invariant: the model is the walk's from round t on. Assumes nothing.
-use mathlib.Core.Path.{_≡_, refl, sym, subst, _∙_}
+use mathlib.Core.Path.{_≡_, subst}
 use mathlib.Core.Bool.{true, false}
 use Prim.Native.Nat.{ℕ, suc, _-_, _≤_, _<_}
 use native.Mathlib.Omega.{arith}
 use borrow.Author.Needs.{needs}
 use borrow.Author.Tests.{not-true, not-false}
 use Rattle.proof_lines.specs.Held.{linesIn}
-use Rattle.walk.specs.Outcome.{Kept}
 use Rattle.walk.specs.Narrow.{narrow-lines}
 use Rattle.walk.specs.Backwards.{Walking, walking-start, walking-next, walking-stop, walking-end}
 use Rattle.walk.proofs.backwards.walk.Statement.{statement}

@@ -1,15 +1,10 @@
 -- `round::assign_rational` meets its contract. Assumes nothing.
-use mathlib.Core.Path.{_≡_, ap, _∙_}
-use mathlib.Core.Bool.{Bool, true, false, _||_}
 use borrow.Author.Needs.{needs}
-use Rattle.rules.specs.Lines.{rational}
-use Rattle.rules.specs.Values.{Fraction, withRational, assign}
-use Rattle.rules.specs.Model.{tooLarge}
 use Rattle.fractions.specs.Meaning.{meaning}
 use Rattle.proof_lines.specs.Held.{linesIn}
 use Rattle.evaluation.specs.Model.{assignment}
 use Rattle.gathering.specs.Round.{own}
-use Rattle.gathering.specs.Gather.{Value}
+use Rattle.gathering.specs.Choice.{Value}
 use Rattle.walk.specs.Outcome.{assigned-by}
 use Rattle.walk.proofs.round.assign_rational.Statement.{statement}
 use Rattle.walk.proofs.round.assign_rational.Tie as tie

@@ -1,0 +1,4 @@
+pub mod Ends
+pub mod Bytes
+pub mod Narrow
+pub mod Eliminated

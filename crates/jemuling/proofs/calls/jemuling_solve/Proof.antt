@@ -1,0 +1,27 @@
+-- `calls::jemuling_solve` meets its contract. Assumes nothing.
+use mathlib.Core.Path.{ap, _∙_}
+use Rattle.jemuling.specs.Told.{solvedTold}
+use borrow.Author.Needs.{needs}
+use Rattle.jemuling.proofs.calls.jemuling_solve.Statement.{statement}
+use Rattle.jemuling.proofs.calls.jemuling_solve.Tie as tie
+
+solve-requires : tie.Need-solve-requires
+solve-requires c κs = search needs
+
+solved-told-requires : tie.Need-solved-told-requires
+solved-told-requires c κs = search needs
+
+same-length : tie.Need-same-length
+same-length c = search needs
+
+same-length-2 : tie.Need-same-length-2
+same-length-2 c = search needs
+
+returns : tie.Need-returns
+returns c =
+    let k = c .before .before .before .before .before in
+    (c .solved-told .ensures ∙ ap solvedTold (k .solve .ensures .0), (k .solve .ensures .1 .0, k .solve .ensures .1 .1))
+
+pub jemuling-solve-spec : {M : Type 1} → statement M
+jemuling-solve-spec =
+    tie.close (tie.spec solve-requires solved-told-requires same-length same-length-2 returns)

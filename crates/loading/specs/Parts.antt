@@ -1,0 +1,104 @@
+-- The parts of a clause put behind one another: what is left of them, and how many there are.
+use mathlib.Core.Path.{_≡_, refl, sym, ap, _∙_}
+use mathlib.Core.Bool.{Bool, true, false}
+use mathlib.Core.List.{List, [], _∷_, _++_}
+use mathlib.Core.Option.{Option, none, some}
+use Prim.Native.Nat.{ℕ, suc, _+_, _-_, _≤_, _<_}
+use native.Mathlib.Numerals.{add-one}
+use native.Mathlib.Omega.{arith}
+use lib.ListN.{length}
+use Rattle.types.specs.declared.limits.Limits.{Limits}
+use Rattle.rules.specs.Problem.{Constraint, Clause}
+use Rattle.rules.specs.Lines as rules
+use Rattle.rules.specs.Lines.{Booleans, noBooleans, including}
+use Rattle.rules.specs.Normalize.{Normal, normalClause}
+use Rattle.rules.specs.Split.{chain, parts, partsOf, splitsOf}
+use Rattle.rules.specs.Steps.{Step, loaded, header}
+use Rattle.rules.specs.Elimination.{State, running, ended, limited, partSteps, add, load}
+use Rattle.lines.specs.declared.line.Line.{Line}
+use Rattle.lines.specs.Line.{meaning}
+use Rattle.pieces.specs.declared.parts.Parts.{Parts}
+use Rattle.pieces.specs.Parts.{partsFrom, Cursor}
+use Rattle.pieces.specs.Part.{from-none}
+use Rattle.placing.specs.declared.place.Progress.{Progress}
+use Rattle.placing.specs.declared.place.Progress.the-variants.{Running, Empty, Overflow, OutOfSteps}
+use Rattle.placing.specs.declared.place.Point.{Point}
+use Rattle.placing.specs.Steps.{originOf, stepsIn, stepOf, Named}
+use Rattle.placing.specs.Point.{stateOf, stateAt, Standing, Leads, leads-none, leads-trans, isRunning, running-yes, Reaches}
+
+-- ---- how many parts a clause has
+chain-length : (k : ℕ) (p n : Booleans) (c : Constraint) (cs : List Constraint) → length (chain k p n c cs) ≡ suc (length cs)
+unfolding chain
+chain-length k p n c [] = refl
+chain-length k p n c (d ∷ ds) = ap suc (chain-length (suc k) noBooleans (including k noBooleans) d ds)
+
+parts-few : (k : ℕ) (p n : Booleans) (cs : List Constraint) → length (parts k (record { positive = p; negative = n; constraints = cs })) ≤ suc (length cs - 1)
+unfolding parts
+parts-few k p n [] = omega arith
+parts-few k p n (c ∷ cs) = omega (arith, chain-length k p n c cs)
+
+pub parts-length : (k : ℕ) (c : Clause) → length (partsOf k c) ≤ suc (splitsOf c)
+unfolding partsOf splitsOf
+parts-length k c = by (normalClause c)
+  where
+    by : (o : Option Normal) → length {A = rules.Line} (elim o [ none ↦ [] | some n ↦ parts k n ]) ≤ suc (elim o [ none ↦ 0 | some n ↦ length (n .constraints) - 1 ])
+    by none = omega arith
+    by (some n) = parts-few k (n .positive) (n .negative) (n .constraints)
+
+-- ---- the numbers of a part's origin
+pub named-part : (c j : ℕ) → c < 65536 → j < 65536 → Named 0 0 c j
+unfolding originOf header
+named-part c j h k = record { is = refl; first-fits = h; second-fits = k }
+
+-- ---- an end stays
+pub load-stays : (limits : Limits) (ss : List Step) (proof : List ℕ) (p : Point) → isRunning (p .progress) ≡ false → stateAt proof p ≡ load (limited limits) ss (stateAt proof p)
+unfolding stateAt stateOf load
+load-stays limits [] proof p g = refl
+load-stays limits (s ∷ ss) proof p g = by (p .progress) g
+  where
+    by : (e : Progress) → isRunning e ≡ false → stateOf e (stepsIn proof (p .steps)) (p .pairs) ≡ load (limited limits) (s ∷ ss) (stateOf e (stepsIn proof (p .steps)) (p .pairs))
+    by Running g = let z : _≡_ {A = ℕ} 0 1 = cc in absurd (omega arith)
+    by Empty g = refl
+    by Overflow g = refl
+    by OutOfSteps g = refl
+
+-- ---- at the loop's test
+-- the parts from the cursor on come to what all of them come to
+pub record AtPart (limits : Limits) (q : List ℕ) (r clause : ℕ) (first : Parts) (start : List ℕ) (from : Point) (proof : List ℕ) (p : Point) (rest : Parts) (j : ℕ) : Type 0 where
+  pub going : p .progress ≡ Running
+  pub cursor : Cursor q r rest
+  pub leads : Leads limits start (from .steps) proof (p .steps)
+  pub few : j + length (partsFrom q r rest) ≤ length (partsFrom q r first)
+  pub same : load (limited limits) (partSteps clause j (partsFrom q r rest)) (stateAt proof p) ≡ load (limited limits) (partSteps clause 0 (partsFrom q r first)) (stateAt start from)
+
+module _ {limits : Limits} {q : List ℕ} {r clause : ℕ} {first : Parts} {start : List ℕ} {from : Point} where
+  pub parts-start : from .progress ≡ Running → Standing limits start (from .steps) → Cursor q r first → AtPart limits q r clause first start from start from first 0
+  parts-start g s c = record { going = g; cursor = c; leads = leads-none s; few = omega arith; same = refl }
+
+  module _ {proof : List ℕ} {p : Point} {rest : Parts} {j : ℕ} (at : AtPart limits q r clause first start from proof p rest j) where
+    pub parts-done : rest .more ≡ false → Reaches limits start from proof p (load (limited limits) (partSteps clause 0 (partsFrom q r first)) (stateAt start from))
+    unfolding partSteps load
+    parts-done e =
+        record {
+          is = ap (λ (ls : List rules.Line). load (limited limits) (partSteps clause j ls) (stateAt proof p)) (sym (from-none q r rest e)) ∙ at .same;
+          leads = at .leads;
+        }
+
+    module _ (l : Line) (next : Parts) (more : partsFrom q r rest ≡ meaning l ∷ partsFrom q r next)
+        {after : List ℕ} {x : Point} (reaches : Reaches limits proof p after x (add (limited limits) false (stepOf 0 0 clause j l) (stepsIn proof (p .steps)) (p .pairs))) where
+      one-less : j + 1 + length (partsFrom q r next) ≤ length (partsFrom q r first)
+      one-less = omega (arith, at .few, ap length more)
+
+      tried : load (limited limits) (partSteps clause (j + 1) (partsFrom q r next)) (stateAt after x) ≡ load (limited limits) (partSteps clause 0 (partsFrom q r first)) (stateAt start from)
+      unfolding stateAt stateOf partSteps load originOf
+      tried =
+          ap (load (limited limits) (partSteps clause (j + 1) (partsFrom q r next))) (reaches .is)
+          ∙ ap (λ (k : ℕ). load (limited limits) (partSteps clause k (partsFrom q r next)) (add (limited limits) false (stepOf 0 0 clause j l) (stepsIn proof (p .steps)) (p .pairs))) (add-one j)
+          ∙ (λ i. load (limited limits) (partSteps clause j (sym more i)) (stateOf (sym (at .going) i) (stepsIn proof (p .steps)) (p .pairs)))
+          ∙ at .same
+
+      pub parts-next : isRunning (x .progress) ≡ true → Cursor q r next → AtPart limits q r clause first start from after x next (j + 1)
+      parts-next g c = record { going = running-yes (x .progress) g; cursor = c; leads = leads-trans (at .leads) (reaches .leads); few = one-less; same = tried }
+
+      pub parts-ended : isRunning (x .progress) ≡ false → Reaches limits start from after x (load (limited limits) (partSteps clause 0 (partsFrom q r first)) (stateAt start from))
+      parts-ended g = record { is = load-stays limits (partSteps clause (j + 1) (partsFrom q r next)) after x g ∙ tried; leads = leads-trans (at .leads) (reaches .leads) }

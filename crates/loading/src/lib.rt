@@ -1,0 +1,3 @@
+// Loading: the parts of the clauses, in order, put behind one another.
+pub mod clause;
+pub mod load;

@@ -1,0 +1,129 @@
+-- `covered::same_step` meets its contract. Invariant: what is left of the bytes decides. Assumes nothing.
+use mathlib.Core.Path.{_≡_, refl, sym, ap, _∙_}
+use mathlib.Core.Bool.{Bool, true, false, _&&_}
+use Prim.Native.Nat.{ℕ, _+_, _-_, _*_, _≤_}
+use native.Mathlib.Omega.{arith}
+use borrow.Author.Needs.{needs}
+use borrow.Author.Tests.{eq-eqb, ne-eqb}
+use lib.Dec.{eqb}
+use lib.ListN.{length, getD, drop}
+use Rattle.rules.specs.Bytes.{fieldAt}
+use Rattle.rules.specs.Lists.{same}
+use Rattle.proof_lines.specs.Held.{stepAt}
+use Rattle.placing.specs.Scan.{same-next, same-end}
+use Rattle.placing.specs.Steps.{length-stepAt, byte-stepAt, field-stepAt}
+use Rattle.placing.specs.Same.{behind, same-by-field}
+use Rattle.placing.proofs.covered.same_step.Statement.{statement}
+use Rattle.placing.proofs.covered.same_step.Tie as tie
+
+abbrev Inv-loop : tie.InvT-loop
+Inv-loop proof i bytes bound positive at k₀ k = (6 ≤ k) × (k ≤ 64) × (same eqb (behind (stepAt proof i)) (behind bytes) ≡ same eqb (drop k (stepAt proof i)) (drop k bytes))
+
+abbrev μ-loop : tie.MeasureT-loop
+μ-loop proof i bytes bound positive at k₀ k = 64 - k
+
+mul-at : tie.Need-mul-at Inv-loop μ-loop
+mul-at c = search needs
+
+add-u32-at : tie.Need-add-u32-at Inv-loop μ-loop
+add-u32-at c = search needs
+
+u32-at-requires : tie.Need-u32-at-requires Inv-loop μ-loop
+u32-at-requires c κs = search needs
+
+returns : tie.Need-returns Inv-loop μ-loop
+returns c =
+    let u = c .before in
+    let s = u .before .before .before in
+    let p = s .args .proof .now in
+    let i = s .args .i in
+    sym (same-by-field 42 (stepAt p i) (s .args .bytes .now) (λ e. c .if1 .taken (u .u32-at .ensures ∙ sym (field-stepAt p i (omega arith) 48 (omega arith)) ∙ e ∙ sym (s .pre .1 .1 .0))))
+
+add-u32-at-2 : tie.Need-add-u32-at-2 Inv-loop μ-loop
+add-u32-at-2 c = search needs
+
+u32-at-requires-2 : tie.Need-u32-at-requires-2 Inv-loop μ-loop
+u32-at-requires-2 c κs = search needs
+
+returns-2 : tie.Need-returns-2 Inv-loop μ-loop
+returns-2 c =
+    let u = c .before in
+    let s = u .before .before .before .before .before in
+    let p = s .args .proof .now in
+    let i = s .args .i in
+    sym (same-by-field 2 (stepAt p i) (s .args .bytes .now) (λ e. c .if2 .taken (u .u32-at2 .ensures ∙ sym (field-stepAt p i (omega arith) 8 (omega arith)) ∙ e ∙ sym (s .pre .1 .1 .1))))
+
+loop-holds : tie.Need-loop-holds Inv-loop μ-loop
+unfolding behind
+loop-holds c = (omega arith, omega arith, refl)
+
+add-if3 : tie.Need-add-if3 Inv-loop μ-loop
+add-if3 c = search needs
+
+shared-slice-read-if3 : tie.Need-shared-slice-read-if3 Inv-loop μ-loop
+shared-slice-read-if3 c = search needs
+
+shared-slice-read-if3-2 : tie.Need-shared-slice-read-if3-2 Inv-loop μ-loop
+shared-slice-read-if3-2 c = search needs
+
+-- the next byte of both
+next : (c : tie.In-loop Inv-loop μ-loop) →
+    let l = c .before .loop in
+    let s = c .before .before .before .before .before .before .before .before in
+    let a = stepAt (s .args .proof .now) (s .args .i) in
+    let b = s .args .bytes .now in
+    same eqb (behind a) (behind b) ≡ eqb (getD (s .args .proof .now) (64 * s .args .i + l .k) 0) (getD b (l .k) 0) && same eqb (drop (l .k + 1) a) (drop (l .k + 1) b)
+next c =
+    let l = c .before .loop in
+    let s = c .before .before .before .before .before .before .before .before in
+    let p = s .args .proof .now in
+    let i = s .args .i in
+    let a = stepAt p i in
+    let b = s .args .bytes .now in
+    let room : 64 * i + 64 ≤ length p = s .pre .0 in
+    l .inv .2
+    ∙ same-next 0 eqb a b (l .k) (omega (arith, length-stepAt p i room)) (omega arith)
+    ∙ ap (λ (x : ℕ). eqb x (getD b (l .k) 0) && same eqb (drop (l .k + 1) a) (drop (l .k + 1) b)) (byte-stepAt p i room (l .k) (omega arith))
+
+returns-3 : tie.Need-returns-3 Inv-loop μ-loop
+returns-3 c = sym (next (c .before .before .before) ∙ rw (ne-eqb _ _ (c .if3 .taken)))
+
+add-k : tie.Need-add-k Inv-loop μ-loop
+add-k c = search needs
+
+loop-less : tie.Need-loop-less Inv-loop μ-loop
+loop-less c = search needs
+
+loop-again : tie.Need-loop-again Inv-loop μ-loop
+loop-again c = (omega arith, omega arith, next (c .before .before .before) ∙ rw (eq-eqb _ _ (c .if3 .left)))
+
+returns-4 : tie.Need-returns-4 Inv-loop μ-loop
+returns-4 c =
+    let l = c .before .loop in
+    let s = c .before .before .before .before .before .before .before .before in
+    let p = s .args .proof .now in
+    let i = s .args .i in
+    sym (l .inv .2 ∙ same-end eqb (stepAt p i) (s .args .bytes .now) (l .k) (omega (arith, length-stepAt p i (s .pre .0))) (omega arith))
+
+pub same-step-spec : {M : Type 1} → statement M
+same-step-spec =
+    tie.close
+    (tie.spec
+    Inv-loop
+    μ-loop
+    mul-at
+    add-u32-at
+    u32-at-requires
+    returns
+    add-u32-at-2
+    u32-at-requires-2
+    returns-2
+    loop-holds
+    add-if3
+    shared-slice-read-if3
+    shared-slice-read-if3-2
+    returns-3
+    add-k
+    loop-less
+    loop-again
+    returns-4)

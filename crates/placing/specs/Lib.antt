@@ -1,0 +1,4 @@
+pub mod Scan
+pub mod Steps
+pub mod Same
+pub mod Point

@@ -1,0 +1,155 @@
+-- The course at a point in machine words: what has ended it, the steps held, the pairs tried.
+use mathlib.Core.Path.{_≡_, refl, sym, ap, _∙_}
+use mathlib.Core.Bool.{Bool, true, false, cond}
+use mathlib.Core.List.{List, [], _∷_, _++_}
+use Prim.Native.Nat.{ℕ, suc, _+_, _*_, _-_, _≤_, _<_}
+use borrow.Author.Tests.{le-leb, lt-leb}
+use native.Mathlib.Omega.{arith}
+use lib.ListN.{length, take, drop}
+use lib.Seq.{take-take, drop-drop}
+use Rattle.types.specs.declared.limits.Limits.{Limits}
+use Rattle.rules.specs.Steps.{Step}
+use Rattle.rules.specs.Lines.{isEmpty}
+use Rattle.rules.specs.Elimination.{Stops, State, running, ended, empty, overflow, outOfSteps, limited, covered, placed, add}
+use Rattle.rules.specs.Needs.{pairsOf}
+use Rattle.proof_lines.specs.Held.{stepAt}
+use Rattle.fields.specs.Field.{stored}
+use Rattle.placing.specs.declared.place.Progress.{Progress}
+use Rattle.placing.specs.declared.place.Progress.the-variants.{Running, Empty, Overflow, OutOfSteps}
+use Rattle.placing.specs.declared.place.Point.{Point}
+use Rattle.placing.specs.Steps.{stepFrom, stepsIn, length-stepsIn, Kept, Held, stepAt-same, stepsIn-same, stored-steps, stored-held, stored-front, stored-rest, stored-length}
+
+unfoldable pub stateOf : Progress → List Step → ℕ → State
+stateOf Running steps pairs = running steps pairs
+stateOf Empty steps pairs = ended empty steps pairs
+stateOf Overflow steps pairs = ended overflow steps pairs
+stateOf OutOfSteps steps pairs = ended outOfSteps steps pairs
+
+-- the state that a point of the course and the proof's bytes stand for
+unfoldable pub stateAt : List ℕ → Point → State
+stateAt proof p = stateOf (p .progress) (stepsIn proof (p .steps)) (p .pairs)
+
+-- bytes that hold n steps, within the limits
+pub record Standing (limits : Limits) (proof : List ℕ) (n : ℕ) : Type 0 where
+  pub held : Held proof n
+  pub few : n ≤ limits .steps
+  pub room : 64 * limits .steps ≤ length proof
+
+-- from n steps to m: the first n stay, and so does what is behind the m
+pub record Leads (limits : Limits) (before : List ℕ) (n : ℕ) (after : List ℕ) (m : ℕ) : Type 0 where
+  pub standing : Standing limits after m
+  pub grows : n ≤ m
+  pub front : take (64 * n) after ≡ take (64 * n) before
+  pub rest : drop (64 * m) after ≡ drop (64 * m) before
+  pub as-long : length after ≡ length before
+
+pub leads-none : {limits : Limits} {proof : List ℕ} {n : ℕ} → Standing limits proof n → Leads limits proof n proof n
+leads-none h = record { standing = h; grows = omega arith; front = refl; rest = refl; as-long = refl }
+
+pub leads-trans : {limits : Limits} {a b c : List ℕ} {n m k : ℕ} → Leads limits a n b m → Leads limits b m c k → Leads limits a n c k
+leads-trans {a = a} {b = b} {c = c} {n = n} {m = m} {k = k} x y =
+    let e : 64 * m + 64 * (k - m) ≡ 64 * k = omega (arith, y .grows) in
+    record {
+      standing = y .standing;
+      grows = omega (arith, x .grows, y .grows);
+      front = sym (shorter c) ∙ ap (take (64 * n)) (y .front) ∙ shorter b ∙ x .front;
+      rest = y .rest ∙ rw (← e) (sym (drop-drop (64 * (k - m)) (64 * m) b) ∙ ap (drop (64 * (k - m))) (x .rest) ∙ drop-drop (64 * (k - m)) (64 * m) a);
+      as-long = y .as-long ∙ x .as-long;
+    }
+  where
+    shorter : (s : List ℕ) → take (64 * n) (take (64 * m) s) ≡ take (64 * n) s
+    shorter s = take-take (64 * n) (64 * m) s (omega (arith, x .grows))
+
+-- what the first n steps say is said after them too
+pub leads-steps : {limits : Limits} {a b : List ℕ} {n m : ℕ} → Leads limits a n b m → 64 * n ≤ length a → (k : ℕ) → k ≤ n → stepsIn b k ≡ stepsIn a k
+leads-steps {a = a} {b = b} {n = n} x h k l =
+    stepsIn-same a b k (sym (take-take (64 * k) (64 * n) b (omega arith)) ∙ ap (take (64 * k)) (x .front) ∙ take-take (64 * k) (64 * n) a (omega arith)) (omega arith) (x .as-long)
+
+pub leads-step : {limits : Limits} {a b : List ℕ} {n m : ℕ} → Leads limits a n b m → 64 * n ≤ length a → (i : ℕ) → i < n → stepAt b i ≡ stepAt a i
+leads-step {a = a} {b = b} {n = n} x h = stepAt-same a b n (x .front) h (x .as-long)
+
+-- the pairs of a point
+pub pairs-at : (proof : List ℕ) (p : Point) → pairsOf (stateAt proof p) ≡ p .pairs
+unfolding stateAt stateOf pairsOf
+pairs-at proof p = by (p .progress)
+  where
+    by : (g : Progress) → pairsOf (stateOf g (stepsIn proof (p .steps)) (p .pairs)) ≡ p .pairs
+    by Running = refl
+    by Empty = refl
+    by Overflow = refl
+    by OutOfSteps = refl
+
+-- a line put to the tests leaves them
+placed-pairs : (w known many blank : Bool) (s : Step) (steps : List Step) (n : ℕ) → pairsOf (placed w known many blank s steps n) ≡ n
+unfolding placed pairsOf
+placed-pairs true known many blank s steps n = refl
+placed-pairs false true many blank s steps n = refl
+placed-pairs false false true blank s steps n = refl
+placed-pairs false false false true s steps n = refl
+placed-pairs false false false false s steps n = refl
+
+pub add-pairs : (stops : Stops) (w : Bool) (s : Step) (steps : List Step) (n : ℕ) → pairsOf (add stops w s steps n) ≡ n
+unfolding add
+add-pairs stops w s steps n = placed-pairs w (covered (s .line) steps) (stops .atSteps (length steps)) (isEmpty (s .line)) s steps n
+
+-- the course goes on, or it has ended
+abbrev pub isRunning : Progress → Bool
+isRunning Running = true
+isRunning Empty = false
+isRunning Overflow = false
+isRunning OutOfSteps = false
+
+pub running-yes : (g : Progress) → isRunning g ≡ true → g ≡ Running
+running-yes Running e = refl
+running-yes Empty e = let z : _≡_ {A = ℕ} 0 1 = cc in absurd (omega arith)
+running-yes Overflow e = let z : _≡_ {A = ℕ} 0 1 = cc in absurd (omega arith)
+running-yes OutOfSteps e = let z : _≡_ {A = ℕ} 0 1 = cc in absurd (omega arith)
+
+-- a later point of the course, and the state that it stands for
+pub record Reaches (limits : Limits) (before : List ℕ) (p : Point) (after : List ℕ) (q : Point) (state : State) : Type 0 where
+  pub is : stateAt after q ≡ state
+  pub leads : Leads limits before (p .steps) after (q .steps)
+
+-- ---- a line put to the tests
+module _ {limits : Limits} {proof : List ℕ} (p : Point) (standing : Standing limits proof (p .steps)) (s : Step) where
+  abbrev added : State
+  added = add (limited limits) false s (stepsIn proof (p .steps)) (p .pairs)
+
+  pub place-known : covered (s .line) (stepsIn proof (p .steps)) ≡ true → Reaches limits proof p proof (record { progress = Running; steps = p .steps; pairs = p .pairs }) added
+  unfolding stateAt stateOf add placed
+  place-known e = record { is = rw e; leads = leads-none standing }
+
+  module _ (new : covered (s .line) (stepsIn proof (p .steps)) ≡ false) where
+    pub place-full : limits .steps ≤ p .steps → Reaches limits proof p proof (record { progress = OutOfSteps; steps = p .steps; pairs = p .pairs }) added
+    unfolding stateAt stateOf add placed limited
+    place-full h = record { is = rw (new, length-stepsIn proof (p .steps), le-leb (limits .steps) (p .steps) h); leads = leads-none standing }
+
+    module _ (bytes : List ℕ) (kept : Kept bytes) (is-step : stepFrom bytes ≡ s) (more : p .steps < limits .steps) (whole : length bytes ≡ 64) where
+      abbrev put : Point
+      put = record { progress = cond (isEmpty (s .line)) Empty Running; steps = p .steps + 1; pairs = p .pairs }
+
+      room : 64 * p .steps + 64 ≤ length proof
+      room = omega (arith, standing .room)
+
+      pub place-new : Reaches limits proof p (stored (64 * p .steps) bytes proof) put added
+      unfolding stateAt stateOf add placed limited
+      place-new =
+          let n = p .steps in
+          let one : n + 1 ≡ suc n = omega arith in
+          let steps : stepsIn (stored (64 * n) bytes proof) (n + 1) ≡ stepsIn proof n ++ (s ∷ []) =
+          rw one (stored-steps proof bytes n room whole) ∙ ap (λ (s : Step). stepsIn proof n ++ (s ∷ [])) is-step in
+          record {
+            is = rw (steps, new, length-stepsIn proof n, lt-leb (limits .steps) n more) (by (isEmpty (s .line)));
+            leads =
+                record {
+                  standing = record { held = rw one (stored-held proof bytes n room whole (standing .held) kept); few = omega arith; room = rw (stored-length proof bytes n room whole) (standing .room) };
+                  grows = omega arith;
+                  front = stored-front proof bytes n room whole;
+                  rest = rw one (stored-rest proof bytes n room whole);
+                  as-long = stored-length proof bytes n room whole;
+                };
+          }
+        where
+          by : (blank : Bool) → stateOf (cond blank Empty Running) (stepsIn proof (p .steps) ++ (s ∷ [])) (p .pairs) ≡ placed false false false blank s (stepsIn proof (p .steps)) (p .pairs)
+          by true = refl
+          by false = refl

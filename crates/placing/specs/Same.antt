@@ -1,0 +1,133 @@
+-- Lines are equal where the bytes behind their headers are.
+use mathlib.Core.Path.{_≡_, refl, sym, ap, subst, _∙_}
+use mathlib.Core.Bool.{Bool, true, false, _&&_, _||_, Bool·beq}
+use mathlib.Core.List.{List, [], _∷_, _++_, append-assoc}
+use mathlib.Core.Option.{Option, none, some}
+use Prim.Native.Nat.{ℕ, _+_, _-_, _≤_, _<_}
+use native.Mathlib.Omega.{arith}
+use lib.IntN.{ℤ}
+use lib.Dec.{T, eqb, eqb→eq, eqb-refl}
+use lib.ListN.{length, take, drop, replicate, length-append}
+use lib.Seq.{drop-at, drop-drop}
+use mir.Facts.{yes-and}
+use Rattle.rules.specs.Lists.{any, same, tabulate}
+use Rattle.rules.specs.Arithmetic.{equal}
+use Rattle.rules.specs.Bytes.{fromBytes, fieldAt, padded}
+use Rattle.rules.specs.Problem.{Constraint}
+use Rattle.rules.specs.Lines as rules
+use Rattle.rules.specs.Lines.{sameConstraint, sameLine}
+use Rattle.rules.specs.Steps.{Step, Header, header, headerBytes, lineBytes, encodeStep}
+use Rattle.rules.specs.Elimination.{covered}
+use Rattle.lists.specs.Tests.{tests-agree}
+use Rattle.lists.specs.Tabulated.{length-tabulate, getD-tabulate}
+use Rattle.lists.specs.Equal.{same-yes, yes-same}
+use Rattle.vectors.specs.Sign.{yes-equal}
+use Rattle.saturation.specs.Equal.{sameLine-yes}
+use Rattle.lines.specs.declared.line.Line.{Line}
+use Rattle.lines.specs.Line.{meaning}
+use Rattle.line_bytes.specs.Encoding.{headerOf, encoded, encodeStep-is, length-headerBytes}
+use Rattle.line_bytes.specs.Decoding.{decoded, decoded-encoded}
+use Rattle.proof_lines.specs.Held.{stepAt}
+use Rattle.placing.specs.Scan.{any-next, any-end}
+use Rattle.placing.specs.Steps.{stepFrom, stepsIn, length-stepsIn, Kept, Held, Words, kept-words}
+
+-- ---- a line equals itself
+self : (a : Bool) → T (Bool·beq a a)
+self true = tt
+self false = tt
+
+equal-self : (z : ℤ) → T (equal z z)
+equal-self z = yes-equal refl
+
+constraint-self : (c : Option Constraint) → T (sameConstraint c c)
+unfolding sameConstraint
+constraint-self none = tt
+constraint-self (some c) =
+    yes-and (equal (c .bound) (c .bound) && Bool·beq (c .strict) (c .strict)) (same equal (c .coefficients) (c .coefficients)) (yes-and (equal (c .bound) (c .bound)) (Bool·beq (c .strict) (c .strict)) (equal-self (c .bound)) (self (c .strict))) (yes-same equal equal-self (c .coefficients) (c .coefficients) refl)
+
+line-self : (l : rules.Line) → T (sameLine l l)
+unfolding sameLine
+line-self l =
+    yes-and (sameConstraint (l .constraint) (l .constraint) && same Bool·beq (l .positive) (l .positive)) (same Bool·beq (l .negative) (l .negative)) (yes-and (sameConstraint (l .constraint) (l .constraint)) (same Bool·beq (l .positive) (l .positive)) (constraint-self (l .constraint)) (yes-same Bool·beq self (l .positive) (l .positive) refl)) (yes-same Bool·beq self (l .negative) (l .negative) refl)
+
+-- ---- the bytes behind the header
+unfoldable pub behind : List ℕ → List ℕ
+behind b = drop 6 b
+
+-- of a line, behind any header
+tail : rules.Line → List ℕ
+tail l = lineBytes l ++ replicate (64 - (6 + length (lineBytes l))) 0
+
+encoded-tail : (h : Header) (l : rules.Line) → encoded h l ≡ headerBytes h ++ tail l
+unfolding encoded padded tail
+encoded-tail h l =
+    ap (λ (k : ℕ). (headerBytes h ++ lineBytes l) ++ replicate {A = ℕ} (64 - k) 0) (length-append (headerBytes h) (lineBytes l) ∙ ap (λ (k : ℕ). k + length (lineBytes l)) (length-headerBytes h))
+    ∙ append-assoc (headerBytes h) (lineBytes l) (replicate (64 - (6 + length (lineBytes l))) 0)
+
+behind-encoded : (h : Header) (l : rules.Line) → behind (encoded h l) ≡ tail l
+unfolding behind
+behind-encoded h l = ap (drop 6) (encoded-tail h l) ∙ drop-at (headerBytes h) (tail l) 6 (length-headerBytes h)
+
+line-by-tail : (l : Line) → Words l → decoded (headerBytes (headerOf 0 0 0 0) ++ tail (meaning l)) ≡ l
+line-by-tail l w = ap decoded (sym (encoded-tail (headerOf 0 0 0 0) (meaning l))) ∙ decoded-encoded (headerOf 0 0 0 0) l (w .ready) (w .eight) (w .positive) (w .negative)
+
+-- a step's bytes against those of a line
+module _ (b : List ℕ) (kept : Kept b) (h : Header) (l : Line) (words : Words l) where
+  behind-kept : behind b ≡ tail (meaning (decoded b))
+  unfolding stepFrom
+  behind-kept = ap behind (kept .written ∙ encodeStep-is (stepFrom b)) ∙ behind-encoded (header (stepFrom b .origin)) (meaning (decoded b))
+
+  pub same-bytes : same eqb (behind b) (behind (encoded h (meaning l))) ≡ sameLine (meaning (decoded b)) (meaning l)
+  same-bytes =
+      tests-agree (same eqb (behind b) (behind (encoded h (meaning l)))) (sameLine (meaning (decoded b)) (meaning l))
+      (λ t.
+      let e : behind b ≡ behind (encoded h (meaning l)) = same-yes eqb eqb→eq (behind b) (behind (encoded h (meaning l))) t in
+      let f : tail (meaning (decoded b)) ≡ tail (meaning l) = sym behind-kept ∙ e ∙ behind-encoded h (meaning l) in
+      let g : decoded b ≡ l = sym (line-by-tail (decoded b) (kept-words b kept)) ∙ ap (λ (x : List ℕ). decoded (headerBytes (headerOf 0 0 0 0) ++ x)) f ∙ line-by-tail l words in
+      subst (λ (m : Line). T (sameLine (meaning (decoded b)) (meaning m))) g (line-self (meaning (decoded b))))
+      (λ t.
+      let e : meaning (decoded b) ≡ meaning l = sameLine-yes (meaning (decoded b)) (meaning l) t in
+      yes-same eqb eqb-refl (behind b) (behind (encoded h (meaning l))) (behind-kept ∙ ap tail e ∙ sym (behind-encoded h (meaning l))))
+
+-- equal bytes have equal fields
+field-behind : (k : ℕ) (a b : List ℕ) → T (same eqb (behind a) (behind b)) → fieldAt (k + 6) 4 a ≡ fieldAt (k + 6) 4 b
+unfolding behind fieldAt
+field-behind k a b t =
+    let e : drop 6 a ≡ drop 6 b = same-yes eqb eqb→eq (drop 6 a) (drop 6 b) t in
+    let m : 6 + k ≡ k + 6 = omega arith in
+    ap (λ (i : ℕ). fromBytes (take 4 (drop i a))) (sym m)
+    ∙ ap (λ (x : List ℕ). fromBytes (take 4 x)) (sym (drop-drop k 6 a) ∙ ap (drop k) e ∙ drop-drop k 6 b)
+    ∙ ap (λ (i : ℕ). fromBytes (take 4 (drop i b))) m
+
+pub same-by-field : (k : ℕ) (a b : List ℕ) → (fieldAt (k + 6) 4 a ≡ fieldAt (k + 6) 4 b → ⊥) → same eqb (behind a) (behind b) ≡ false
+same-by-field k a b n = by (same eqb (behind a) (behind b)) (field-behind k a b)
+  where
+    by : (t : Bool) → (T t → fieldAt (k + 6) 4 a ≡ fieldAt (k + 6) 4 b) → t ≡ false
+    by true f = absurd (n (f tt))
+    by false f = refl
+
+-- ---- the steps from number i on
+unfoldable pub coveredFrom : ℕ → rules.Line → List ℕ → ℕ → Bool
+coveredFrom i l proof n = any (λ s. sameLine (s .line) l) (drop i (stepsIn proof n))
+
+module _ (l : rules.Line) (proof : List ℕ) (n : ℕ) where
+  pub covered-all : covered l (stepsIn proof n) ≡ coveredFrom 0 l proof n
+  unfolding covered coveredFrom
+  covered-all = refl
+
+  pub covered-next : (i : ℕ) → i < n → coveredFrom i l proof n ≡ sameLine (meaning (decoded (stepAt proof i))) l || coveredFrom (i + 1) l proof n
+  unfolding coveredFrom stepsIn stepFrom
+  covered-next i h =
+      let f : ℕ → Step = λ k. stepFrom (stepAt proof k) in
+      any-next (f i) (λ s. sameLine (s .line) l) (tabulate n f) i (omega (arith, length-tabulate n f))
+      ∙ ap (λ (s : Step). sameLine (s .line) l || any (λ s. sameLine (s .line) l) (drop (i + 1) (tabulate n f))) (getD-tabulate n f i (f i) h)
+
+  pub covered-none : (i : ℕ) → n ≤ i → i ≤ n → coveredFrom i l proof n ≡ false
+  unfolding coveredFrom
+  covered-none i h k = any-end (λ s. sameLine (s .line) l) (stepsIn proof n) i (omega (arith, length-stepsIn proof n))
+
+-- of these bytes of a line
+pub covered-step : {proof : List ℕ} {n : ℕ} → Held proof n → (i : ℕ) → i < n → (h : Header) (l : Line) → Words l
+    → coveredFrom i (meaning l) proof n ≡ same eqb (behind (stepAt proof i)) (behind (encoded h (meaning l))) || coveredFrom (i + 1) (meaning l) proof n
+covered-step {proof} {n} held i k h l w =
+    covered-next (meaning l) proof n i k ∙ ap (λ (t : Bool). t || coveredFrom (i + 1) (meaning l) proof n) (sym (same-bytes (stepAt proof i) (held .steps i k) h l w))

@@ -1,0 +1,3 @@
+// Lines put behind the others of a proof.
+pub mod covered;
+pub mod place;

@@ -1,0 +1,119 @@
+-- `decide::decide` meets its contract: a law for each end of the course. Assumes nothing.
+use Rattle.soundness.specs.WellFormed.{WellFormed}
+use Rattle.soundness.specs.Reading.{read-well-formed}
+use Rattle.reading.specs.Parsed.{problemAt}
+use Rattle.solving.specs.Leaves.{few-steps, narrow, leaves-overflow, leaves-out, leaves-empty, leaves-saturated}
+use borrow.Author.Needs.{needs}
+use Rattle.solving.proofs.decide.decide.Statement.{statement}
+use Rattle.solving.proofs.decide.decide.Tie as tie
+
+-- the question is well formed
+formed : (c : tie.After-eliminate) → let a = c .before .before .before .before .before .args in WellFormed (problemAt (a .question .now) (a .b) (a .r) (a .n))
+formed c =
+    let s = c .before .before .before .before .before in
+    let a = s .args in
+    read-well-formed (a .question .now) (problemAt (a .question .now) (a .b) (a .r) (a .n)) (s .pre .0 .is-read)
+
+eliminate-requires : tie.Need-eliminate-requires
+eliminate-requires c κs = search needs
+
+enum-told : tie.Need-enum-told
+enum-told c = search needs
+
+refuse-requires : tie.Need-refuse-requires
+refuse-requires c κs = search needs
+
+enum-told-2 : tie.Need-enum-told-2
+enum-told-2 c = search needs
+
+refuse-requires-2 : tie.Need-refuse-requires-2
+refuse-requires-2 c κs = search needs
+
+enum-told-3 : tie.Need-enum-told-3
+enum-told-3 c = search needs
+
+without-model-requires : tie.Need-without-model-requires
+without-model-requires c κs = let k = c .before .before .before .before .before .before in (few-steps (formed k) (k .eliminate .ensures), search needs)
+
+enum-told-4 : tie.Need-enum-told-4
+enum-told-4 c = search needs
+
+saturated-requires : tie.Need-saturated-requires
+saturated-requires c κs =
+    let k = c .before .before .before .before .before .before in
+    let s = k .before .before .before .before .before in
+    let e = k .eliminate .ensures in
+    let w = formed k in
+    (s .pre .0 .parsed .booleans, (s .pre .0 .parsed .rationals, (few-steps w e, (search needs, (s .pre .1 .1 .0, (e .ready, narrow w e))))))
+
+same-length : tie.Need-same-length
+same-length c = search needs
+
+returns : tie.Need-returns
+returns c =
+    let f = c .before .before in
+    let t = f .before .before in
+    let k = t .before .before .before .before in
+    rw (f .refuse .ensures .0, f .refuse .ensures .1) (leaves-overflow (formed k) (k .eliminate .ensures) (k .before .before .before .before .before .args .model .now) (t .enum-told .given .1))
+
+same-length-2 : tie.Need-same-length-2
+same-length-2 c = search needs
+
+returns-2 : tie.Need-returns-2
+returns-2 c =
+    let f = c .before .before in
+    let t = f .before .before in
+    let k = t .before .before .before .before in
+    rw (f .refuse2 .ensures .0, f .refuse2 .ensures .1) (leaves-out (formed k) (k .eliminate .ensures) (k .before .before .before .before .before .args .model .now) (t .enum-told2 .given .1))
+
+same-length-3 : tie.Need-same-length-3
+same-length-3 c = search needs
+
+same-length-4 : tie.Need-same-length-4
+same-length-4 c = search needs
+
+returns-3 : tie.Need-returns-3
+returns-3 c =
+    let f = c .before .before .before .before in
+    let t = f .before .before .before in
+    let k = t .before .before .before .before in
+    rw (f .without-model .ensures .0, f .without-model .ensures .1 .0, f .without-model .ensures .1 .1)
+    (leaves-empty (formed k) (k .eliminate .ensures) (k .before .before .before .before .before .args .model .now) (t .enum-told3 .given .1))
+
+same-length-5 : tie.Need-same-length-5
+same-length-5 c = search needs
+
+same-length-6 : tie.Need-same-length-6
+same-length-6 c = search needs
+
+returns-4 : tie.Need-returns-4
+returns-4 c =
+    let f = c .before .before .before .before in
+    let t = f .before .before .before in
+    let k = t .before .before .before .before in
+    rw (f .saturated .ensures .1)
+    (leaves-saturated (formed k) (k .eliminate .ensures) (k .before .before .before .before .before .args .model .now) _ _ (t .enum-told4 .given .1) (f .saturated .ensures .0))
+
+pub decide-spec : {M : Type 1} → statement M
+decide-spec =
+    tie.close
+    (tie.spec
+    eliminate-requires
+    enum-told
+    refuse-requires
+    enum-told-2
+    refuse-requires-2
+    enum-told-3
+    without-model-requires
+    enum-told-4
+    saturated-requires
+    same-length
+    returns
+    same-length-2
+    returns-2
+    same-length-3
+    same-length-4
+    returns-3
+    same-length-5
+    same-length-6
+    returns-4)

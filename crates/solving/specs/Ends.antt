@@ -1,0 +1,39 @@
+-- What the functions for the ends of a course say and leave.
+use mathlib.Core.Path.{_≡_}
+use mathlib.Core.List.{List, _++_}
+use mathlib.Core.Option.{Option, none, some}
+use Prim.Native.Nat.{ℕ}
+use lib.ListN.{drop}
+use Rattle.types.specs.declared.answers.Refusal.{Refusal}
+use Rattle.types.specs.declared.answers.Verdict.{Verdict}
+use Rattle.types.specs.declared.answers.Verdict.the-variants.{Satisfiable, Unwritten}
+use Rattle.types.specs.declared.answers.Answer.the-variants.{Decided, Refused}
+use Rattle.types.specs.declared.answers.Solved.{Solved}
+use Rattle.rules.specs.Elimination.{order}
+use Rattle.rules.specs.Values.{walk}
+use Rattle.rules.specs.Model.{written}
+use Rattle.line_bytes.specs.Places.{zeroed}
+use Rattle.proof_lines.specs.Held.{linesIn}
+use Rattle.elimination.specs.declared.Course.{Course}
+
+abbrev pub refusedBy : Refusal → Course → Solved
+refusedBy f c = record { answer = Refused f (c .steps); pairs = c .pairs }
+
+abbrev pub decidedBy : Verdict → Course → Solved
+decidedBy v c = record { answer = Decided v (c .steps); pairs = c .pairs }
+
+-- the walk's sheet, or none
+pub record Agrees (c : Course) (bytes model after : List ℕ) (s : Solved) : Type 0 where
+  pub said : s ≡ decidedBy Satisfiable c
+  pub left : after ≡ bytes ++ drop 64 model
+
+pub record Unagreed (c : Course) (model after : List ℕ) (s : Solved) : Type 0 where
+  pub said : s ≡ decidedBy Unwritten c
+  pub left : after ≡ zeroed 0 1 model
+
+abbrev pub WrittenBy : Option (List ℕ) → Course → List ℕ → List ℕ → Solved → Type 0
+WrittenBy none c model after s = Unagreed c model after s
+WrittenBy (some bytes) c model after s = Agrees c bytes model after s
+
+abbrev pub Written : ℕ → ℕ → Course → List ℕ → List ℕ → List ℕ → Solved → Type 0
+Written b r c proof model after s = WrittenBy (written b r (walk order (linesIn proof (c .steps)))) c model after s

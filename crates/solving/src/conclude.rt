@@ -1,0 +1,89 @@
+// What each end of a course leaves: the answer, the proof's bytes and the model's.
+use elimination::Course;
+use line_bytes::steps::zero;
+use model_bytes::write_model;
+use types::answers::Answer;
+use types::answers::Refusal;
+use types::answers::Solved;
+use types::answers::Verdict;
+use types::limits::Limits;
+use walk::backwards::walk;
+ghost use mathlib.Core.Path.{_≡_};
+ghost use Prim.Native.Nat.{_*_, _≤_};
+ghost use lib.ListN.{length};
+ghost use Rattle.types.specs.declared.answers.Verdict.the-variants as verdict;
+ghost use Rattle.line_bytes.specs.Places.{zeroed};
+ghost use Rattle.proof_lines.specs.Held.{ReadyLines};
+ghost use Rattle.walk.specs.Narrow.{Narrow};
+ghost use Rattle.solving.specs.Ends.{refusedBy, decidedBy, Written};
+
+// "zero the book's 65,536 bytes and leave the sheet"
+pub fn refuse(proof: &mut [u8], f: Refusal, c: Course, limits: Limits) -> Solved
+    requires { ⌜ 64 * limits .steps ≤ length (now proof) ⌝ }
+    ensures { λ s. ⌜ s ≡ refusedBy f c ⌝ }
+    ensures { λ _. ⌜ now (proof .exit) ≡ zeroed 0 (limits .steps) (now (proof .entry)) ⌝ }
+{
+    zero(proof, 0, limits.steps as usize);
+    Solved {
+        answer: Answer::Refused(f, c.steps),
+        pairs: c.pairs,
+    }
+}
+
+fn decided(v: Verdict, c: Course) -> Solved
+    ensures { λ s. ⌜ s ≡ decidedBy v c ⌝ }
+{
+    Solved {
+        answer: Answer::Decided(v, c.steps),
+        pairs: c.pairs,
+    }
+}
+
+// "The book's unused lines are 0; the sheet's 64 bytes are 0 unless "agrees"."
+pub fn without_model(
+    proof: &mut [u8],
+    model: &mut [u8],
+    v: Verdict,
+    c: Course,
+    limits: Limits,
+) -> Solved
+    requires { ⌜ c .steps ≤ limits .steps ⌝ }
+    requires { ⌜ 64 * limits .steps ≤ length (now proof) ⌝ }
+    requires { ⌜ 64 ≤ length (now model) ⌝ }
+    ensures { λ s. ⌜ s ≡ decidedBy v c ⌝ }
+    ensures { λ _. ⌜ now (proof .exit) ≡ zeroed (c .steps) (limits .steps) (now (proof .entry)) ⌝ }
+    ensures { λ _. ⌜ now (model .exit) ≡ zeroed 0 1 (now (model .entry)) ⌝ }
+{
+    zero(proof, c.steps, limits.steps as usize);
+    zero(model, 0, 1);
+    decided(v, c)
+}
+
+// "Without an empty line, turns are walked backwards."
+pub fn saturated(
+    b: u8,
+    r: u8,
+    proof: &mut [u8],
+    model: &mut [u8],
+    c: Course,
+    limits: Limits,
+) -> Solved
+    requires { ⌜ b ≤ 16 ⌝ }
+    requires { ⌜ r ≤ 8 ⌝ }
+    requires { ⌜ c .steps ≤ limits .steps ⌝ }
+    requires { ⌜ 64 * limits .steps ≤ length (now proof) ⌝ }
+    requires { ⌜ 64 ≤ length (now model) ⌝ }
+    requires { ⌜ ReadyLines (now proof) (c .steps) ⌝ }
+    requires { ⌜ Narrow (now proof) (c .steps) r ⌝ }
+    ensures { λ s. ⌜ Written b r c (now (proof .entry)) (now (model .entry)) (now (model .exit)) s ⌝ }
+    ensures { λ _. ⌜ now (proof .exit) ≡ zeroed (c .steps) (limits .steps) (now (proof .entry)) ⌝ }
+{
+    let w = walk(proof, c.steps, r);
+    if !w.written {
+        return without_model(proof, model, Verdict::Unwritten, c, limits);
+    }
+    let m = w.model;
+    zero(proof, c.steps, limits.steps as usize);
+    write_model(model, b, r, m);
+    decided(Verdict::Satisfiable, c)
+}

@@ -1,0 +1,42 @@
+// A question that was read without fault: its course, and what the end of it leaves.
+use crate::conclude::refuse;
+use crate::conclude::saturated;
+use crate::conclude::without_model;
+use elimination::End;
+use elimination::eliminate;
+use types::answers::Refusal;
+use types::answers::Solved;
+use types::answers::Verdict;
+use types::limits::Limits;
+ghost use Prim.Native.Nat.{_*_, _≤_};
+ghost use lib.ListN.{length};
+ghost use Rattle.rules.specs.Elimination.{limited, course};
+ghost use Rattle.rules.specs.Calls.{concluded};
+ghost use Rattle.reading.specs.Parsed.{problemAt};
+ghost use Rattle.reading.specs.Readable.{Readable};
+ghost use Rattle.solving.specs.Leaves.{Leaves};
+
+pub fn decide(
+    question: &[u8],
+    b: u8,
+    r: u8,
+    n: u64,
+    proof: &mut [u8],
+    model: &mut [u8],
+    limits: Limits,
+) -> Solved
+    requires { ⌜ Readable (now question) b r n ⌝ }
+    requires { ⌜ 64 * limits .steps ≤ length (now proof) ⌝ }
+    requires { ⌜ 64 ≤ length (now model) ⌝ }
+    requires { ⌜ limits .steps ≤ 65536 ⌝ }
+    ensures { λ s. ⌜ Leaves limits (concluded (problemAt (now (question .entry)) b r n) (course (limited limits) (problemAt (now (question .entry)) b r n))) (now (proof .entry)) (now (model .entry)) (now (proof .exit)) (now (model .exit)) s ⌝ }
+{
+    let c = eliminate(question, b, r, n, proof, limits);
+    let end = c.end;
+    match end {
+        End::Overflow => refuse(proof, Refusal::Overflow, c, limits),
+        End::OutOfSteps => refuse(proof, Refusal::OutOfSteps, c, limits),
+        End::Empty => without_model(proof, model, Verdict::Unsatisfiable, c, limits),
+        End::Saturated => saturated(b, r, proof, model, c, limits),
+    }
+}

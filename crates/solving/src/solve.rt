@@ -1,0 +1,49 @@
+// "1 to 3 are tested in order, 4 to 11 as fields are read, then 12, 13. 1 to 13 report no pairs and alter no byte."
+use crate::decide::decide;
+use reader::cursor::Scan;
+use reading::read::read;
+use types::answers::Answer;
+use types::answers::Refusal;
+use types::answers::Solved;
+use types::limits::Limits;
+ghost use mathlib.Core.Path.{_≡_};
+ghost use Prim.Native.Nat.{_≤_};
+ghost use Rattle.types.specs.Limits.{standard};
+ghost use Rattle.rules.specs.Calls.{lent, solve};
+ghost use Rattle.solving.specs.Leaves.{Leaves, faultedBy};
+
+fn faulted(f: Refusal, place: usize) -> Solved
+    ensures { λ s. ⌜ s ≡ faultedBy f place ⌝ }
+{
+    Solved {
+        answer: Answer::Refused(f, place),
+        pairs: 0,
+    }
+}
+
+// With every limit of lines up to 65,536.
+pub fn solve_within(question: &[u8], proof: &mut [u8], model: &mut [u8], limits: Limits) -> Solved
+    requires { ⌜ limits .steps ≤ 65536 ⌝ }
+    ensures { λ s. ⌜ Leaves limits (lent limits (now (question .entry)) (now (proof .entry)) (now (model .entry))) (now (proof .entry)) (now (model .entry)) (now (proof .exit)) (now (model .exit)) s ⌝ }
+{
+    if proof.len() < limits.proof_bytes() {
+        return faulted(Refusal::ShortProof, 0);
+    }
+    if model.len() < Limits::MODEL_BYTES {
+        return faulted(Refusal::ShortModel, 0);
+    }
+    let s = read(question);
+    match s {
+        Scan::Fault(f, place) => faulted(f, place),
+        Scan::Sound(b, r, n) => decide(question, b, r, n, proof, model, limits),
+    }
+}
+
+// With the limits of a caller who lends the whole proof.
+pub fn solve(question: &[u8], proof: &mut [u8], model: &mut [u8]) -> Solved
+    ensures { λ s. ⌜ s ≡ solve standard (now (question .entry)) (now (proof .entry)) (now (model .entry)) .solved ⌝ }
+    ensures { λ _. ⌜ now (proof .exit) ≡ solve standard (now (question .entry)) (now (proof .entry)) (now (model .entry)) .proof ⌝ }
+    ensures { λ _. ⌜ now (model .exit) ≡ solve standard (now (question .entry)) (now (proof .entry)) (now (model .entry)) .model ⌝ }
+{
+    solve_within(question, proof, model, Limits::standard())
+}

@@ -1,0 +1,4 @@
+pub mod Sides
+pub mod Pairs
+pub mod Rounds
+pub mod Turns

@@ -1,0 +1,254 @@
+-- A turn: each of its uppers with each of its lowers, what is left of the pairs at each point.
+use mathlib.Core.Path.{_≡_, refl, sym, ap, subst, _∙_}
+use mathlib.Core.Bool.{Bool, true, false, _&&_}
+use mathlib.Core.List.{List, [], _∷_, _++_, map}
+use mathlib.Core.Option.{Option, none, some}
+use Prim.Native.Nat.{ℕ, suc, _+_, _*_, _≤_, _<_}
+use native.Mathlib.Omega.{arith}
+use lib.Dec.{eqb}
+use lib.ListN.{length}
+use mir.Facts.{and-yes}
+use Rattle.types.specs.declared.limits.Limits.{Limits}
+use Rattle.rules.specs.Lines as rules
+use Rattle.rules.specs.Lines.{positively, negatively}
+use Rattle.rules.specs.Steps.{Step, resolved}
+use Rattle.rules.specs.Needs.{pairsOf}
+use Rattle.rules.specs.Resolve.{resolve}
+use Rattle.rules.specs.Elimination.{Stops, State, running, ended, limited, order, roundOf, Numbered, Pair, pairUp, sideOf, roundPairs, tried, tryAll}
+use Rattle.lines.specs.Line.{meaning}
+use Rattle.lists.specs.Tests.{is-true, of-true}
+use Rattle.proof_lines.specs.Held.{stepAt, lineAt}
+use Rattle.line_bytes.specs.Decoding.{decoded}
+use Rattle.placing.specs.declared.place.Progress.{Progress}
+use Rattle.placing.specs.declared.place.Progress.the-variants.{Running, Empty, Overflow, OutOfSteps}
+use Rattle.placing.specs.declared.place.Point.{Point}
+use Rattle.placing.specs.Steps.{stepsIn}
+use Rattle.placing.specs.Point.{stateOf, stateAt, Standing, Leads, leads-none, leads-trans, leads-steps, leads-step, pairs-at, add-pairs, isRunning, running-yes, Reaches}
+use Rattle.turns.specs.declared.side.Variable.{Variable}
+use Rattle.turns.specs.Sides.{variableOf, Ranged, onSide, chosen, numbered, selected, selected-here, selected-end, Next}
+use Rattle.turns.specs.Pairs.{pairOf, settled, resultOf, Pairable}
+
+-- ---- the count
+tried-pairs : (stops : Stops) (v : rules.Variable) (p : Pair) (o : Option rules.Line) (steps : List Step) (n : ℕ) → pairsOf (tried stops v p o steps n) ≡ n
+unfolding tried pairsOf
+tried-pairs stops v p none steps n = refl
+tried-pairs stops v p (some l) steps n = add-pairs stops (stops .atLine l) (record { origin = resolved v (p .upper .number) (p .lower .number); line = l }) steps n
+
+-- ---- the pairs that are left
+-- of the uppers from number i on; and of upper i the lowers from number j on, with the later uppers
+module _ (proof : List ℕ) (m : ℕ) (v : rules.Variable) (t : ℕ) where
+  abbrev pub lowers : ℕ → List Numbered
+  lowers j = selected (chosen false v t) proof m j
+
+  unfoldable pub later : ℕ → List Pair
+  later i = pairUp (selected (chosen true v t) proof m i) (lowers 0)
+
+  unfoldable pub within : ℕ → ℕ → List Pair
+  within i j = map (λ l. record { upper = numbered proof i; lower = l }) (lowers j) ++ later (i + 1)
+
+  pub later-all : later 0 ≡ roundPairs order v t (stepsIn proof m)
+  unfolding later selected chosen onSide roundPairs sideOf
+  later-all = refl
+
+  pub later-upper : (i : ℕ) → i < m → chosen true v t (meaning (lineAt proof i)) ≡ true → later i ≡ within i 0
+  unfolding later within pairUp
+  later-upper i h e = rw (selected-here (chosen true v t) proof m i h e)
+
+  pub later-end : (i : ℕ) → m ≤ i → later i ≡ []
+  unfolding later pairUp
+  later-end i h = rw (selected-end (chosen true v t) proof m i h)
+
+  pub within-lower : (i j : ℕ) → j < m → chosen false v t (meaning (lineAt proof j)) ≡ true → within i j ≡ pairOf proof i j ∷ within i (j + 1)
+  unfolding within
+  within-lower i j h e = ap (λ (ls : List Numbered). map (λ l. record { upper = numbered proof i; lower = l }) ls ++ later (i + 1)) (selected-here (chosen false v t) proof m j h e)
+
+  pub within-end : (i j : ℕ) → m ≤ j → within i j ≡ later (i + 1)
+  unfolding within
+  within-end i j h = ap (λ (ls : List Numbered). map (λ l. record { upper = numbered proof i; lower = l }) ls ++ later (i + 1)) (selected-end (chosen false v t) proof m j h)
+
+  -- from one number to the next
+  pub later-next : {i r : ℕ} → Next proof m (chosen true v t) i r → later i ≡ later r
+  unfolding later
+  later-next n = ap (λ (us : List Numbered). pairUp us (lowers 0)) (n .same)
+
+  pub within-next : (i : ℕ) {j r : ℕ} → Next proof m (chosen false v t) j r → within i j ≡ within i r
+  unfolding within
+  within-next i n = ap (λ (ls : List Numbered). map (λ l. record { upper = numbered proof i; lower = l }) ls ++ later (i + 1)) (n .same)
+
+-- what is chosen, and where it is looked for, as the bytes grow
+module _ {limits : Limits} {before after : List ℕ} {m n : ℕ} (leads : Leads limits before m after n) (room : 64 * m ≤ length before) where
+  pub line-same : (i : ℕ) → i < m → lineAt after i ≡ lineAt before i
+  unfolding lineAt
+  line-same i h = ap decoded (leads-step leads room i h)
+
+  pub next-same : {test : rules.Line → Bool} {from r : ℕ} → Next after m test from r → Next before m test from r
+  unfolding selected
+  next-same {r = r} k =
+      record {
+        behind = k .behind;
+        within = k .within;
+        same = rw (leads-steps leads room m (omega arith)) at (k .same);
+        passes = λ h. rw (line-same r h) at (k .passes h);
+      }
+
+chosen-side : (upper : Bool) (v : rules.Variable) (t : ℕ) (l : rules.Line) → chosen upper v t l ≡ true → onSide upper v l ≡ true
+unfolding chosen
+chosen-side upper v t l e = is-true (onSide upper v l) (and-yes (onSide upper v l) (eqb (roundOf order l) t) (of-true (onSide upper v l && eqb (roundOf order l) t) e) .0)
+
+-- ---- a point of the turn
+module _ (limits : Limits) (v : Variable) (t : ℕ) (start : List ℕ) (from : Point) where
+  -- the whole turn
+  abbrev pub turned : State
+  turned = tryAll (limited limits) (variableOf v) (roundPairs order (variableOf v) t (stepsIn start (from .steps))) (running (stepsIn start (from .steps)) (from .pairs))
+
+  -- these pairs are left, and so many at most were tried
+  pub record Turning (proof : List ℕ) (p : Point) (left : List Pair) (count : ℕ) : Type 0 where
+    pub leads : Leads limits start (from .steps) proof (p .steps)
+    pub counted : p .pairs ≤ from .pairs + count
+    pub same : tryAll (limited limits) (variableOf v) left (stateAt proof p) ≡ turned
+
+  abbrev pub laterUppers : ℕ → List Pair
+  laterUppers i = later start (from .steps) (variableOf v) t i
+
+  abbrev pub laterLowers : ℕ → ℕ → List Pair
+  laterLowers i j = within start (from .steps) (variableOf v) t i j
+
+  abbrev pub isChosen : Bool → ℕ → Type 0
+  isChosen upper i = chosen upper (variableOf v) t (meaning (lineAt start i)) ≡ true
+
+  pub turning-as : {proof : List ℕ} {p : Point} {left rest : List Pair} {c d : ℕ} → left ≡ rest → Turning proof p left c → c ≤ d → Turning proof p rest d
+  turning-as {proof} {p} e r h = record { leads = r .leads; counted = omega (arith, r .counted); same = ap (λ (ps : List Pair). tryAll (limited limits) (variableOf v) ps (stateAt proof p)) (sym e) ∙ r .same }
+
+  ended-stays : (ps : List Pair) (proof : List ℕ) (p : Point) → isRunning (p .progress) ≡ false → stateAt proof p ≡ tryAll (limited limits) (variableOf v) ps (stateAt proof p)
+  unfolding stateAt stateOf tryAll
+  ended-stays [] proof p g = refl
+  ended-stays (x ∷ ps) proof p g = by (p .progress) g
+    where
+      by : (e : Progress) → isRunning e ≡ false → stateOf e (stepsIn proof (p .steps)) (p .pairs) ≡ tryAll (limited limits) (variableOf v) (x ∷ ps) (stateOf e (stepsIn proof (p .steps)) (p .pairs))
+      by Running g = let z : _≡_ {A = ℕ} 0 1 = cc in absurd (omega arith)
+      by Empty g = refl
+      by Overflow g = refl
+      by OutOfSteps g = refl
+
+  -- at the two loops' tests: of the uppers, and of the lowers of upper i
+  pub record AtUpper (proof : List ℕ) (p : Point) (i : ℕ) : Type 0 where
+    pub going : p .progress ≡ Running
+    pub turning : Turning proof p (laterUppers i) (65536 * i)
+    pub few : i ≤ from .steps
+    pub upper : i < from .steps → isChosen true i
+
+  pub record AtLower (proof : List ℕ) (p : Point) (i j : ℕ) : Type 0 where
+    pub going : p .progress ≡ Running
+    pub turning : Turning proof p (laterLowers i j) (65536 * i + j)
+    pub few : j ≤ from .steps
+    pub lower : j < from .steps → isChosen false j
+
+  module _ (standing : Standing limits start (from .steps)) where
+    within-none : from .pairs ≤ from .pairs + 0
+    within-none = omega arith
+
+    pub upper-first : {i : ℕ} → from .progress ≡ Running → Next start (from .steps) (chosen true (variableOf v) t) 0 i → AtUpper start from i
+    unfolding stateAt stateOf
+    upper-first g n =
+        record {
+          going = g;
+          turning =
+              turning-as (later-next start (from .steps) (variableOf v) t n)
+              (record {
+                leads = leads-none standing;
+                counted = within-none;
+                same =
+                    (λ x. tryAll (limited limits) (variableOf v) (later-all start (from .steps) (variableOf v) t x) (stateOf (g x) (stepsIn start (from .steps)) (from .pairs)));
+              })
+              (omega arith);
+          few = n .within;
+          upper = n .passes;
+        }
+
+    module _ {proof : List ℕ} {p : Point} {i : ℕ} where
+      pub upper-done : AtUpper proof p i → from .steps ≤ i → Reaches limits start from proof p turned
+      unfolding tryAll
+      upper-done r h =
+          record {
+            is = ap (λ (ps : List Pair). tryAll (limited limits) (variableOf v) ps (stateAt proof p)) (sym (later-end start (from .steps) (variableOf v) t i h)) ∙ r .turning .same;
+            leads = r .turning .leads;
+          }
+
+      pub lower-first : {j : ℕ} → AtUpper proof p i → i < from .steps → Next start (from .steps) (chosen false (variableOf v) t) 0 j → AtLower proof p i j
+      lower-first r h n =
+          record {
+            going = r .going;
+            turning = turning-as (later-upper start (from .steps) (variableOf v) t i h (r .upper h) ∙ within-next start (from .steps) (variableOf v) t i n) (r .turning) (omega arith);
+            few = n .within;
+            lower = n .passes;
+          }
+
+      pub upper-next : {j k : ℕ} → AtLower proof p i j → from .steps ≤ j → from .steps ≤ 65536 → Next proof (from .steps) (chosen true (variableOf v) t) (i + 1) k → AtUpper proof p k
+      upper-next {j = j} r h f n =
+          let at = next-same (r .turning .leads) (standing .held .room) n in
+          record {
+            going = r .going;
+            turning = turning-as (within-end start (from .steps) (variableOf v) t i j h ∙ later-next start (from .steps) (variableOf v) t at) (r .turning) (omega (arith, at .behind, r .few));
+            few = at .within;
+            upper = at .passes;
+          }
+
+    -- one pair more
+    module _ {proof : List ℕ} {p : Point} {i j : ℕ} (r : AtLower proof p i j) (at-upper : i < from .steps) (upper : isChosen true i) (at-lower : j < from .steps) where
+      same-line : (k : ℕ) → k < from .steps → lineAt proof k ≡ lineAt start k
+      same-line = line-same (r .turning .leads) (standing .held .room)
+
+      pub pairable : Ranged v → limits .steps ≤ 65536 → from .pairs ≤ 900000000000 → Pairable proof v i j p
+      unfolding onSide
+      pairable g f n =
+          record {
+            ranged = g;
+            upper-held = omega (arith, r .turning .leads .grows);
+            lower-held = omega (arith, r .turning .leads .grows);
+            few = omega (arith, r .turning .leads .standing .few);
+            countable = omega (arith, r .turning .counted, standing .few);
+            upper = rw (same-line i at-upper) (chosen-side true (variableOf v) t (meaning (lineAt start i)) upper);
+            lower = rw (same-line j at-lower) (chosen-side false (variableOf v) t (meaning (lineAt start j)) (r .lower at-lower));
+          }
+
+      module _ {after : List ℕ} {q : Point} (reaches : Reaches limits proof p after q (settled limits proof v i j (resultOf proof v i j) p (suc (p .pairs)))) where
+        pub turning-pair : Turning after q (laterLowers i (j + 1)) (65536 * i + (j + 1))
+        unfolding stateAt stateOf tryAll
+        turning-pair =
+            let stops = limited limits in
+            let w = variableOf v in
+            let steps = stepsIn proof (p .steps) in
+            let rest = laterLowers i (j + 1) in
+            let tried-same : tried stops w (pairOf proof i j) (resultOf proof v i j) steps (suc (p .pairs)) ≡ tried stops w (pairOf start i j) (resultOf start v i j) steps (suc (p .pairs)) =
+            (λ x.
+            let u = meaning (same-line i at-upper x) in
+            let l = meaning (same-line j at-lower x) in
+            tried stops w (record { upper = record { number = i; line = u }; lower = record { number = j; line = l } }) (resolve w u l) steps (suc (p .pairs))) in
+            let before : tryAll stops w (pairOf start i j ∷ rest) (running steps (p .pairs)) ≡ turned =
+            (λ x. tryAll stops w (sym (within-lower start (from .steps) w t i j at-lower (r .lower at-lower)) x) (stateOf (sym (r .going) x) steps (p .pairs))) ∙ r .turning .same in
+            record {
+              leads = leads-trans (r .turning .leads) (reaches .leads);
+              counted = omega (arith, r .turning .counted, sym (pairs-at after q) ∙ ap pairsOf (reaches .is) ∙ tried-pairs stops w (pairOf proof i j) (resultOf proof v i j) steps (suc (p .pairs)));
+              same = ap (tryAll stops w rest) (reaches .is ∙ tried-same) ∙ before;
+            }
+
+        pub lower-next : {k : ℕ} → isRunning (q .progress) ≡ true → Next after (from .steps) (chosen false (variableOf v) t) (j + 1) k → AtLower after q i k
+        lower-next g n =
+            let at = next-same (turning-pair .leads) (standing .held .room) n in
+            record {
+              going = running-yes (q .progress) g;
+              turning = turning-as (within-next start (from .steps) (variableOf v) t i at) turning-pair (omega (arith, at .behind));
+              few = at .within;
+              lower = at .passes;
+            }
+
+        -- an end stays
+        pub turn-ended : isRunning (q .progress) ≡ false → Reaches limits start from after q turned
+        turn-ended g = record { is = ended-stays (laterLowers i (j + 1)) after q g ∙ turning-pair .same; leads = turning-pair .leads }
+
+-- at the loop over the lowers of upper i, before it
+pub record Entered (limits : Limits) (v : Variable) (t m first : ℕ) (start : List ℕ) (from : Point) (proof : List ℕ) (p : Point) (i : ℕ) : Type 0 where
+  pub steps : from .steps ≡ m
+  pub standing : Standing limits start (from .steps)
+  pub first-lower : Next start (from .steps) (chosen false (variableOf v) t) 0 first
+  pub at : AtUpper limits v t start from proof p i

@@ -1,0 +1,122 @@
+-- The turns by their numbers: each takes the next variable of the order, until none is left.
+use mathlib.Core.Path.{_≡_, refl, sym, ap, _∙_}
+use mathlib.Core.Bool.{Bool, true, false}
+use mathlib.Core.List.{List, [], _∷_, _++_}
+use Prim.Native.Nat.{ℕ, suc, _+_, _*_, _-_, _≤_, _<_}
+use native.Mathlib.Numerals.{add-one}
+use native.Mathlib.Omega.{arith}
+use lib.ListN.{length, getD, drop, length-append, drop-of-length-le, List·getD-append}
+use lib.Seq.{drop-cons, getD-append-add}
+use Rattle.types.specs.declared.limits.Limits.{Limits}
+use Rattle.rules.specs.Lists.{tabulate}
+use Rattle.rules.specs.Lines as rules
+use Rattle.rules.specs.Lines.{rational, boolean}
+use Rattle.rules.specs.Elimination.{State, running, limited, order, roundPairs, tryAll, rounds}
+use Rattle.lists.specs.Tabulated.{length-tabulate, getD-tabulate}
+use Rattle.placing.specs.declared.place.Progress.{Progress}
+use Rattle.placing.specs.declared.place.Progress.the-variants.{Running, Empty, Overflow, OutOfSteps}
+use Rattle.placing.specs.declared.place.Point.{Point}
+use Rattle.placing.specs.Steps.{stepsIn}
+use Rattle.placing.specs.Point.{stateOf, stateAt, Standing, Leads, leads-none, leads-trans, isRunning, Reaches}
+use Rattle.turns.specs.declared.side.Variable.{Variable}
+use Rattle.turns.specs.declared.side.Variable.the-variants.{Rational, Boolean}
+use Rattle.turns.specs.Sides.{variableOf}
+use Rattle.turns.specs.Rounds.{turned}
+
+-- ---- the order by number
+length-order : length order ≡ 40
+unfolding order tabulate
+length-order = refl
+
+order-rational : (t : ℕ) → t < 8 → drop t order ≡ rational t ∷ drop (suc t) order
+unfolding order
+order-rational t h =
+    let us : List rules.Variable = tabulate 8 rational in
+    let is : List rules.Variable = tabulate 32 boolean in
+    drop-cons order t (rational 0) (omega (arith, length-order))
+    ∙ ap (λ (v : rules.Variable). v ∷ drop (suc t) order) (List·getD-append us is (rational 0) t (omega (arith, length-tabulate 8 rational)) ∙ getD-tabulate 8 rational t (rational 0) h)
+
+order-boolean : (i : ℕ) → i < 32 → drop (8 + i) order ≡ boolean i ∷ drop (suc (8 + i)) order
+unfolding order
+order-boolean i h =
+    let us : List rules.Variable = tabulate 8 rational in
+    let is : List rules.Variable = tabulate 32 boolean in
+    let at : 8 + i ≡ length us + i = omega (arith, length-tabulate 8 rational) in
+    drop-cons order (8 + i) (rational 0) (omega (arith, length-order))
+    ∙ ap (λ (v : rules.Variable). v ∷ drop (suc (8 + i)) order) (ap (λ (k : ℕ). getD order k (rational 0)) at ∙ getD-append-add us is i (rational 0) ∙ getD-tabulate 32 boolean i (rational 0) h)
+
+-- ---- one turn
+-- the turns that are left come to the same after it
+pub record Turned (limits : Limits) (t : ℕ) (before : List ℕ) (from : Point) (after : List ℕ) (p : Point) : Type 0 where
+  pub same : rounds (limited limits) order (suc t) (drop (suc t) order) (stateAt after p) ≡ rounds (limited limits) order t (drop t order) (stateAt before from)
+  pub leads : Leads limits before (from .steps) after (p .steps)
+  pub counted : p .pairs ≤ from .pairs + 4294967296
+
+module _ {limits : Limits} {t : ℕ} {before : List ℕ} {from : Point} (going : from .progress ≡ Running) where
+  by-variable : (v : Variable) → drop t order ≡ variableOf v ∷ drop (suc t) order → {after : List ℕ} {p : Point}
+      → Reaches limits before from after p (turned limits v t before from) → p .pairs ≤ from .pairs + 4294967296 → Turned limits t before from after p
+  unfolding stateAt stateOf rounds
+  by-variable v e r c =
+      let vs = drop (suc t) order in
+      record {
+        same =
+            ap (rounds (limited limits) order (suc t) vs) (r .is)
+            ∙ sym (λ x. rounds (limited limits) order t (e x) (stateOf (going x) (stepsIn before (from .steps)) (from .pairs)));
+        leads = r .leads;
+        counted = c;
+      }
+
+  pub turned-rational : t < 8 → {after : List ℕ} {p : Point} → Reaches limits before from after p (turned limits (Rational t) t before from) → p .pairs ≤ from .pairs + 4294967296 → Turned limits t before from after p
+  unfolding variableOf
+  turned-rational h r c = by-variable (Rational t) (order-rational t h) r c
+
+  pub turned-boolean : 8 ≤ t → t < 40 → {after : List ℕ} {p : Point} → Reaches limits before from after p (turned limits (Boolean (t - 8)) t before from) → p .pairs ≤ from .pairs + 4294967296 → Turned limits t before from after p
+  unfolding variableOf
+  turned-boolean l h r c = let e : 8 + (t - 8) ≡ t = omega arith in by-variable (Boolean (t - 8)) (rw e at (order-boolean (t - 8) (omega arith))) r c
+
+  pub turned-none : Standing limits before (from .steps) → 40 ≤ t → Turned limits t before from before from
+  unfolding rounds
+  turned-none s h =
+      let l : length order ≤ t = omega (arith, length-order) in
+      let k : length order ≤ suc t = omega (arith, length-order) in
+      record { same = rw (drop-of-length-le order l, drop-of-length-le order k); leads = leads-none s; counted = omega arith }
+
+-- ---- at the loop's test
+pub record AtTurn (limits : Limits) (start : List ℕ) (from : Point) (proof : List ℕ) (p : Point) (t : ℕ) : Type 0 where
+  pub leads : Leads limits start (from .steps) proof (p .steps)
+  pub counted : p .pairs ≤ from .pairs + 4294967296 * t
+  pub few : t ≤ 40
+  pub same : rounds (limited limits) order t (drop t order) (stateAt proof p) ≡ rounds (limited limits) order 0 order (stateAt start from)
+
+module _ {limits : Limits} {start : List ℕ} {from : Point} where
+  pub turns-start : Standing limits start (from .steps) → AtTurn limits start from start from 0
+  turns-start s = record { leads = leads-none s; counted = omega arith; few = omega arith; same = refl }
+
+  module _ {proof : List ℕ} {p : Point} {t : ℕ} (at : AtTurn limits start from proof p t) where
+    pub turns-next : {after : List ℕ} {q : Point} → t < 40 → Turned limits t proof p after q → AtTurn limits start from after q (t + 1)
+    turns-next {after} {q} h r =
+        record {
+          leads = leads-trans (at .leads) (r .leads);
+          counted = omega (arith, at .counted, r .counted);
+          few = omega arith;
+          same = ap (λ (k : ℕ). rounds (limited limits) order k (drop k order) (stateAt after q)) (add-one t) ∙ r .same ∙ at .same;
+        }
+
+    pub turns-done : 40 ≤ t → Reaches limits start from proof p (rounds (limited limits) order 0 order (stateAt start from))
+    unfolding rounds
+    turns-done h =
+        let l : length order ≤ t = omega (arith, length-order) in
+        record { is = ap (λ (vs : List rules.Variable). rounds (limited limits) order t vs (stateAt proof p)) (sym (drop-of-length-le order l)) ∙ at .same; leads = at .leads }
+
+    -- an end stays
+    pub turns-ended : isRunning (p .progress) ≡ false → Reaches limits start from proof p (rounds (limited limits) order 0 order (stateAt start from))
+    unfolding stateAt stateOf rounds
+    turns-ended g = record { is = stays (drop t order) (p .progress) g ∙ at .same; leads = at .leads }
+      where
+        stays : (vs : List rules.Variable) (e : Progress) → isRunning e ≡ false
+            → stateOf e (stepsIn proof (p .steps)) (p .pairs) ≡ rounds (limited limits) order t vs (stateOf e (stepsIn proof (p .steps)) (p .pairs))
+        stays [] e g = refl
+        stays (v ∷ vs) Running g = let z : _≡_ {A = ℕ} 0 1 = cc in absurd (omega arith)
+        stays (v ∷ vs) Empty g = refl
+        stays (v ∷ vs) Overflow g = refl
+        stays (v ∷ vs) OutOfSteps g = refl

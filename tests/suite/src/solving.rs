@@ -1,0 +1,185 @@
+//! Solving: the proved code and the second solver give the same answer and leave the same bytes in
+//! book and sheet; and what a verdict hands back, the proved checks accept.
+
+use crate::buffers::{BOOK_LENGTH, SHEET_LENGTH};
+use crate::report::{demand, equal, Group, Outcome, Sums};
+use crate::{examples, vectors};
+use questions::largest;
+use questions::problem::{at_most, Problem};
+use questions::random::Random;
+use reference::{Answer, Checked, Part, Verdict};
+use std::collections::BTreeMap;
+
+const SEED: u64 = 7;
+const RANDOM: usize = 200_000;
+const LENGTHS: [usize; 8] = [0, 1, 63, 64, 65, 65_535, 65_536, 65_600];
+
+pub fn run(sums: &mut Sums) {
+    solve_vectors(sums);
+    solve_examples(sums);
+    solve_random(sums);
+    solve_lengths(sums);
+    solve_largest(sums);
+}
+
+/// Both solve with buffers of these lengths, filled alike, and must leave them alike.
+fn compare_lengths(question: &[u8], book: usize, sheet: usize, fill: u8) -> Result<Answer, String> {
+    let filled = |length| -> Vec<u8> { (0..length).map(|i| (i as u8) ^ fill).collect() };
+    let (mut our_book, mut our_sheet) = (filled(book), filled(sheet));
+    let (mut book, mut sheet) = (our_book.clone(), our_sheet.clone());
+    let expected = reference::solve(question, &mut book, &mut sheet);
+    let answer = proved::solve(question, &mut our_book, &mut our_sheet);
+    equal("answer", &expected, &answer)?;
+    demand(book == our_book, "the books differ")?;
+    demand(sheet == our_sheet, "the sheets differ")?;
+    let part = reference::hand_back(&answer, &book, &sheet);
+    equal(
+        "part",
+        &part,
+        &proved::hand_back(&answer, &our_book, &our_sheet),
+    )?;
+    check_part(question, &answer, part)?;
+    Ok(answer)
+}
+
+/// What is handed back after a verdict is accepted by the proved checks.
+fn check_part(question: &[u8], answer: &Answer, part: Part) -> Outcome {
+    let checked = match (answer, part) {
+        (
+            Answer::Verdict {
+                verdict: Verdict::Cannot,
+                ..
+            },
+            Part::Book(book),
+        ) => proved::check_book(question, book),
+        (
+            Answer::Verdict {
+                verdict: Verdict::Agrees,
+                ..
+            },
+            Part::Sheet(sheet),
+        ) => proved::check_sheet(question, sheet),
+        _ => return Ok(()),
+    };
+    equal("check", &Checked::Accepted, &checked)
+}
+
+fn compare(question: &[u8], fill: u8) -> Result<Answer, String> {
+    compare_lengths(question, BOOK_LENGTH + 16, SHEET_LENGTH + 16, fill)
+}
+
+fn solve_vectors(sums: &mut Sums) {
+    let mut group = Group::new("solving: the vectors' questions");
+    let questions = vectors::questions();
+    for (number, question) in questions.iter().enumerate() {
+        group.case(&format!("number {number}"), || {
+            compare(question.as_ref()?, 0xab).map(|_| ())
+        });
+    }
+    group.case("some", || demand(!questions.is_empty(), "no question"));
+    group.finish(sums);
+}
+
+fn solve_examples(sums: &mut Sums) {
+    let mut group = Group::new("solving: examples 1 to 12");
+    for (name, question, expected) in examples::questions() {
+        group.case(name, || {
+            equal("answer", &expected, &compare(&question, 0xab)?)
+        });
+    }
+    group.finish(sums);
+}
+
+/// Random questions of all kinds. Each answer must come.
+fn solve_random(sums: &mut Sums) {
+    let mut group = Group::new("solving: random questions");
+    let mut random = Random::new(SEED);
+    let mut seen = BTreeMap::new();
+    for number in 0..RANDOM {
+        let question = question(&mut random);
+        group.case(&format!("number {number}"), || {
+            let answer = match compare(&question, number as u8)? {
+                Answer::Verdict { verdict, .. } => format!("{verdict:?}"),
+                Answer::Refused { number, .. } => number.to_string(),
+            };
+            *seen.entry(answer).or_insert(0_usize) += 1;
+            Ok(())
+        });
+    }
+    for answer in ["Agrees", "Cannot", "Unwritten", "4", "13", "14", "15"] {
+        let count = seen.get(answer).copied().unwrap_or(0);
+        group.case(answer, || {
+            demand(count >= 20, &format!("came {count} times only"))
+        });
+    }
+    group.finish(sums);
+}
+
+/// Small ones, large amounts, many lines, many links, damaged ones.
+fn question(random: &mut Random) -> Vec<u8> {
+    let mut question = match random.between(0, 99) {
+        0 => many_lines(random).encode(),
+        1..=9 => random.dense_problem(6).encode(),
+        _ => random.problem().encode(),
+    };
+    if random.once_in(10) {
+        let place = random.between(0, question.len() as i64 - 1) as usize;
+        question[place] = random.word() as u8;
+    }
+    if random.once_in(50) {
+        question.truncate(random.between(0, question.len() as i64) as usize);
+    }
+    question
+}
+
+/// Uppers and lowers whose pairs all differ, near the 1,024 lines.
+fn many_lines(random: &mut Random) -> Problem {
+    let (uppers, lowers) = (random.between(20, 34), random.between(20, 34));
+    let mut problem = Problem::new(0, 2);
+    for i in 1..=uppers {
+        problem = problem.clause([at_most(
+            &[1, 1 + random.between(0, 1) as i32],
+            100 * i as i32,
+        )]);
+    }
+    for j in 0..lowers {
+        problem = problem.clause([at_most(&[-1], -(j as i32))]);
+    }
+    problem
+}
+
+/// Buffers of every length about those that are asked for.
+fn solve_lengths(sums: &mut Sums) {
+    let mut group = Group::new("solving: lengths of the buffers");
+    for (name, question, _) in examples::questions() {
+        for book in LENGTHS {
+            for sheet in [0, 63, 64, 65, 128] {
+                group.case(&format!("{name}, {book}, {sheet}"), || {
+                    compare_lengths(&question, book, sheet, 0x5a).map(|_| ())
+                });
+            }
+        }
+    }
+    group.finish(sums);
+}
+
+fn solve_largest(sums: &mut Sums) {
+    let mut group = Group::new("solving: the largest run");
+    let agrees = Answer::Verdict {
+        verdict: Verdict::Agrees,
+        lines: 1_024,
+        pairs: 231_360,
+    };
+    let full = Answer::Refused {
+        number: 15,
+        place: 1_024,
+        pairs: 960,
+    };
+    for (more, expected) in [(None, agrees), (Some(13), full)] {
+        group.case(&format!("{more:?} more"), || {
+            let answer = compare(&largest::run(more).encode(), 1)?;
+            equal("answer", &expected, &answer)
+        });
+    }
+    group.finish(sums);
+}
