@@ -27,6 +27,8 @@
 extern "C" {
 #endif
 
+#define JEMULING_VERSION "1.0.0"
+
 /* In bytes: a question at most, a line of a book, a full-size book and sheet. */
 #define JEMULING_QUESTION_BYTES 32768
 #define JEMULING_LINE_BYTES 64

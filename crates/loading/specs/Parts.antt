@@ -1,20 +1,16 @@
 -- The parts of a clause put behind one another: what is left of them, and how many there are.
 use mathlib.Core.Path.{_≡_, refl, sym, ap, _∙_}
-use mathlib.Core.Bool.{Bool, true, false}
-use mathlib.Core.List.{List, [], _∷_, _++_}
-use mathlib.Core.Option.{Option, none, some}
-use Prim.Native.Nat.{ℕ, suc, _+_, _-_, _≤_, _<_}
+use mathlib.Core.Bool.{true, false}
+use mathlib.Core.List.{List, [], _∷_}
+use Prim.Native.Nat.{ℕ, _+_, _-_, _≤_, _<_}
 use native.Mathlib.Numerals.{add-one}
 use native.Mathlib.Omega.{arith}
 use lib.ListN.{length}
 use Rattle.types.specs.declared.limits.Limits.{Limits}
-use Rattle.rules.specs.Problem.{Constraint, Clause}
 use Rattle.rules.specs.Lines as rules
-use Rattle.rules.specs.Lines.{Booleans, noBooleans, including}
-use Rattle.rules.specs.Normalize.{Normal, normalClause}
-use Rattle.rules.specs.Split.{chain, parts, partsOf, splitsOf}
-use Rattle.rules.specs.Steps.{Step, loaded, header}
-use Rattle.rules.specs.Elimination.{State, running, ended, limited, partSteps, add, load}
+use Rattle.rules.specs.Split.{parts}
+use Rattle.rules.specs.Steps.{Step, header}
+use Rattle.rules.specs.Elimination.{limited, partSteps, add, load}
 use Rattle.lines.specs.declared.line.Line.{Line}
 use Rattle.lines.specs.Line.{meaning}
 use Rattle.pieces.specs.declared.parts.Parts.{Parts}
@@ -25,25 +21,6 @@ use Rattle.placing.specs.declared.place.Progress.the-variants.{Running, Empty, 
 use Rattle.placing.specs.declared.place.Point.{Point}
 use Rattle.placing.specs.Steps.{originOf, stepsIn, stepOf, Named}
 use Rattle.placing.specs.Point.{stateOf, stateAt, Standing, Leads, leads-none, leads-trans, isRunning, running-yes, Reaches}
-
--- ---- how many parts a clause has
-chain-length : (k : ℕ) (p n : Booleans) (c : Constraint) (cs : List Constraint) → length (chain k p n c cs) ≡ suc (length cs)
-unfolding chain
-chain-length k p n c [] = refl
-chain-length k p n c (d ∷ ds) = ap suc (chain-length (suc k) noBooleans (including k noBooleans) d ds)
-
-parts-few : (k : ℕ) (p n : Booleans) (cs : List Constraint) → length (parts k (record { positive = p; negative = n; constraints = cs })) ≤ suc (length cs - 1)
-unfolding parts
-parts-few k p n [] = omega arith
-parts-few k p n (c ∷ cs) = omega (arith, chain-length k p n c cs)
-
-pub parts-length : (k : ℕ) (c : Clause) → length (partsOf k c) ≤ suc (splitsOf c)
-unfolding partsOf splitsOf
-parts-length k c = by (normalClause c)
-  where
-    by : (o : Option Normal) → length {A = rules.Line} (elim o [ none ↦ [] | some n ↦ parts k n ]) ≤ suc (elim o [ none ↦ 0 | some n ↦ length (n .constraints) - 1 ])
-    by none = omega arith
-    by (some n) = parts-few k (n .positive) (n .negative) (n .constraints)
 
 -- ---- the numbers of a part's origin
 pub named-part : (c j : ℕ) → c < 65536 → j < 65536 → Named 0 0 c j

@@ -2,3 +2,4 @@ pub mod Constraint
 pub mod Skip
 pub mod Parts
 pub mod Part
+pub mod Count

@@ -13,7 +13,7 @@ use Rattle.integers.specs.Quotient.{quot-zero}
 use Rattle.rules.specs.Arithmetic.{gcdAll}
 use Rattle.rules.specs.Problem.{Constraint, Clause, Problem}
 use Rattle.rules.specs.Lines.{Booleans, noBooleans, including, Line, Variable, rational, boolean, coefficient}
-use Rattle.rules.specs.Normalize.{reduced, Settled, always, never, kept, settled, Normal, settledAll, normalClause, settledLine, normalLine}
+use Rattle.rules.specs.Normalize.{reduced, settled, Normal, settledAll, normalClause, settledLine, normalLine}
 use Rattle.rules.specs.Split.{chain, parts, partsOf, splitsOf}
 use Rattle.rules.specs.Resolve.{combination, combinationOf, oneOf, resolvent, resolve}
 use Rattle.rules.specs.Elimination.{Stops, partSteps, loadable, loadableOf, order, course}
@@ -24,6 +24,7 @@ use Rattle.resolution.specs.Settled.{settled-cases}
 use Rattle.resolution.specs.NormalLine.{line-ends}
 use Rattle.soundness.specs.WellFormed.{WellFormedConstraint, WellFormedClause, WellFormed}
 use Rattle.soundness.specs.NormalClause.{clause-ends}
+use Rattle.soundness.specs.NormalForm.{SettledTo, settled-all}
 use Rattle.soundness.specs.SplitProblem.{partSteps-all}
 use Rattle.course.specs.Closed.{course-closed}
 
@@ -47,24 +48,8 @@ module _ (f : ℕ) where
       let g = gcdAll (c .bound ∷ c .coefficients) in
       getD-quotients g (c .coefficients) f ∙ ap (λ (z : ℤ). quotZ z (pos g)) h ∙ quot-zero g
 
-  abbrev SettledWithout : Settled → Type 0
-  SettledWithout always = Unit {0}
-  SettledWithout never = Unit {0}
-  SettledWithout (kept d) = Without d
-
-  settled-without : (c : Constraint) → Without c → SettledWithout (settled c)
-  settled-without c h = settled-cases SettledWithout c (λ z r. tt) (λ z r. tt) (λ z. reduced-without c h)
-
-  one-without : (s : Settled) (o : Option (List Constraint)) → SettledWithout s → DroppedOr (All Without) o
-      → DroppedOr (All Without) (elim s [ always ↦ none | never ↦ o | kept d ↦ elim o [ none ↦ none | some ds ↦ some (d ∷ ds) ] ])
-  one-without always o e h = tt
-  one-without never o e h = h
-  one-without (kept d) o e h = dropped-then (All Without) (All Without) (λ ds. some (d ∷ ds)) o h (λ ds k. (e, k))
-
-  all-without : (cs : List Constraint) → All Without cs → DroppedOr (All Without) (settledAll cs)
-  unfolding settledAll
-  all-without [] h = tt
-  all-without (c ∷ cs) h = one-without (settled c) (settledAll cs) (settled-without c (h .0)) (all-without cs (h .1))
+  settled-without : (c : Constraint) → Without c → SettledTo Without (settled c)
+  settled-without c h = settled-cases (SettledTo Without) c (λ z r. tt) (λ z r. tt) (λ z. reduced-without c h)
 
   -- ---- parts
   abbrev pub LineWithout : Line → Type 0
@@ -83,7 +68,7 @@ module _ (f : ℕ) where
   normal-without : (c : Clause) → All Without (c .constraints) → DroppedOr (λ (n : Normal). All Without (n .constraints)) (normalClause c)
   normal-without c h =
       clause-ends (DroppedOr (λ (n : Normal). All Without (n .constraints))) c (λ m. tt)
-      (λ m. dropped-then (All Without) (λ (n : Normal). All Without (n .constraints)) _ (settledAll (c .constraints)) (all-without (c .constraints) h) (λ cs k. k))
+      (λ m. dropped-then (All Without) (λ (n : Normal). All Without (n .constraints)) _ (settledAll (c .constraints)) (settled-all Without Without settled-without (c .constraints) h) (λ cs k. k))
 
   partsOf-without : (k : ℕ) (c : Clause) → All Without (c .constraints) → All LineWithout (partsOf k c)
   unfolding partsOf

@@ -57,24 +57,26 @@ pub record Kept (c : Constraint) : Type 0 where
   pub small : SmallAmounts (some c)
   pub proper : Proper (some c)
 
-abbrev KeptSettled : Settled → Type 0
-KeptSettled always = Unit {0}
-KeptSettled never = Unit {0}
-KeptSettled (kept d) = Kept d
+-- what settling a constraint leaves has a property, and so what is left of several
+module _ (Q : Constraint → Type 0) where
+  abbrev pub SettledTo : Settled → Type 0
+  SettledTo always = Unit {0}
+  SettledTo never = Unit {0}
+  SettledTo (kept d) = Q d
 
-settled-kept : (c : Constraint) → Sized c → KeptSettled (settled c)
-settled-kept c h = settled-cases KeptSettled c (λ z r. tt) (λ z r. tt) (λ z. record { eight = length-reduced c ∙ h .0; small = reduced-small c (h .1); proper = reduced-proper c z })
+  one-settled : (s : Settled) (o : Option (List Constraint)) → SettledTo s → DroppedOr (All Q) o
+      → DroppedOr (All Q) (elim s [ always ↦ none | never ↦ o | kept d ↦ elim o [ none ↦ none | some ds ↦ some (d ∷ ds) ] ])
+  one-settled always o e f = tt
+  one-settled never o e f = f
+  one-settled (kept d) o e f = dropped-then (All Q) (All Q) (λ ds. some (d ∷ ds)) o f (λ ds h. (e, h))
 
-one-kept : (s : Settled) (o : Option (List Constraint)) → KeptSettled s → DroppedOr (All Kept) o
-    → DroppedOr (All Kept) (elim s [ always ↦ none | never ↦ o | kept d ↦ elim o [ none ↦ none | some ds ↦ some (d ∷ ds) ] ])
-one-kept always o e f = tt
-one-kept never o e f = f
-one-kept (kept d) o e f = dropped-then (All Kept) (All Kept) (λ ds. some (d ∷ ds)) o f (λ ds h. (e, h))
+  pub settled-all : (P : Constraint → Type 0) → ((c : Constraint) → P c → SettledTo (settled c)) → (cs : List Constraint) → All P cs → DroppedOr (All Q) (settledAll cs)
+  unfolding settledAll
+  settled-all P one [] h = tt
+  settled-all P one (c ∷ cs) h = one-settled (settled c) (settledAll cs) (one c (h .0)) (settled-all P one cs (h .1))
 
-settled-all-kept : (cs : List Constraint) → All Sized cs → DroppedOr (All Kept) (settledAll cs)
-unfolding settledAll
-settled-all-kept [] h = tt
-settled-all-kept (c ∷ cs) h = one-kept (settled c) (settledAll cs) (settled-kept c (h .0)) (settled-all-kept cs (h .1))
+settled-kept : (c : Constraint) → Sized c → SettledTo Kept (settled c)
+settled-kept c h = settled-cases (SettledTo Kept) c (λ z r. tt) (λ z r. tt) (λ z. record { eight = length-reduced c ∙ h .0; small = reduced-small c (h .1); proper = reduced-proper c z })
 
 -- ---- clauses
 pub record NormalForm (P : ℕ → Type 0) (n : Normal) : Type 0 where
@@ -99,4 +101,4 @@ normal-with P c n l e =
     })
 
 pub normal-form : (P : ℕ → Type 0) (c : Clause) → All (λ l. P (l .boolean)) (c .literals) → All Sized (c .constraints) → DroppedOr (NormalForm P) (normalClause c)
-normal-form P c l e = clause-ends (DroppedOr (NormalForm P)) c (λ m. tt) (λ n. normal-with P c n l (settled-all-kept (c .constraints) e))
+normal-form P c l e = clause-ends (DroppedOr (NormalForm P)) c (λ m. tt) (λ n. normal-with P c n l (settled-all Kept Sized settled-kept (c .constraints) e))

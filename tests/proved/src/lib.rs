@@ -1,140 +1,63 @@
-//! The proved code behind safe functions, with the second solver's answers. The declarations below
-//! repeat those of `crates/jemuling` and `crates/test_calls`: nothing but the tests compares them.
+//! The proved code with the second solver's answers: the library's own calls through the `jemuling`
+//! package, and the calls for tests alone, whose declarations repeat those of `crates/test_calls`.
 
+use jemuling::Refusal;
 use reference::{Answer, Checked, Part, Verdict};
 
-/// An answer's number and value.
-#[repr(C)]
-struct Told {
-    number: u64,
-    value: usize,
-}
-
-/// The same of solving, with the pairs tried.
-#[repr(C)]
-struct SolvedTold {
-    number: u64,
-    value: usize,
-    pairs: u64,
-}
-
-extern "C" {
-    fn jemuling_solve(
-        question: *const u8,
-        question_length: usize,
-        book: *mut u8,
-        book_length: usize,
-        sheet: *mut u8,
-        sheet_length: usize,
-    ) -> SolvedTold;
-    fn jemuling_check_book(
-        question: *const u8,
-        question_length: usize,
-        book: *const u8,
-        book_length: usize,
-    ) -> Told;
-    fn jemuling_check_sheet(
-        question: *const u8,
-        question_length: usize,
-        sheet: *const u8,
-        sheet_length: usize,
-    ) -> Told;
-    fn jemuling_hand_back(
-        number: u64,
-        lines: usize,
-        book: *const u8,
-        book_length: usize,
-        sheet: *const u8,
-        sheet_length: usize,
-    ) -> Told;
-}
-
-/// Solves a question; book and sheet are left as 01 says.
 pub fn solve(question: &[u8], book: &mut [u8], sheet: &mut [u8]) -> Answer {
-    // SAFETY: the call reads the question's bytes, reads and writes the buffers' bytes and nothing
-    // else, and keeps no pointer; a caller of safe Rust lends no bytes twice.
-    let told = unsafe {
-        jemuling_solve(
-            question.as_ptr(),
-            question.len(),
-            book.as_mut_ptr(),
-            book.len(),
-            sheet.as_mut_ptr(),
-            sheet.len(),
-        )
-    };
-    let verdict = match told.number {
-        64 => Verdict::Agrees,
-        65 => Verdict::Cannot,
-        66 => Verdict::Unwritten,
-        number => {
-            return Answer::Refused {
-                number: u8::try_from(number).unwrap_or(0),
-                place: told.value,
-                pairs: told.pairs,
-            }
-        }
-    };
-    Answer::Verdict {
-        verdict,
-        lines: told.value,
-        pairs: told.pairs,
-    }
-}
-
-/// What a check's numbers say; a number that no check has is none of the answers.
-fn checked(told: Told) -> Checked {
-    match told.number {
-        67 if told.value == 0 => Checked::Accepted,
-        68 => Checked::Fails(told.value),
-        number => Checked::Refused {
-            number: u8::try_from(number).unwrap_or(0),
-            place: told.value,
+    let solved = jemuling::solve(question, book, sheet);
+    let pairs = solved.pairs;
+    match solved.answer {
+        jemuling::Answer::Verdict(verdict, lines) => Answer::Verdict {
+            verdict: match verdict {
+                jemuling::Verdict::Agrees => Verdict::Agrees,
+                jemuling::Verdict::Cannot => Verdict::Cannot,
+                jemuling::Verdict::Unwritten => Verdict::Unwritten,
+            },
+            lines,
+            pairs,
+        },
+        jemuling::Answer::Refused(Refusal { number, place }) => Answer::Refused {
+            number,
+            place,
+            pairs,
         },
     }
 }
 
-/// Checks that a book is a refutation of a question.
 pub fn check_book(question: &[u8], book: &[u8]) -> Checked {
-    // SAFETY: the call reads both slices' bytes and nothing else, and keeps no pointer.
-    checked(unsafe {
-        jemuling_check_book(question.as_ptr(), question.len(), book.as_ptr(), book.len())
-    })
+    checked(jemuling::check_book(question, book))
 }
 
-/// Checks that a sheet satisfies a question.
 pub fn check_sheet(question: &[u8], sheet: &[u8]) -> Checked {
-    // SAFETY: as above.
-    checked(unsafe {
-        jemuling_check_sheet(
-            question.as_ptr(),
-            question.len(),
-            sheet.as_ptr(),
-            sheet.len(),
-        )
-    })
+    checked(jemuling::check_sheet(question, sheet))
 }
 
-/// The part of book or sheet that an answer gives.
+fn checked(checked: jemuling::Checked) -> Checked {
+    match checked {
+        jemuling::Checked::Accepted => Checked::Accepted,
+        jemuling::Checked::Fails(first) => Checked::Fails(first),
+        jemuling::Checked::Refused(Refusal { number, place }) => Checked::Refused { number, place },
+    }
+}
+
 pub fn hand_back<'a>(answer: &Answer, book: &'a [u8], sheet: &'a [u8]) -> Part<'a> {
-    let (number, lines) = match *answer {
-        Answer::Verdict { verdict, lines, .. } => (64 + verdict as u64, lines),
-        Answer::Refused { number, place, .. } => (u64::from(number), place),
-    };
-    // SAFETY: as above.
-    let told = unsafe {
-        jemuling_hand_back(
-            number,
+    let answer = match *answer {
+        Answer::Verdict { verdict, lines, .. } => jemuling::Answer::Verdict(
+            match verdict {
+                Verdict::Agrees => jemuling::Verdict::Agrees,
+                Verdict::Cannot => jemuling::Verdict::Cannot,
+                Verdict::Unwritten => jemuling::Verdict::Unwritten,
+            },
             lines,
-            book.as_ptr(),
-            book.len(),
-            sheet.as_ptr(),
-            sheet.len(),
-        )
+        ),
+        Answer::Refused { number, place, .. } => {
+            jemuling::Answer::Refused(Refusal { number, place })
+        }
     };
-    match told.number {
-        70 => Part::Sheet(&sheet[..told.value]),
-        _ => Part::Book(&book[..told.value]),
+    match jemuling::hand_back(answer, book, sheet) {
+        jemuling::Part::Book(part) => Part::Book(part),
+        jemuling::Part::Sheet(part) => Part::Sheet(part),
     }
 }
 

@@ -1,0 +1,90 @@
+//! An answer in words.
+
+use jemuling::{
+    check_book, check_sheet, hand_back, solve, Answer, Checked, Part, Refusal, Verdict, BOOK_BYTES,
+    SHEET_BYTES,
+};
+use notation::{decode, explain_book, explain_sheet, show_clause, Failure, Names, Question};
+
+/// Solves a question: its clauses, the answer, the sheet or the book line by line, and what the
+/// check says of it. The names are asked for once the question is known to be read without fault.
+pub fn explain(
+    bytes: &[u8],
+    names: impl Fn(&Question) -> Result<Names, Failure>,
+) -> Result<String, Failure> {
+    let (mut book, mut sheet) = (vec![0; BOOK_BYTES], vec![0; SHEET_BYTES]);
+    let solved = solve(bytes, &mut book, &mut sheet);
+    let said = answer(solved.answer, solved.pairs);
+    if let Answer::Refused(Refusal { number: 3..=13, .. }) = solved.answer {
+        return Ok(said);
+    }
+    let question = decode(bytes).map_err(Failure::Said)?;
+    let names = names(&question)?;
+    let shown = match (solved.answer, hand_back(solved.answer, &book, &sheet)) {
+        (Answer::Verdict(Verdict::Agrees, _), Part::Sheet(sheet)) => {
+            let checked = checked(check_sheet(bytes, sheet), "sheet");
+            explain_sheet(&question, sheet, &names).map(|lines| lines + &checked)
+        }
+        (Answer::Verdict(Verdict::Cannot, _), Part::Book(book)) => {
+            let checked = checked(check_book(bytes, book), "book");
+            explain_book(&question, book, None, &names).map(|lines| lines + &checked)
+        }
+        _ => Ok(String::new()),
+    };
+    Ok(clauses(&question, &names) + &said + &shown.map_err(Failure::Said)?)
+}
+
+fn clauses(question: &Question, names: &Names) -> String {
+    let words = |clause| show_clause(clause, names).unwrap_or_else(|| "false".into());
+    let numbered = question.clauses.iter().enumerate();
+    numbered
+        .map(|(number, clause)| format!("clause {number}: {}\n", words(clause)))
+        .collect()
+}
+
+fn answer(answer: Answer, pairs: u64) -> String {
+    match answer {
+        Answer::Verdict(verdict, lines) => {
+            let verdict = match verdict {
+                Verdict::Agrees => "agrees",
+                Verdict::Cannot => "cannot agree",
+                Verdict::Unwritten => {
+                    "unwritten: it can agree, but a number of the shares is too large for the sheet"
+                }
+            };
+            format!("{verdict} (lines of the book: {lines}, pairs tried: {pairs})\n")
+        }
+        Answer::Refused(Refusal { number, place }) => {
+            format!("refused, {number} at {place}: {}\n", reason(number))
+        }
+    }
+}
+
+fn reason(number: u8) -> &'static str {
+    match number {
+        3 => "the question has over 32,768 bytes",
+        4 => "the question ends before a field is complete",
+        5 => "more than 16 marks",
+        6 => "more than 8 figures",
+        7 => "more than 256 clauses",
+        8 => "more than 32 literals, or a mark that the question does not have",
+        9 => "more than 8 conditions",
+        10 => "neither 1 (at most) nor 2 (below)",
+        11 => "an amount beyond 1,000,000,000 in size",
+        12 => "bytes follow the last clause",
+        13 => "more than 16 links",
+        14 => "an amount beyond 1,000,000,000 in size arose; that many lines were held",
+        15 => "a line too many for the book; that many lines were held",
+        _ => "no refusal of solving with full-size buffers",
+    }
+}
+
+fn checked(checked: Checked, what: &str) -> String {
+    match checked {
+        Checked::Accepted => format!("The check accepts the {what}.\n"),
+        Checked::Fails(place) => format!("The check finds that the {what} fails at {place}.\n"),
+        Checked::Refused(Refusal { number, place }) => {
+            format!("The check refuses, {number} at {place}.\n")
+        }
+    }
+}

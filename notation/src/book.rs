@@ -1,0 +1,117 @@
+//! A book in words: what each line claims. Whether it follows is for the check to say.
+
+use crate::names::Names;
+use crate::question::{Clause, Condition, Literal, Question, Relation, FIGURES};
+use crate::show::show_clause;
+
+const LINE: usize = 64;
+
+/// The first lines of a book, all whole ones if no count is given.
+pub fn explain_book(
+    question: &Question,
+    book: &[u8],
+    lines: Option<usize>,
+    names: &Names,
+) -> Result<String, String> {
+    let whole = book.len() / LINE;
+    let lines = lines.unwrap_or(whole);
+    if lines > whole {
+        return Err(format!("expected {lines} whole lines, found {whole}"));
+    }
+    let mut text = String::new();
+    for (number, bytes) in book.chunks_exact(LINE).take(lines).enumerate() {
+        let words = explain_line(question, bytes, names)
+            .map_err(|message| format!("line {number}: {message}"))?;
+        text += &format!("line {number}: {words}\n");
+    }
+    Ok(text)
+}
+
+fn explain_line(question: &Question, bytes: &[u8], names: &Names) -> Result<String, String> {
+    let origin = origin(question, bytes, names)?;
+    let clause = stated(question, bytes)?;
+    let stated = show_clause(&clause, names);
+    let stated = stated.unwrap_or_else(|| "nothing: a contradiction".into());
+    Ok(format!("{origin}: {stated}"))
+}
+
+/// Where a line comes from.
+fn origin(question: &Question, bytes: &[u8], names: &Names) -> Result<String, String> {
+    let which = usize::from(bytes[1]);
+    let (first, second) = (half(bytes, 2), half(bytes, 4));
+    match bytes[0] {
+        0 => loaded(question, first, second),
+        1 => match names.figures.get(which) {
+            Some(name) => Ok(format!("figure {name} from lines {first} and {second}")),
+            None => Err(format!("expected a figure below {}", question.figures)),
+        },
+        2 if which < 32 => {
+            let kind = if which < question.marks { "mark " } else { "" };
+            let name = names.mark(which);
+            Ok(format!("{kind}{name} from lines {first} and {second}"))
+        }
+        2 => Err("expected a mark below 32".into()),
+        how => Err(format!("expected how, 0 to 2, found {how}")),
+    }
+}
+
+/// A clause, with its piece where links split it.
+fn loaded(question: &Question, clause: usize, piece: usize) -> Result<String, String> {
+    match question.clauses.get(clause) {
+        Some(whole) if whole.splits() || piece > 0 => Ok(format!("clause {clause}, piece {piece}")),
+        Some(_) => Ok(format!("clause {clause}")),
+        None => Err(format!(
+            "expected a clause below {}",
+            question.clauses.len()
+        )),
+    }
+}
+
+/// What a line states, as a clause.
+fn stated(question: &Question, bytes: &[u8]) -> Result<Clause, String> {
+    let (positive, negative) = (word(bytes, 8) as u32, word(bytes, 12) as u32);
+    let literal = |mark, negated| Literal { mark, negated };
+    let literals = (0..32).flat_map(|mark| {
+        let bit = 1 << mark;
+        let yes = (positive & bit != 0).then(|| literal(mark, false));
+        let no = (negative & bit != 0).then(|| literal(mark, true));
+        yes.into_iter().chain(no)
+    });
+    Ok(Clause {
+        literals: literals.collect(),
+        conditions: condition(question, bytes)?.into_iter().collect(),
+    })
+}
+
+/// A line's condition, if it has one.
+fn condition(question: &Question, bytes: &[u8]) -> Result<Option<Condition>, String> {
+    let amounts: Vec<i32> = (0..=FIGURES).map(|i| word(bytes, 16 + 4 * i)).collect();
+    if bytes[6] == 0 {
+        return match amounts.iter().all(|&amount| amount == 0) {
+            true => Ok(None),
+            false => Err("expected amounts of 0 without a relation".into()),
+        };
+    }
+    let relation = Relation::from_byte(bytes[6]).ok_or("expected a relation, 0 to 2")?;
+    let (coefficients, rest) = amounts[..FIGURES].split_at(question.figures);
+    if rest.iter().any(|&amount| amount != 0) {
+        let message = format!(
+            "expected coefficients of 0 from figure {} on",
+            question.figures
+        );
+        return Err(message);
+    }
+    Ok(Some(Condition {
+        relation,
+        coefficients: coefficients.to_vec(),
+        bound: amounts[FIGURES],
+    }))
+}
+
+fn half(bytes: &[u8], at: usize) -> usize {
+    usize::from(u16::from_le_bytes([bytes[at], bytes[at + 1]]))
+}
+
+fn word(bytes: &[u8], at: usize) -> i32 {
+    i32::from_le_bytes([bytes[at], bytes[at + 1], bytes[at + 2], bytes[at + 3]])
+}

@@ -1,0 +1,38 @@
+//! A readable notation for Jemuling's questions, and its sheets and books in words.
+//!
+//! One clause stands on a line, `#` begins a comment:
+//!
+//! ```text
+//! marks a b            # names in order, at most 16; may be left out
+//! figures x y rent     # at most 8; may be left out
+//! x + y <= 10 or not a
+//! 3x - 2 rent > -5 or a or b
+//! x = y + 7            # two clauses, so it stands alone
+//! false                # the empty clause
+//! ```
+
+mod book;
+mod clause;
+mod command;
+mod decode;
+mod encode;
+mod failure;
+mod line;
+mod names;
+mod parse;
+mod question;
+mod sheet;
+mod show;
+mod sum;
+mod token;
+
+pub use book::explain_book;
+pub use command::{contents, names_for, run, text};
+pub use decode::decode;
+pub use encode::encode;
+pub use failure::{Failure, Mistake};
+pub use names::Names;
+pub use parse::{parse, Text};
+pub use question::{Clause, Condition, Literal, Question, Relation};
+pub use sheet::explain_sheet;
+pub use show::{show, show_clause};

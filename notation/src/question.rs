@@ -1,0 +1,81 @@
+//! A question as document 01 has it, and its limits.
+
+pub const MARKS: usize = 16;
+pub const FIGURES: usize = 8;
+pub const CLAUSES: usize = 256;
+pub const LITERALS: usize = 32;
+pub const CONDITIONS: usize = 8;
+pub const BYTES: usize = 32_768;
+pub const AMOUNT: i32 = 1_000_000_000;
+/// The bytes before the first clause.
+pub const HEAD: usize = 4;
+
+#[derive(Clone, Copy, Debug, PartialEq, Eq)]
+pub enum Relation {
+    AtMost,
+    Below,
+}
+
+impl Relation {
+    pub fn from_byte(byte: u8) -> Option<Relation> {
+        match byte {
+            1 => Some(Relation::AtMost),
+            2 => Some(Relation::Below),
+            _ => None,
+        }
+    }
+
+    pub fn byte(self) -> u8 {
+        match self {
+            Relation::AtMost => 1,
+            Relation::Below => 2,
+        }
+    }
+}
+
+#[derive(Clone, Copy, Debug, PartialEq, Eq)]
+pub struct Literal {
+    pub mark: usize,
+    pub negated: bool,
+}
+
+/// The sum of coefficient × figure, relation, bound.
+#[derive(Clone, Debug, PartialEq, Eq)]
+pub struct Condition {
+    pub relation: Relation,
+    pub coefficients: Vec<i32>,
+    pub bound: i32,
+}
+
+impl Condition {
+    /// Whether no figure is in it.
+    pub fn is_constant(&self) -> bool {
+        self.coefficients.iter().all(|&amount| amount == 0)
+    }
+}
+
+#[derive(Clone, Debug, Default, PartialEq, Eq)]
+pub struct Clause {
+    pub literals: Vec<Literal>,
+    pub conditions: Vec<Condition>,
+}
+
+impl Clause {
+    /// Its length in bytes, in a question with so many figures.
+    pub fn length(&self, figures: usize) -> usize {
+        2 + self.literals.len() + self.conditions.len() * (1 + 4 * figures + 4)
+    }
+
+    /// Whether tidying splits it by links; constant conditions do not outlive tidying.
+    pub fn splits(&self) -> bool {
+        let kept = self.conditions.iter().filter(|kept| !kept.is_constant());
+        kept.count() >= 2
+    }
+}
+
+#[derive(Clone, Debug, Default, PartialEq, Eq)]
+pub struct Question {
+    pub marks: usize,
+    pub figures: usize,
+    pub clauses: Vec<Clause>,
+}

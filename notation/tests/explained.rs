@@ -1,0 +1,186 @@
+//! Sheets and books in words: those of the C tests, and the second solver's.
+
+mod common;
+
+use common::{from_c, solved, text};
+use notation::{decode, encode, explain_book, explain_sheet, Names, Text};
+
+fn sheet(name: &str) -> String {
+    let Text { names, question } = text(name);
+    let (_, _, sheet) = solved(&encode(&question));
+    explain_sheet(&question, &sheet, &names).unwrap()
+}
+
+fn book(name: &str) -> String {
+    let Text { names, question } = text(name);
+    let (answer, book, _) = solved(&encode(&question));
+    let reference::Answer::Verdict { lines, .. } = answer else {
+        panic!("{name} is refused");
+    };
+    explain_book(&question, &book, Some(lines), &names).unwrap()
+}
+
+#[test]
+fn sheets() {
+    assert_eq!(sheet("example_01"), "");
+    assert_eq!(sheet("example_03"), "figure x: 5\n");
+    assert_eq!(sheet("example_05"), "figure x: 9/2\n");
+    assert_eq!(sheet("example_06"), "figure x: 1/3\n");
+    assert_eq!(sheet("example_09"), "mark a: no\nfigure x: 0\n");
+    assert_eq!(sheet("example_12"), "figure x: 39\nfigure y: 61\n");
+}
+
+#[test]
+fn sheets_are_in_lowest_terms() {
+    let question = decode(&[0, 2, 0, 0]).unwrap();
+    let mut sheet = vec![0, 2, 6, 0, 0, 0, 252, 255, 255, 255, 12];
+    sheet.resize(64, 0);
+    let words = explain_sheet(&question, &sheet, &Names::numbered(&question));
+    assert_eq!(words.unwrap(), "figure x0: -2/3\nfigure x1: 2\n");
+}
+
+#[test]
+fn the_payment() {
+    let words = "\
+mark a_rent: yes
+mark a_heating: no
+mark b_heating: yes
+mark b_arrears: no
+mark c_arrears: yes
+figure rent_a: 800
+figure heating_a: 0
+figure heating_b: 300
+figure arrears_b: 0
+figure arrears_c: 200
+";
+    assert_eq!(sheet("payment"), words);
+}
+
+#[test]
+fn the_payment_with_an_entry_missing() {
+    let book = book("payment_missing");
+    let lines: Vec<&str> = book.lines().collect();
+    assert_eq!(lines.len(), 30);
+    assert_eq!(lines[4], "line 4: clause 4: rent_a <= 0 or a_rent");
+    assert_eq!(
+        lines[21],
+        "line 21: figure heating_b from lines 6 and 19: b_heating"
+    );
+    assert_eq!(
+        lines[26],
+        "line 26: figure arrears_b from lines 7 and 13: b_arrears"
+    );
+    assert_eq!(
+        lines[28],
+        "line 28: mark b_heating from lines 21 and 8: not b_arrears"
+    );
+    assert!(lines[29].starts_with("line 29: mark b_arrears from lines 26 and 28: nothing"));
+}
+
+#[test]
+fn books() {
+    let seven = "\
+line 0: clause 0: x + y <= 10
+line 1: clause 1: -x <= -7
+line 2: clause 2: -y <= -4
+line 3: figure x from lines 0 and 1: y <= 3
+line 4: figure y from lines 3 and 2: nothing: a contradiction
+";
+    assert_eq!(book("example_07"), seven);
+    let eight = "\
+line 0: clause 0: a
+line 1: clause 1: not a
+line 2: mark a from lines 0 and 1: nothing: a contradiction
+";
+    assert_eq!(book("example_08"), eight);
+    let nine = "\
+line 0: clause 0, piece 0: x <= 0 or a or link 0
+line 1: clause 0, piece 1: -x <= -5 or not link 0
+line 2: clause 1: not a
+";
+    assert_eq!(book("example_09"), nine);
+    assert_eq!(
+        book("example_02"),
+        "line 0: clause 0: nothing: a contradiction\n"
+    );
+}
+
+#[test]
+fn books_and_sheets_of_the_c_tests() {
+    for number in 1..=9 {
+        let name = format!("example_{number:02}");
+        let Text { names, question } = text(&name);
+        if let Some(stored) = from_c(&format!("example_{number}_book")) {
+            let words = explain_book(&question, &stored, None, &names).unwrap();
+            assert_eq!(words, book(&name));
+        }
+        if let Some(stored) = from_c(&format!("example_{number}_sheet")) {
+            let words = explain_sheet(&question, &stored, &names).unwrap();
+            assert_eq!(words, sheet(&name));
+        }
+    }
+}
+
+#[test]
+fn links_are_eliminated_too() {
+    let text = notation::parse("figures x\nx < 0 or 0 < -5 or x > 5\nx > 1\nx < 4").unwrap();
+    let (_, book, _) = solved(&encode(&text.question));
+    let words = explain_book(&text.question, &book, Some(9), &text.names).unwrap();
+    let expected = "\
+line 0: clause 0, piece 0: x < 0 or link 0
+line 1: clause 0, piece 1: -x < -5 or not link 0
+line 2: clause 1: -x < -1
+line 3: clause 2: x < 4
+";
+    assert!(words.starts_with(expected), "{words}");
+    assert!(words.contains(": link 0 from lines "), "{words}");
+}
+
+#[test]
+fn what_cannot_be_explained() {
+    let Text { names, question } = text("example_07");
+    let (_, book, _) = solved(&encode(&question));
+    let said = |place: usize, byte: u8| {
+        let mut book = book[..320].to_vec();
+        book[place] = byte;
+        explain_book(&question, &book, None, &names).unwrap_err()
+    };
+    assert_eq!(said(0, 3), "line 0: expected how, 0 to 2, found 3");
+    assert_eq!(said(66, 3), "line 1: expected a clause below 3");
+    assert_eq!(said(193, 2), "line 3: expected a figure below 2");
+    assert_eq!(
+        said(70, 0),
+        "line 1: expected amounts of 0 without a relation"
+    );
+    assert_eq!(said(70, 3), "line 1: expected a relation, 0 to 2");
+    assert_eq!(
+        said(24, 1),
+        "line 0: expected coefficients of 0 from figure 2 on"
+    );
+    let short = explain_book(&question, &book[..100], Some(2), &names);
+    assert_eq!(short.unwrap_err(), "expected 2 whole lines, found 1");
+}
+
+#[test]
+fn slips_of_a_sheet() {
+    let Text { names, question } = text("example_09");
+    let (_, _, sheet) = solved(&encode(&question));
+    let said = |place: usize, byte: u8| {
+        let mut sheet = sheet.clone();
+        sheet[place] = byte;
+        explain_sheet(&question, &sheet, &names).unwrap_err()
+    };
+    assert_eq!(
+        said(0, 2),
+        "byte 0: expected 1 as the count of marks, found 2"
+    );
+    assert_eq!(said(1, 2), "byte 1: expected 0 or 1, found 2");
+    assert_eq!(
+        said(3, 0),
+        "byte 3: expected a denominator within 1 to 1,000,000,000"
+    );
+    let range = "expected an amount within -1,000,000,000 to 1,000,000,000";
+    assert_eq!(said(10, 127), format!("byte 7: {range}"));
+    let short = explain_sheet(&question, &sheet[..63], &names);
+    assert_eq!(short.unwrap_err(), "byte 63: expected 64 bytes");
+}

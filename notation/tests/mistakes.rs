@@ -1,0 +1,168 @@
+//! Mistakes, with their exact text.
+
+use notation::{encode, parse};
+
+fn said(text: &str) -> String {
+    parse(text).unwrap_err().of("payment.txt")
+}
+
+/// The mistake in one clause on line 3, with marks a, b and figures x, y.
+fn said_of(clause: &str) -> String {
+    let said = said(&format!("marks a b\nfigures x y\n{clause}\n"));
+    said.strip_prefix("payment.txt:3:").unwrap().to_string()
+}
+
+#[test]
+fn in_clauses() {
+    let cases = [
+        ("x + z <= 1", "5: unknown name 'z'"),
+        ("not z", "5: unknown name 'z'"),
+        ("x + 2a <= 1", "6: expected a figure, found mark 'a'"),
+        ("not x", "5: expected a mark, found figure 'x'"),
+        ("not 3", "5: expected a mark, found '3'"),
+        (
+            "x + y",
+            "6: expected '<=', '<', '>=', '>' or '=', found the end of the line",
+        ),
+        (
+            "x or a",
+            "3: expected '<=', '<', '>=', '>' or '=', found 'or'",
+        ),
+        (
+            "x <=   # what?",
+            "5: expected a figure or a number, found the end of the line",
+        ),
+        (
+            "x + - y <= 1",
+            "5: expected a figure or a number, found '-'",
+        ),
+        (
+            "<= 1",
+            "1: expected a mark, a figure or a number, found '<='",
+        ),
+        (
+            "a or",
+            "5: expected a mark, a figure or a number, found the end of the line",
+        ),
+        (
+            "a or false",
+            "6: expected a mark, a figure or a number, found 'false'",
+        ),
+        (
+            "1 <= x <= 5",
+            "8: expected 'or' or the end of the line, found '<='",
+        ),
+        ("a b", "3: expected 'or' or the end of the line, found 'b'"),
+        ("false or a", "7: expected the end of the line, found 'or'"),
+        ("x = 5 or a", "3: expected '=' alone in its clause"),
+        ("a or x = 5", "8: expected '=' alone in its clause"),
+        ("x = 5 a", "7: expected a figure, found mark 'a'"),
+        ("x = y = 5", "7: expected the end of the line, found '='"),
+        (
+            "x * 2 <= 1",
+            "3: expected a name, a number or a sign, found '*'",
+        ),
+        (
+            "_x <= 1",
+            "1: expected a name, a number or a sign, found '_'",
+        ),
+        (
+            "a or 1000000001x <= 1",
+            "6: expected at most 1,000,000,000 in size as coefficient of 'x'",
+        ),
+        (
+            "y <= 999999999 + 2",
+            "1: expected at most 1,000,000,000 in size as bound",
+        ),
+        (
+            "x <= 9223372036854775808",
+            "6: expected a number within 64 bits",
+        ),
+        (
+            "x <= 9223372036854775807 + 1",
+            "28: expected a sum within 64 bits",
+        ),
+        (
+            "x - 9223372036854775807 <= 9223372036854775807",
+            "1: expected at most 1,000,000,000 in size as bound",
+        ),
+    ];
+    for (clause, message) in cases {
+        assert_eq!(said_of(clause), message, "{clause}");
+    }
+}
+
+#[test]
+fn in_names() {
+    let cases = [
+        ("marks a\nmarks b", "2:1: expected 'marks' once"),
+        (
+            "false\n  figures x",
+            "2:3: expected 'figures' before the first clause",
+        ),
+        ("marks a b a", "1:11: expected a new name, found 'a' again"),
+        ("figures x or", "1:11: expected a name, found 'or'"),
+        ("figures x 3", "1:11: expected a name, found '3'"),
+        (
+            "marks a b\nfigures b",
+            "2:9: expected a new name, found 'b' again",
+        ),
+        (
+            "figures größe x, y",
+            "1:16: expected a name, a number or a sign, found ','",
+        ),
+        (
+            "marks a b c d e f g h i j k l m n o p q",
+            "1:39: expected at most 16 marks",
+        ),
+        (
+            "figures a b c d e f g h i",
+            "1:25: expected at most 8 figures",
+        ),
+    ];
+    for (text, message) in cases {
+        assert_eq!(said(text), format!("payment.txt:{message}"));
+    }
+}
+
+#[test]
+fn beyond_the_limits() {
+    let literals = |count| vec!["a"; count].join(" or ");
+    assert!(parse(&format!("marks a\n{}", literals(32))).is_ok());
+    assert_eq!(
+        said_of(&literals(33)),
+        "161: expected at most 32 literals in a clause"
+    );
+    let conditions = |count| vec!["x<1"; count].join(" or ");
+    assert!(parse(&format!("figures x\n{}", conditions(8))).is_ok());
+    assert_eq!(
+        said_of(&conditions(9)),
+        "57: expected at most 8 conditions in a clause"
+    );
+    assert!(parse(&"false\n".repeat(256)).is_ok());
+    let many = "false\n".repeat(257);
+    assert_eq!(
+        said(&many),
+        "payment.txt:257:1: expected at most 256 clauses"
+    );
+    let equations = "figures x\n".to_string() + &"false\n".repeat(255) + "  x = 1";
+    assert_eq!(
+        said(&equations),
+        "payment.txt:257:3: expected at most 256 clauses"
+    );
+}
+
+/// 109 clauses of 298 bytes, one of 278 and four bytes before them are 32,764.
+#[test]
+fn beyond_the_bytes() {
+    let clause = ["x<1"; 8].join(" or ") + "\n";
+    let head = "marks z\nfigures x b c d e f g h\n".to_string() + &clause.repeat(109);
+    let most = ["x<1"; 7].join(" or ") + &" or z".repeat(17) + "\n";
+    let full = head + &most + "z or z\n";
+    assert_eq!(encode(&parse(&full).unwrap().question).len(), 32_768);
+    let more = full + " z\n";
+    assert_eq!(
+        said(&more),
+        "payment.txt:114:2: expected at most 32,768 bytes"
+    );
+}

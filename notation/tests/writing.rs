@@ -1,0 +1,143 @@
+//! Ways to write the same condition, and random questions there and back.
+
+use notation::{
+    decode, encode, parse, show, Clause, Condition, Literal, Names, Question, Relation,
+};
+
+/// The clauses of a text, shown in the notation.
+fn shown(clauses: &str) -> String {
+    let text = parse(&format!("marks a b\nfigures x y rent\n{clauses}")).unwrap();
+    let shown = show(&text.question, &text.names);
+    shown.lines().skip(2).collect::<Vec<_>>().join("; ")
+}
+
+#[test]
+fn conditions() {
+    assert_eq!(shown("x + y <= 10 or not a"), "x + y <= 10 or not a");
+    assert_eq!(shown("not a or x+y<=10"), "x + y <= 10 or not a");
+    assert_eq!(
+        shown("3x - 2 rent <= -5 or a or b"),
+        "3x - 2 rent <= -5 or a or b"
+    );
+    assert_eq!(shown("x >= 7"), "-x <= -7");
+    assert_eq!(shown("x > 7 - y"), "-x - y < -7");
+    assert_eq!(shown("x = y + 7"), "x - y <= 7; -x + y <= -7");
+    assert_eq!(shown("x + 1 < 2x + y - 4"), "-x - y < -5");
+    assert_eq!(shown("- 3 x + 0 < 0"), "-3x < 0");
+    assert_eq!(shown("x - x <= 5"), "0 <= 5");
+    assert_eq!(
+        shown("0 < 0 or a or a or not a"),
+        "0 < 0 or a or a or not a"
+    );
+    assert_eq!(shown("x + 5000000000 <= 5000000001"), "x <= 1");
+    assert_eq!(
+        shown("1000000000x >= 1000000000"),
+        "-1000000000x <= -1000000000"
+    );
+    assert_eq!(
+        shown("\n  # nothing\n\tfalse # the empty clause\r\n"),
+        "false"
+    );
+}
+
+#[test]
+fn names() {
+    let text = parse("figures Kaltmiete_2 größe\nmarks or_not\nor_not or 2größe < Kaltmiete_2");
+    let text = text.unwrap();
+    let again = "marks or_not\nfigures Kaltmiete_2 größe\n-Kaltmiete_2 + 2 größe < 0 or or_not\n";
+    assert_eq!(show(&text.question, &text.names), again);
+    assert_eq!(encode(&parse("").unwrap().question), [0, 0, 0, 0]);
+    assert_eq!(
+        encode(&parse("marks\nfigures").unwrap().question),
+        [0, 0, 0, 0]
+    );
+}
+
+/// Numbers that look random, the same in every run.
+struct Random(u64);
+
+impl Random {
+    fn below(&mut self, limit: usize) -> usize {
+        self.0 = self.0.wrapping_mul(6_364_136_223_846_793_005);
+        self.0 = self.0.wrapping_add(1_442_695_040_888_963_407);
+        (self.0 >> 33) as usize % limit
+    }
+
+    fn amount(&mut self) -> i32 {
+        let size = [0, 1, 2, 999, 1_000_000_000][self.below(5)];
+        if self.below(2) == 0 {
+            size
+        } else {
+            -size
+        }
+    }
+
+    fn question(&mut self) -> Question {
+        let (marks, figures) = (self.below(17), self.below(9));
+        let clauses = self.below(20);
+        Question {
+            marks,
+            figures,
+            clauses: (0..clauses).map(|_| self.clause(marks, figures)).collect(),
+        }
+    }
+
+    fn clause(&mut self, marks: usize, figures: usize) -> Clause {
+        let literals = if marks == 0 { 0 } else { self.below(33) };
+        let conditions = self.below(9);
+        Clause {
+            literals: (0..literals).map(|_| self.literal(marks)).collect(),
+            conditions: (0..conditions).map(|_| self.condition(figures)).collect(),
+        }
+    }
+
+    fn literal(&mut self, marks: usize) -> Literal {
+        Literal {
+            mark: self.below(marks),
+            negated: self.below(2) == 1,
+        }
+    }
+
+    fn condition(&mut self, figures: usize) -> Condition {
+        Condition {
+            relation: [Relation::AtMost, Relation::Below][self.below(2)],
+            coefficients: (0..figures).map(|_| self.amount()).collect(),
+            bound: self.amount(),
+        }
+    }
+}
+
+#[test]
+fn random_questions_there_and_back() {
+    let mut random = Random(1);
+    for _ in 0..300 {
+        let question = random.question();
+        let bytes = encode(&question);
+        assert!(reference::read(&bytes).is_ok() || links(&bytes));
+        assert_eq!(decode(&bytes).as_ref(), Ok(&question));
+        let text = show(&question, &Names::numbered(&question));
+        assert_eq!(encode(&parse(&text).unwrap().question), bytes);
+    }
+}
+
+/// Whether the second solver refuses a question for its links alone.
+fn links(bytes: &[u8]) -> bool {
+    reference::read(bytes).is_err_and(|fault| fault.number == 13)
+}
+
+#[test]
+fn damaged_questions_are_refused_where_the_second_solver_refuses_them() {
+    let mut random = Random(2);
+    for _ in 0..3000 {
+        let mut bytes = encode(&random.question());
+        let place = random.below(bytes.len());
+        bytes[place] = random.below(256) as u8;
+        bytes.truncate(bytes.len() - random.below(2));
+        let theirs = reference::read(&bytes)
+            .err()
+            .filter(|fault| fault.number != 13);
+        let ours = decode(&bytes).err();
+        let place = ours.map(|said| said.split(':').next().unwrap().to_string());
+        assert_eq!(place, theirs.map(|fault| format!("byte {}", fault.place)));
+    }
+}

@@ -1,0 +1,189 @@
+//! Jemuling's calls behind safe functions. The declarations below are those of
+//! `include/jemuling.h`, whose comments say what each call answers and leaves in the buffers.
+
+/// The sizes of a full-size book and of a sheet, in bytes.
+pub const BOOK_BYTES: usize = 65_536;
+pub const SHEET_BYTES: usize = 64;
+
+/// A refusal of document 01's table, 1 to 17, and its place.
+#[derive(Clone, Copy, Debug, PartialEq, Eq)]
+pub struct Refusal {
+    pub number: u8,
+    pub place: usize,
+}
+
+#[derive(Clone, Copy, Debug, PartialEq, Eq)]
+pub enum Verdict {
+    Agrees,
+    Cannot,
+    Unwritten,
+}
+
+/// What solving answers: a verdict with the lines of the book, or a refusal.
+#[derive(Clone, Copy, Debug, PartialEq, Eq)]
+pub enum Answer {
+    Verdict(Verdict, usize),
+    Refused(Refusal),
+}
+
+/// What solving answers, and the pairs that it tried.
+#[derive(Clone, Copy, Debug, PartialEq, Eq)]
+pub struct Solved {
+    pub answer: Answer,
+    pub pairs: u64,
+}
+
+/// What a check answers: accepted, the first line or clause that fails, or a refusal.
+#[derive(Clone, Copy, Debug, PartialEq, Eq)]
+pub enum Checked {
+    Accepted,
+    Fails(usize),
+    Refused(Refusal),
+}
+
+/// The part of a buffer that a verdict gives its caller.
+#[derive(Clone, Copy, Debug, PartialEq, Eq)]
+pub enum Part<'a> {
+    Book(&'a [u8]),
+    Sheet(&'a [u8]),
+}
+
+#[repr(C)]
+struct Told {
+    number: u64,
+    value: usize,
+}
+
+#[repr(C)]
+struct SolvedTold {
+    number: u64,
+    value: usize,
+    pairs: u64,
+}
+
+extern "C" {
+    fn jemuling_solve(
+        question: *const u8,
+        question_length: usize,
+        book: *mut u8,
+        book_length: usize,
+        sheet: *mut u8,
+        sheet_length: usize,
+    ) -> SolvedTold;
+    fn jemuling_check_book(
+        question: *const u8,
+        question_length: usize,
+        book: *const u8,
+        book_length: usize,
+    ) -> Told;
+    fn jemuling_check_sheet(
+        question: *const u8,
+        question_length: usize,
+        sheet: *const u8,
+        sheet_length: usize,
+    ) -> Told;
+    fn jemuling_hand_back(
+        number: u64,
+        lines: usize,
+        book: *const u8,
+        book_length: usize,
+        sheet: *const u8,
+        sheet_length: usize,
+    ) -> Told;
+}
+
+const AGREES: u64 = 64;
+const CANNOT: u64 = 65;
+const UNWRITTEN: u64 = 66;
+const ACCEPTED: u64 = 67;
+const FAILS: u64 = 68;
+const OF_SHEET: u64 = 70;
+
+/// Solves a question. The buffers are lent for the call and hold what 01 says afterwards.
+pub fn solve(question: &[u8], book: &mut [u8], sheet: &mut [u8]) -> Solved {
+    // SAFETY: the call reads the question and reads and writes the buffers within their lengths,
+    // and keeps no pointer; slices lent mutably do not overlap.
+    let told = unsafe {
+        jemuling_solve(
+            question.as_ptr(),
+            question.len(),
+            book.as_mut_ptr(),
+            book.len(),
+            sheet.as_mut_ptr(),
+            sheet.len(),
+        )
+    };
+    let answer = match told.number {
+        AGREES => Answer::Verdict(Verdict::Agrees, told.value),
+        CANNOT => Answer::Verdict(Verdict::Cannot, told.value),
+        UNWRITTEN => Answer::Verdict(Verdict::Unwritten, told.value),
+        number => Answer::Refused(refusal(number, told.value)),
+    };
+    Solved {
+        answer,
+        pairs: told.pairs,
+    }
+}
+
+/// Checks that a book refutes a question.
+pub fn check_book(question: &[u8], book: &[u8]) -> Checked {
+    // SAFETY: the call reads both slices within their lengths, and keeps no pointer.
+    checked(unsafe {
+        jemuling_check_book(question.as_ptr(), question.len(), book.as_ptr(), book.len())
+    })
+}
+
+/// Checks that the marks and figures on a sheet satisfy a question.
+pub fn check_sheet(question: &[u8], sheet: &[u8]) -> Checked {
+    // SAFETY: as for `check_book`.
+    checked(unsafe {
+        jemuling_check_sheet(
+            question.as_ptr(),
+            question.len(),
+            sheet.as_ptr(),
+            sheet.len(),
+        )
+    })
+}
+
+/// The part of book or sheet that an answer gives: the sheet after "agrees", the used lines of the
+/// book after "cannot agree", and else nothing.
+pub fn hand_back<'a>(answer: Answer, book: &'a [u8], sheet: &'a [u8]) -> Part<'a> {
+    let (number, lines) = match answer {
+        Answer::Verdict(Verdict::Agrees, lines) => (AGREES, lines),
+        Answer::Verdict(Verdict::Cannot, lines) => (CANNOT, lines),
+        Answer::Verdict(Verdict::Unwritten, lines) => (UNWRITTEN, lines),
+        Answer::Refused(refusal) => (u64::from(refusal.number), refusal.place),
+    };
+    // SAFETY: as for `check_book`.
+    let told = unsafe {
+        jemuling_hand_back(
+            number,
+            lines,
+            book.as_ptr(),
+            book.len(),
+            sheet.as_ptr(),
+            sheet.len(),
+        )
+    };
+    match told.number {
+        OF_SHEET => Part::Sheet(&sheet[..told.value]),
+        _ => Part::Book(&book[..told.value]),
+    }
+}
+
+fn checked(told: Told) -> Checked {
+    match told.number {
+        ACCEPTED => Checked::Accepted,
+        FAILS => Checked::Fails(told.value),
+        number => Checked::Refused(refusal(number, told.value)),
+    }
+}
+
+/// The library's refusals are 1 to 17; a number that is none of its own would come out as 255.
+fn refusal(number: u64, place: usize) -> Refusal {
+    Refusal {
+        number: u8::try_from(number).unwrap_or(u8::MAX),
+        place,
+    }
+}
