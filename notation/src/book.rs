@@ -58,7 +58,9 @@ fn origin(question: &Question, bytes: &[u8], names: &Names) -> Result<String, St
 /// A clause, with its piece where links split it.
 fn loaded(question: &Question, clause: usize, piece: usize) -> Result<String, String> {
     match question.clauses.get(clause) {
-        Some(whole) if whole.splits() || piece > 0 => Ok(format!("clause {clause}, piece {piece}")),
+        Some(whole) if whole.links() > 0 || piece > 0 => {
+            Ok(format!("clause {clause}, piece {piece}"))
+        }
         Some(_) => Ok(format!("clause {clause}")),
         None => Err(format!(
             "expected a clause below {}",

@@ -73,8 +73,9 @@ fn question(file: &str) -> Result<Question, Failure> {
 
 /// The names of a notation file, or numbered ones.
 pub fn names_for(question: &Question, file: Option<&str>) -> Result<Names, Failure> {
-    let Some(file) = file else {
-        return Ok(Names::numbered(question));
+    let file = match file {
+        Some(file) => file,
+        None => return Ok(Names::numbered(question)),
     };
     let names = text(file)?.names;
     if names.fit(question) {

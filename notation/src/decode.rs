@@ -117,9 +117,10 @@ impl Reader<'_> {
     pub fn take<const N: usize>(&mut self) -> Result<[u8; N], String> {
         let rest = &self.bytes[self.at..];
         let taken = rest
-            .first_chunk::<N>()
+            .get(..N)
+            .and_then(|taken| taken.try_into().ok())
             .ok_or_else(|| fault(self.bytes.len(), "expected more bytes"))?;
         self.at += N;
-        Ok(*taken)
+        Ok(taken)
     }
 }

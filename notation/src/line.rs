@@ -58,8 +58,9 @@ impl Line {
     }
 
     pub fn number(&mut self) -> Option<i64> {
-        let &Kind::Number(number) = self.next() else {
-            return None;
+        let number = match self.next() {
+            &Kind::Number(number) => number,
+            _ => return None,
         };
         self.at += 1;
         Some(number)
@@ -77,8 +78,9 @@ impl Line {
     }
 
     pub fn comparison(&mut self) -> Option<Comparison> {
-        let &Kind::Comparison(comparison) = self.next() else {
-            return None;
+        let comparison = match self.next() {
+            &Kind::Comparison(comparison) => comparison,
+            _ => return None,
         };
         self.at += 1;
         Some(comparison)

@@ -4,7 +4,7 @@ use crate::clause::clauses;
 use crate::failure::Mistake;
 use crate::line::Line;
 use crate::names::Names;
-use crate::question::{Question, BYTES, CLAUSES, FIGURES, HEAD, MARKS};
+use crate::question::{Question, BYTES, CLAUSES, FIGURES, HEAD, LINKS, MARKS};
 
 /// What a notation file says.
 #[derive(Clone, Debug, PartialEq, Eq)]
@@ -36,6 +36,7 @@ struct Parser {
     names: Names,
     question: Question,
     length: usize,
+    links: usize,
     named_marks: bool,
     named_figures: bool,
 }
@@ -92,14 +93,25 @@ impl Parser {
     fn clauses(&mut self, mut line: Line, column: usize) -> Result<(), Mistake> {
         for clause in clauses(&mut line, &self.names)? {
             self.length += clause.length(self.names.figures.len());
+            self.links += clause.links();
             self.question.clauses.push(clause);
-            if self.question.clauses.len() > CLAUSES {
-                return Err(line.mistake(column, format!("expected at most {CLAUSES} clauses")));
-            }
-            if HEAD + self.length > BYTES {
-                return Err(line.mistake(column, "expected at most 32,768 bytes".into()));
+            if let Some(limit) = self.passed() {
+                return Err(line.mistake(column, format!("expected at most {limit}")));
             }
         }
         Ok(())
+    }
+
+    /// The limit that the clauses so far have passed.
+    fn passed(&self) -> Option<String> {
+        if self.question.clauses.len() > CLAUSES {
+            return Some(format!("{CLAUSES} clauses"));
+        }
+        if HEAD + self.length > BYTES {
+            return Some("32,768 bytes".into());
+        }
+        (self.links > LINKS).then(|| {
+            format!("{LINKS} links; a clause takes one for each condition after its first")
+        })
     }
 }

@@ -5,6 +5,7 @@ pub const FIGURES: usize = 8;
 pub const CLAUSES: usize = 256;
 pub const LITERALS: usize = 32;
 pub const CONDITIONS: usize = 8;
+pub const LINKS: usize = 16;
 pub const BYTES: usize = 32_768;
 pub const AMOUNT: i32 = 1_000_000_000;
 /// The bytes before the first clause.
@@ -52,6 +53,14 @@ impl Condition {
     pub fn is_constant(&self) -> bool {
         self.coefficients.iter().all(|&amount| amount == 0)
     }
+
+    /// Whether it holds where all figures are 0.
+    fn holds_at_zero(&self) -> bool {
+        match self.relation {
+            Relation::AtMost => 0 <= self.bound,
+            Relation::Below => 0 < self.bound,
+        }
+    }
 }
 
 #[derive(Clone, Debug, Default, PartialEq, Eq)]
@@ -66,10 +75,26 @@ impl Clause {
         2 + self.literals.len() + self.conditions.len() * (1 + 4 * figures + 4)
     }
 
-    /// Whether tidying splits it by links; constant conditions do not outlive tidying.
-    pub fn splits(&self) -> bool {
-        let kept = self.conditions.iter().filter(|kept| !kept.is_constant());
-        kept.count() >= 2
+    /// The links that it takes once it is tidied: one less than the conditions that stay, none if
+    /// it is dropped.
+    pub fn links(&self) -> usize {
+        let (constant, kept): (Vec<_>, Vec<_>) =
+            self.conditions.iter().partition(|c| c.is_constant());
+        if self.has_both_signs() || constant.iter().any(|c| c.holds_at_zero()) {
+            return 0;
+        }
+        kept.len().saturating_sub(1)
+    }
+
+    /// Whether a mark is in it with both signs.
+    fn has_both_signs(&self) -> bool {
+        let against = |l: &Literal| Literal {
+            mark: l.mark,
+            negated: !l.negated,
+        };
+        self.literals
+            .iter()
+            .any(|literal| self.literals.contains(&against(literal)))
     }
 }
 

@@ -20,7 +20,7 @@ fn every_example_gives_its_question() {
 fn every_question_has_its_text() {
     for entry in fs::read_dir(root().join("examples")).unwrap() {
         let file = entry.unwrap().path();
-        if file.extension().is_some_and(|end| end == "question") {
+        if file.extension().map_or(false, |end| end == "question") {
             assert!(file.with_extension("txt").exists(), "{}", file.display());
         }
     }

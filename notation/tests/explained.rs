@@ -14,8 +14,9 @@ fn sheet(name: &str) -> String {
 fn book(name: &str) -> String {
     let Text { names, question } = text(name);
     let (answer, book, _) = solved(&encode(&question));
-    let reference::Answer::Verdict { lines, .. } = answer else {
-        panic!("{name} is refused");
+    let lines = match answer {
+        reference::Answer::Verdict { lines, .. } => lines,
+        _ => panic!("{name} is refused"),
     };
     explain_book(&question, &book, Some(lines), &names).unwrap()
 }

@@ -152,17 +152,38 @@ fn beyond_the_limits() {
     );
 }
 
-/// 109 clauses of 298 bytes, one of 278 and four bytes before them are 32,764.
+/// 109 clauses of 298 bytes, one of 278 and four bytes before them are 32,764; a true constant
+/// drops its clause, so that none takes links.
 #[test]
 fn beyond_the_bytes() {
-    let clause = ["x<1"; 8].join(" or ") + "\n";
+    let clause = ["0<1"; 8].join(" or ") + "\n";
     let head = "marks z\nfigures x b c d e f g h\n".to_string() + &clause.repeat(109);
-    let most = ["x<1"; 7].join(" or ") + &" or z".repeat(17) + "\n";
+    let most = ["0<1"; 7].join(" or ") + &" or z".repeat(17) + "\n";
     let full = head + &most + "z or z\n";
     assert_eq!(encode(&parse(&full).unwrap().question).len(), 32_768);
     let more = full + " z\n";
     assert_eq!(
         said(&more),
         "payment.txt:114:2: expected at most 32,768 bytes"
+    );
+}
+
+/// Two clauses of eight conditions and one of three take 16 links; clauses that tidying drops and
+/// conditions that it strikes out take none.
+#[test]
+fn beyond_the_links() {
+    let conditions = |count| vec!["x<1"; count].join(" or ") + "\n";
+    let head = "marks a\nfigures x\n".to_string() + &conditions(8) + &conditions(8);
+    let free = "x<1 or x<2 or 0<=0\nx<1 or x<2 or a or not a\nx<1 or 0<0\na\n";
+    let full = head.clone() + &conditions(3) + free;
+    assert!(parse(&full).is_ok());
+    let links = "expected at most 16 links; a clause takes one for each condition after its first";
+    assert_eq!(
+        said(&(full + "  x<1 or x<2 or 1<0")),
+        format!("payment.txt:10:3: {links}")
+    );
+    assert_eq!(
+        said(&(head + &conditions(4))),
+        format!("payment.txt:5:1: {links}")
     );
 }

@@ -12,7 +12,7 @@ pub fn root() -> PathBuf {
 pub fn texts() -> Vec<PathBuf> {
     let entries = fs::read_dir(root().join("examples")).unwrap();
     let mut files: Vec<PathBuf> = entries.map(|entry| entry.unwrap().path()).collect();
-    files.retain(|file| file.extension().is_some_and(|end| end == "txt"));
+    files.retain(|file| file.extension().map_or(false, |end| end == "txt"));
     files.sort();
     files
 }

@@ -5,7 +5,6 @@ mod solved;
 
 use questions::largest::{self, Kind};
 use reference::{Answer, Search};
-use std::hint::black_box;
 use std::time::{Duration, Instant};
 
 /// The best of so many rounds of about this time.
@@ -160,4 +159,11 @@ fn timed(calls: u32, call: &mut impl FnMut()) -> Duration {
         call();
     }
     start.elapsed() / calls
+}
+
+/// The value, as something that the compiler knows nothing of.
+fn black_box<T>(value: T) -> T {
+    let value = std::mem::ManuallyDrop::new(value);
+    // SAFETY: the value is read once and is not dropped where it was.
+    unsafe { std::ptr::read_volatile(&*value) }
 }

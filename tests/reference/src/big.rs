@@ -233,7 +233,10 @@ fn divide(dividend: &[u32], divisor: &[u32]) -> (Vec<u32>, Vec<u32>) {
 
 /// The window's two top limbs by the divisor's top limb, held to one limb.
 fn guess(window: &[u32], top: u32) -> u32 {
-    let [.., low, high] = window else { return 0 };
+    let (low, high) = match window {
+        [.., low, high] => (low, high),
+        _ => return 0,
+    };
     let head = (u64::from(*high) << 32) | u64::from(*low);
     u32::try_from(head / u64::from(top)).unwrap_or(u32::MAX)
 }

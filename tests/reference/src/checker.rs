@@ -30,7 +30,7 @@ pub fn check_book(question: &[u8], book: &[u8]) -> Checked {
         Err(fault) => return fault.into(),
     };
     let length = book.len();
-    if !(STEP_LENGTH..=PROOF_LENGTH).contains(&length) || !length.is_multiple_of(STEP_LENGTH) {
+    if !(STEP_LENGTH..=PROOF_LENGTH).contains(&length) || length % STEP_LENGTH != 0 {
         return Checked::Refused {
             number: 16,
             place: length,
@@ -39,9 +39,9 @@ pub fn check_book(question: &[u8], book: &[u8]) -> Checked {
     let parts = split(&problem);
     let mut earlier = Vec::new();
     for (number, line) in book.chunks_exact(STEP_LENGTH).enumerate() {
-        let Some(step) = claimed(line, &parts, &earlier).filter(|step| step.encode() == line)
-        else {
-            return Checked::Fails(number);
+        let step = match claimed(line, &parts, &earlier).filter(|step| step.encode() == line) {
+            Some(step) => step,
+            None => return Checked::Fails(number),
         };
         earlier.push(step.body);
     }
@@ -53,8 +53,9 @@ pub fn check_book(question: &[u8], book: &[u8]) -> Checked {
 
 /// The step that the line's first six bytes name, if there is one.
 fn claimed(line: &[u8], parts: &[ClausePart], earlier: &[Body]) -> Option<Step> {
-    let &[how, which, f0, f1, s0, s1, ..] = line else {
-        return None;
+    let (how, which, f0, f1, s0, s1) = match line {
+        &[how, which, f0, f1, s0, s1, ..] => (how, which, f0, f1, s0, s1),
+        _ => return None,
     };
     let first = u16::from_le_bytes([f0, f1]);
     let second = u16::from_le_bytes([s0, s1]);

@@ -74,7 +74,7 @@ impl Body {
 
     /// 01's wide: some amount is beyond the limit.
     pub fn overflows(&self) -> bool {
-        self.constraint.is_some_and(|constraint| {
+        self.constraint.map_or(false, |constraint| {
             let mut amounts = constraint.coefficients.iter().chain([&constraint.bound]);
             amounts.any(|amount| amount.abs() > MAX_AMOUNT)
         })
@@ -96,7 +96,7 @@ impl Body {
     /// belongs to none.
     pub fn round(&self) -> Option<usize> {
         (0..ROUNDS)
-            .find(|&round| round_variable(round).is_some_and(|variable| self.sign(variable) != 0))
+            .find(|&round| round_variable(round).map_or(false, |variable| self.sign(variable) != 0))
     }
 }
 
@@ -118,7 +118,8 @@ pub fn resolve(variable: Variable, upper: &Body, lower: &Body) -> Option<Body> {
             }
         }
     };
-    let normal = normalize(literals, constraint.as_slice())?;
+    let constraints = constraint.as_ref().map_or(&[][..], std::slice::from_ref);
+    let normal = normalize(literals, constraints)?;
     Some(Body {
         literals: normal.literals,
         constraint: normal.constraints.first().copied(),
@@ -216,8 +217,9 @@ impl Elimination {
 
     /// Pairs the turn's lines; no result belongs to the turn, so these are known at its start.
     fn round(&mut self, round: usize) -> Result<(), End> {
-        let Some(variable) = round_variable(round) else {
-            return Ok(());
+        let variable = match round_variable(round) {
+            Some(variable) => variable,
+            None => return Ok(()),
         };
         let uppers = self.members(round, variable, 1);
         let lowers = self.members(round, variable, -1);
@@ -240,8 +242,9 @@ impl Elimination {
     fn pair(&mut self, variable: Variable, first: usize, second: usize) -> Result<(), End> {
         self.pairs += 1;
         let (upper, lower) = (&self.steps[first].body, &self.steps[second].body);
-        let Some(body) = resolve(variable, upper, lower) else {
-            return Ok(());
+        let body = match resolve(variable, upper, lower) {
+            Some(body) => body,
+            None => return Ok(()),
         };
         let origin = Origin::Resolved {
             variable,

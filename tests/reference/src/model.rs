@@ -97,8 +97,9 @@ fn rational_value(i: usize, members: &[&Step], assignment: &Assignment) -> Optio
     let mut lower = None;
     let mut upper = None;
     for step in members {
-        let Some(constraint) = step.body.constraint else {
-            continue;
+        let constraint = match step.body.constraint {
+            Some(constraint) => constraint,
+            None => continue,
         };
         if assignment.satisfies_any(step.body.literals) {
             continue;
@@ -125,7 +126,10 @@ fn check_size(value: &Fraction) -> Option<()> {
 
 /// The better of two limits on one side: strict if either at that value is.
 fn tighter(held: Option<Limit>, new: Limit, better: Ordering) -> Limit {
-    let Some(held) = held else { return new };
+    let held = match held {
+        Some(held) => held,
+        None => return new,
+    };
     match new.value.cmp(&held.value) {
         Ordering::Equal => Limit {
             strict: held.strict || new.strict,

@@ -85,8 +85,9 @@ pub fn split(problem: &Problem) -> Vec<ClausePart> {
     let mut parts = Vec::new();
     let mut link = usize::from(problem.booleans);
     for (clause, written) in (0..).zip(&problem.clauses) {
-        let Some(normal) = normalize(written.literals, &written.constraints) else {
-            continue;
+        let normal = match normalize(written.literals, &written.constraints) {
+            Some(normal) => normal,
+            None => continue,
         };
         for (part, body) in (0..).zip(split_clause(&normal, link)) {
             parts.push(ClausePart { clause, part, body });
@@ -98,11 +99,14 @@ pub fn split(problem: &Problem) -> Vec<ClausePart> {
 
 /// The pieces of one clause; its links are numbered from `link` upward.
 fn split_clause(normal: &Normal, link: usize) -> Vec<Body> {
-    let Some(last) = normal.constraints.len().checked_sub(1) else {
-        return vec![Body {
-            literals: normal.literals,
-            constraint: None,
-        }];
+    let last = match normal.constraints.len().checked_sub(1) {
+        Some(last) => last,
+        None => {
+            return vec![Body {
+                literals: normal.literals,
+                constraint: None,
+            }]
+        }
     };
     let piece = |(i, constraint): (usize, &Constraint)| {
         let mut literals = match i {

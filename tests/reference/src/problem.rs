@@ -122,7 +122,8 @@ impl Reader<'_> {
     /// The next field's bytes, not yet passed over.
     fn peek<const N: usize>(&self) -> Result<[u8; N], Fault> {
         let rest = self.bytes.get(self.place..).unwrap_or_default();
-        rest.first_chunk().copied().ok_or(Fault {
+        let field = rest.get(..N).and_then(|field| field.try_into().ok());
+        field.ok_or(Fault {
             number: 4,
             place: self.bytes.len(),
         })

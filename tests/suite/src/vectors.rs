@@ -27,8 +27,9 @@ pub fn questions() -> Vec<Result<Vec<u8>, String>> {
     });
     let padded = lines("buffers.txt").into_iter().map(|line| {
         let fields: Vec<&str> = line.split('|').collect();
-        let [start, zeros, ..] = fields[..] else {
-            return Err("malformed".into());
+        let (start, zeros) = match fields[..] {
+            [start, zeros, ..] => (start, zeros),
+            _ => return Err("malformed".into()),
         };
         padded(start, zeros)
     });
@@ -39,8 +40,9 @@ pub fn questions() -> Vec<Result<Vec<u8>, String>> {
 pub fn questions_with(file: &str) -> Vec<Result<(Vec<u8>, Vec<u8>), String>> {
     let parts = |line: String| {
         let fields: Vec<&str> = line.split('|').collect();
-        let [_, question, part, ..] = fields[..] else {
-            return Err("malformed".into());
+        let (question, part) = match fields[..] {
+            [_, question, part, ..] => (question, part),
+            _ => return Err("malformed".into()),
         };
         Ok((bytes(question)?, bytes(part)?))
     };
@@ -78,12 +80,14 @@ fn run_file(name: &'static str, file: &str, case: fn(&Fields) -> Outcome, sums: 
 
 /// name, question, answer, sheet after, hash of the book after.
 fn solve_case(fields: &Fields) -> Outcome {
-    let [_, question, a, b, c, rest @ ..] = fields else {
-        return Err("malformed".into());
+    let (question, a, b, c, rest) = match fields {
+        [_, question, a, b, c, rest @ ..] => (question, a, b, c, rest),
+        _ => return Err("malformed".into()),
     };
     let (answer, rest) = answer(&[a, b, c], rest)?;
-    let [sheet, hash] = rest else {
-        return Err("malformed".into());
+    let (sheet, hash) = match rest {
+        [sheet, hash] => (sheet, hash),
+        _ => return Err("malformed".into()),
     };
     let solved = solve_filled(&bytes(question)?);
     solved.expect(&answer)?;
@@ -99,8 +103,9 @@ fn solve_case(fields: &Fields) -> Outcome {
 
 /// name, question, book, what the check says.
 fn book_case(fields: &Fields) -> Outcome {
-    let [_, question, book, expected @ ..] = fields else {
-        return Err("malformed".into());
+    let (question, book, expected) = match fields {
+        [_, question, book, expected @ ..] => (question, book, expected),
+        _ => return Err("malformed".into()),
     };
     let got = check_book(&bytes(question)?, &bytes(book)?);
     equal("check", &checked(expected)?, &got)
@@ -108,8 +113,9 @@ fn book_case(fields: &Fields) -> Outcome {
 
 /// name, question, sheet, what the check says.
 fn sheet_case(fields: &Fields) -> Outcome {
-    let [_, question, sheet, expected @ ..] = fields else {
-        return Err("malformed".into());
+    let (question, sheet, expected) = match fields {
+        [_, question, sheet, expected @ ..] => (question, sheet, expected),
+        _ => return Err("malformed".into()),
     };
     let got = check_sheet(&bytes(question)?, &bytes(sheet)?);
     equal("check", &checked(expected)?, &got)
@@ -117,11 +123,15 @@ fn sheet_case(fields: &Fields) -> Outcome {
 
 /// question's start, zeros after it, book's length, sheet's length, answer; all zero before.
 fn buffers_case(fields: &Fields) -> Outcome {
-    let [start, zeros, book, sheet, a, b, c, rest @ ..] = fields else {
-        return Err("malformed".into());
+    let (start, zeros, book, sheet, a, b, c, rest) = match fields {
+        [start, zeros, book, sheet, a, b, c, rest @ ..] => {
+            (start, zeros, book, sheet, a, b, c, rest)
+        }
+        _ => return Err("malformed".into()),
     };
-    let (answer, []) = answer(&[a, b, c], rest)? else {
-        return Err("malformed".into());
+    let answer = match answer(&[a, b, c], rest)? {
+        (answer, []) => answer,
+        _ => return Err("malformed".into()),
     };
     let question = padded(start, zeros)?;
     let mut book = vec![0; number(book)?];
@@ -134,12 +144,14 @@ fn buffers_case(fields: &Fields) -> Outcome {
 
 /// answer, book's length, sheet's length, part of which buffer, its length.
 fn hand_back_case(fields: &Fields) -> Outcome {
-    let [a, b, c, rest @ ..] = fields else {
-        return Err("malformed".into());
+    let (a, b, c, rest) = match fields {
+        [a, b, c, rest @ ..] => (a, b, c, rest),
+        _ => return Err("malformed".into()),
     };
     let (answer, rest) = answer(&[a, b, c], rest)?;
-    let &[book, sheet, buffer, length] = rest else {
-        return Err("malformed".into());
+    let (book, sheet, buffer, length) = match rest {
+        &[book, sheet, buffer, length] => (book, sheet, buffer, length),
+        _ => return Err("malformed".into()),
     };
     let length: usize = number(length)?;
     let book = numbered(number(book)?);
@@ -166,8 +178,9 @@ fn answer<'a>(head: &[&str; 3], rest: &'a Fields<'a>) -> Result<(Answer, &'a Fie
         "cannot" => Verdict::Cannot,
         "unwritten" => Verdict::Unwritten,
         "refused" => {
-            let [pairs, rest @ ..] = rest else {
-                return Err("malformed".into());
+            let (pairs, rest) = match rest {
+                [pairs, rest @ ..] => (pairs, rest),
+                _ => return Err("malformed".into()),
             };
             let refused = Answer::Refused {
                 number: number(second)?,
