@@ -13,7 +13,8 @@
  * prints or stops the process; every call ends, for bytes of every kind and
  * buffers of every length. Calls in several threads do not disturb each other
  * as long as the buffers that one of them writes are its own. A pointer may be
- * NULL where its length is 0. Buffers of one call must not overlap.
+ * NULL where its length is 0. Buffers of one call must not overlap. A call
+ * takes some two kilobytes of stack.
  *
  * Link with libjemuling.a; nothing else is needed.
  */
@@ -98,6 +99,15 @@ typedef struct {
  * The sheet: the count b of marks, b bytes of 0 or 1, the count r of figures,
  * four bytes denominator, r numerators of four bytes (signed, little-endian),
  * zeros. Figure i is numerator i by the denominator.
+ *
+ * A line of the book: byte 0 is how it came (0 from a clause, 1 by eliminating
+ * a figure, 2 a mark) and byte 1 that figure's or mark's number; two bytes
+ * each, its parents: the line with it positive, the line with it negative
+ * (from a clause: the clause's number, and its piece). What it states: byte 6
+ * is its condition's relation, 0 without one; byte 7 is 0; four bytes each,
+ * its marks and its negated marks, mark i as 2 to the power i, those from b on
+ * being links between the pieces of a clause; eight coefficients and a bound
+ * of four bytes; zeros.
  */
 jemuling_solved jemuling_solve(const uint8_t *question, size_t question_length,
                                uint8_t *book, size_t book_length,
