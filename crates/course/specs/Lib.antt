@@ -13,6 +13,8 @@ pub mod Closed
 pub mod Consistent
 pub mod PairBound
 pub mod Taken
+pub mod Stretches
+pub mod Complete
 pub mod Saturated
 pub mod Origins
 pub mod Ends

@@ -11,7 +11,8 @@ use Rattle.lists.specs.All.{All, Any, append-all, mapped-all}
 use Rattle.saturation.specs.Rounds.{At}
 use Rattle.saturation.specs.Tried.{pairs-tried}
 use Rattle.saturation.specs.Saturation.{AllPairs}
-use Rattle.course.specs.Taken.{lines, InBook, ofPair, resultsFrom, results, pieces, Complete, course-complete}
+use Rattle.course.specs.Taken.{lines, InBook, ofPair, resultsFrom, results, pieces, Complete}
+use Rattle.course.specs.Complete.{course-complete}
 
 -- the results of one turn
 turn-results : (variables : List Variable) (steps : List Step) (t i : ℕ) (vs : List Variable) (v : Variable) → At vs i v → All (InBook steps) (resultsFrom variables t vs steps)

@@ -4,7 +4,8 @@ use Rattle.rules.specs.Problem.{Problem}
 use Rattle.rules.specs.Elimination.{Stops, order, loadableOf, course}
 use Rattle.rules.specs.Needs.{stepsOf}
 use Rattle.course.specs.Origins.{Each, Justified, Fresh, course-origins, course-fresh}
-use Rattle.course.specs.Taken.{Complete, course-complete}
+use Rattle.course.specs.Taken.{Complete}
+use Rattle.course.specs.Complete.{course-complete}
 
 module _ (p : Problem) (stops : Stops) where
   pub course-lines : Each (Justified order (loadableOf p)) [] (stepsOf (course stops p))

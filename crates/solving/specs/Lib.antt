@@ -1,3 +1,5 @@
 pub mod Absent
 pub mod Ends
 pub mod Leaves
+pub mod Concluded
+pub mod Left

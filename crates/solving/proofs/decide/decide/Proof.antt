@@ -2,7 +2,7 @@
 use Rattle.soundness.specs.WellFormed.{WellFormed}
 use Rattle.soundness.specs.Reading.{read-well-formed}
 use Rattle.reading.specs.Parsed.{problemAt}
-use Rattle.solving.specs.Leaves.{few-steps, narrow, leaves-overflow, leaves-out, leaves-empty, leaves-saturated}
+use Rattle.solving.specs.Left.{few-steps, narrow, leaves-overflow, leaves-out, leaves-empty, leaves-saturated}
 use borrow.Author.Needs.{needs}
 use Rattle.solving.proofs.decide.decide.Statement.{statement}
 use Rattle.solving.proofs.decide.decide.Tie as tie

@@ -1,0 +1,44 @@
+-- What each end of a course concludes.
+use mathlib.Core.Path.{_≡_, refl}
+use mathlib.Core.List.{List, map}
+use mathlib.Core.Option.{Option, none, some}
+use Prim.Native.Nat.{ℕ}
+use lib.ListN.{length}
+use Rattle.types.specs.declared.answers.Refusal.the-variants as refusal
+use Rattle.types.specs.declared.answers.Verdict.the-variants.{Satisfiable, Unsatisfiable, Unwritten}
+use Rattle.rules.specs.Problem.{Problem}
+use Rattle.rules.specs.Steps.{Step}
+use Rattle.rules.specs.Elimination.{State, running, ended, empty, overflow, outOfSteps, order}
+use Rattle.rules.specs.Needs.{stepsOf, pairsOf}
+use Rattle.rules.specs.Values.{walk}
+use Rattle.rules.specs.Model.{written}
+use Rattle.rules.specs.Calls.{Outcome, stopped, decided, noModel, concluded}
+use Rattle.elimination.specs.declared.End.{End}
+use Rattle.elimination.specs.declared.End.the-variants.{Saturated, Empty, Overflow, OutOfSteps}
+use Rattle.elimination.specs.Ends.{endOf}
+
+module _ (p : Problem) where
+  -- by the sheet of the walk
+  abbrev pub finished : State → Option (List ℕ) → Outcome
+  finished s none = decided Unwritten (stepsOf s) (pairsOf s) noModel
+  finished s (some bytes) = decided Satisfiable (stepsOf s) (pairsOf s) bytes
+
+  abbrev pub sheetOf : List Step → Option (List ℕ)
+  sheetOf steps = written (p .booleans) (p .rationals) (walk order (map (λ s. s .line) steps))
+
+  abbrev pub Concludes : State → End → Type 0
+  Concludes s Overflow = concluded p s ≡ stopped refusal.Overflow (length (stepsOf s)) (pairsOf s)
+  Concludes s OutOfSteps = concluded p s ≡ stopped refusal.OutOfSteps (length (stepsOf s)) (pairsOf s)
+  Concludes s Empty = concluded p s ≡ decided Unsatisfiable (stepsOf s) (pairsOf s) noModel
+  Concludes s Saturated = (o : Option (List ℕ)) → sheetOf (stepsOf s) ≡ o → concluded p s ≡ finished s o
+
+  pub concludes : (s : State) → Concludes s (endOf s)
+  unfolding concluded endOf stepsOf pairsOf
+  concludes (running steps n) = by
+    where
+      by : (o : Option (List ℕ)) → sheetOf steps ≡ o → concluded p (running steps n) ≡ finished (running steps n) o
+      by none e = rw (e, concluded)
+      by (some bytes) e = rw (e, concluded)
+  concludes (ended empty steps n) = refl
+  concludes (ended overflow steps n) = refl
+  concludes (ended outOfSteps steps n) = refl
