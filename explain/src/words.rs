@@ -7,7 +7,7 @@ use jemuling::{
 use notation::{decode, explain_book, explain_sheet, show_clause, Failure, Names, Question};
 
 /// Solves a question: its clauses, the answer, the sheet or the book line by line, and what the
-/// check says of it. The names are asked for once the question is known to be read without fault.
+/// check says of it. A question at fault is refused before the names are asked for.
 pub fn explain(
     bytes: &[u8],
     names: impl Fn(&Question) -> Result<Names, Failure>,
@@ -16,7 +16,7 @@ pub fn explain(
     let solved = solve(bytes, &mut book, &mut sheet);
     let said = answer(solved.answer, solved.pairs);
     if let Answer::Refused(Refusal { number: 3..=13, .. }) = solved.answer {
-        return Ok(said);
+        return Err(Failure::Said(said));
     }
     let question = decode(bytes).map_err(Failure::Said)?;
     let names = names(&question)?;
@@ -31,7 +31,8 @@ pub fn explain(
         }
         _ => Ok(String::new()),
     };
-    Ok(clauses(&question, &names) + &said + &shown.map_err(Failure::Said)?)
+    let shown = shown.map_err(Failure::Said)?;
+    Ok(format!("{}{said}\n{shown}", clauses(&question, &names)))
 }
 
 fn clauses(question: &Question, names: &Names) -> String {
@@ -52,10 +53,10 @@ fn answer(answer: Answer, pairs: u64) -> String {
                     "unwritten: it can agree, but a number of the shares is too large for the sheet"
                 }
             };
-            format!("{verdict} (lines of the book: {lines}, pairs tried: {pairs})\n")
+            format!("{verdict} (lines of the book: {lines}, pairs tried: {pairs})")
         }
         Answer::Refused(Refusal { number, place }) => {
-            format!("refused, {number} at {place}: {}\n", reason(number))
+            format!("refused, {number} at {place}: {}", reason(number))
         }
     }
 }
