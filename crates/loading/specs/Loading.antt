@@ -5,7 +5,7 @@ use mathlib.Core.List.{List, [], _∷_, _++_}
 use Prim.Native.Nat.{ℕ, suc, _+_, _*_, _-_, _≤_, _<_}
 use native.Mathlib.Numerals.{add-one}
 use native.Mathlib.Omega.{arith}
-use lib.ListN.{length, drop}
+use lib.ListN.{length}
 use Rattle.types.specs.declared.limits.Limits.{Limits}
 use Rattle.rules.specs.Lists.{tabulate}
 use Rattle.rules.specs.Problem.{Clause}
@@ -14,10 +14,10 @@ use Rattle.rules.specs.Steps.{Step}
 use Rattle.rules.specs.Needs.{pairsOf}
 use Rattle.rules.specs.Elimination.{Stops, State, running, ended, limited, partSteps, loadable, loadableOf, add, load}
 use Rattle.reader.specs.Values.{clauseAt, clauseEnd}
-use Rattle.reader.specs.Sound.{SoundClause, sound-clause}
-use Rattle.reading.specs.Clauses.{clausesAt, clausesEnd-≥, clauses-next}
+use Rattle.reader.specs.Sound.{SoundClause}
+use Rattle.reading.specs.Clauses.{clausesAt, clauses-next}
 use Rattle.reading.specs.Parsed.{problemAt}
-use Rattle.reading.specs.Readable.{Readable, Ahead, ahead-start, ahead-gives, ahead-few, ahead-next}
+use Rattle.reading.specs.Readable.{Readable, Ahead, ahead-start, ahead-sound, ahead-few, ahead-next}
 use Rattle.placing.specs.declared.place.Progress.the-variants.{Running}
 use Rattle.placing.specs.declared.place.Point.{Point}
 use Rattle.placing.specs.Steps.{stepsIn}
@@ -56,7 +56,7 @@ pub record AtClause (limits : Limits) (q : List ℕ) (b r n : ℕ) (start proof 
   pub going : p .progress ≡ Running
   pub few : clause ≤ n
   pub low : b ≤ split
-  pub ahead : Ahead q b r (n - clause) at (split - b)
+  pub ahead : Ahead q r (n - clause) at (split - b)
   pub leads : Leads limits start 0 proof (p .steps)
   pub same : load (limited limits) (loadable clause split (clausesAt q r (n - clause) at)) (stateAt proof p) ≡ load (limited limits) (loadableOf (problemAt q b r n)) (running [] 0)
 
@@ -85,7 +85,7 @@ module _ {limits : Limits} {q : List ℕ} {b r n : ℕ} {start : List ℕ} where
       left = omega arith
 
       pub clause-sound : SoundClause q r at
-      clause-sound = sound-clause q b r at _ _ _ (omega (arith, clausesEnd-≥ q r (n - clause) at, a .ahead .within)) (ahead-gives (a .ahead) left) .clause
+      clause-sound = ahead-sound (a .ahead) left
 
       pub clause-splits : split - b + splitsOf (clauseAt q r at) ≤ 16
       clause-splits = ahead-few (a .ahead) left

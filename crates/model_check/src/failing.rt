@@ -9,12 +9,12 @@ ghost use Rattle.rules.specs.Checker.{checkClauses};
 ghost use Rattle.rows.specs.Amount.{Amounts};
 ghost use Rattle.evaluation.specs.Model.{assignment};
 ghost use Rattle.reading.specs.Clauses.{clausesAt};
-ghost use Rattle.model_check.specs.Failing.{SoundFrom};
+ghost use Rattle.reader.specs.Sound.{SoundClauses};
 
 // Of so many clauses, numbered from 0.
 pub fn check_clauses(q: &[u8], from: usize, r: u8, count: u64, model: Model) -> Checked
     requires { ⌜ r ≤ 8 ⌝ }
-    requires { ⌜ SoundFrom (now q) r count from ⌝ }
+    requires { ⌜ SoundClauses (now q) r count from ⌝ }
     requires { ⌜ Amounts (model .numerators) ⌝ }
     ensures { λ c. ⌜ c ≡ checkClauses (assignment model) 0 (clausesAt (now (q .entry)) r count from) ⌝ }
 {

@@ -13,10 +13,10 @@ use Rattle.rules.specs.Problem.{Problem}
 use Rattle.rules.specs.Split.{partsOf, splitsOf}
 use Rattle.rules.specs.Calls.{read}
 use Rattle.reader.specs.Values.{clauseAt, clauseEnd}
-use Rattle.reader.specs.Sound.{SoundClause, sound-clause}
+use Rattle.reader.specs.Sound.{SoundClause}
 use Rattle.clauses.specs.Walk.{clause-≤}
 use Rattle.reading.specs.Clauses.{clausesAt, clauses-next}
-use Rattle.reading.specs.Readable.{Readable, Ahead, ahead-start, ahead-within, ahead-gives, ahead-few, ahead-next}
+use Rattle.reading.specs.Readable.{Readable, Ahead, ahead-start, ahead-within, ahead-sound, ahead-few, ahead-next}
 use Rattle.reading.specs.Parsed.{problemAt}
 use Rattle.checking.specs.Named.{partNamed}
 use Rattle.proof_check.specs.declared.index.Sizes.{Sizes}
@@ -46,7 +46,7 @@ pub record Indexing (q : List ℕ) (b r n : ℕ) (places variables : List ℕ) (
   pub few : m ≤ n
   pub used : ℕ
   pub variable-is : variable ≡ b + used
-  pub ahead : Ahead q b r (n - m) at used
+  pub ahead : Ahead q r (n - m) at used
   pub done : Indexed q b r n places variables m
   pub rest : (d k : ℕ) → partNamed b (clausesAt q r n 4) (m + d) k ≡ partNamed variable (clausesAt q r (n - m) at) d k
 
@@ -107,7 +107,7 @@ module _ {q : List ℕ} {b r n : ℕ} {places variables : List ℕ} {at variable
   entry : b ≤ limit.booleans → Entry q b r n at variable m
   entry h =
       record {
-        sound = sound-clause q b r at _ _ _ indexing-place (ahead-gives (run .ahead) left) .clause;
+        sound = ahead-sound (run .ahead) left;
         small = omega (arith, indexing-small h);
         named = λ k. let z : m ≡ m + 0 = omega arith in ap (λ (c : ℕ). partNamed b (clausesAt q r n 4) c k) z ∙ run .rest 0 k ∙ named-first q r variable (n - m) at left k;
       }

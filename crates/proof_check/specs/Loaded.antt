@@ -70,7 +70,7 @@ module _ {q : List ℕ} {b r n : ℕ} (read : Readable q b r n) (bytes : List �
   among-clauses : lineAmong (loadableOf (problemAt q b r n)) bytes ≡ ownStep bytes (fieldAt 2 2 bytes) (fieldAt 4 2 bytes) (partNamed b (clausesAt q r n 4) (fieldAt 2 2 bytes) (fieldAt 4 2 bytes))
   unfolding loadableOf
   among-clauses =
-      among-named bytes 0 (fieldAt 2 2 bytes) b (clausesAt q r n 4) (omega (arith, length-clausesAt q r n 4, read .parsed .clauses)) (few-parts q b r n 4 0 (ahead-start read)) (omega arith)
+      among-named bytes 0 (fieldAt 2 2 bytes) b (clausesAt q r n 4) (omega (arith, length-clausesAt q r n 4, read .parsed .clauses)) (few-parts q r n 4 0 (ahead-start read)) (omega arith)
 
   pub loaded-beyond : n ≤ fieldAt 2 2 bytes → lineAmong (loadableOf (problemAt q b r n)) bytes ≡ none
   unfolding ownStep

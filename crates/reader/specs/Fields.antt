@@ -12,7 +12,7 @@ use lib.Seq.{drop-cons, drop-length}
 use Rattle.types.specs.declared.answers.Refusal.{Refusal}
 use Rattle.types.specs.declared.answers.Refusal.the-variants as refusal
 use Rattle.rules.specs.Bytes.{fieldAt}
-use Rattle.rules.specs.Problem.{fault, got, after, byte, number, tested, field}
+use Rattle.rules.specs.Problem.{Reader, fault, got, after, byte, number, tested, field}
 use Rattle.layout.specs.Fields.{fieldAt-next, fieldAt-none}
 
 module _ (q : List ℕ) where
@@ -54,6 +54,20 @@ module _ (q : List ℕ) where
     pub field-good : at + k ≤ length q → good (fieldAt at k q) ≡ true → field k good f (drop at q) at ≡ got (fieldAt at k q) (drop (at + k) q) (at + k)
     unfolding field after tested
     field-good h e = rw (number-there k at h, e)
+
+    -- and what comes next
+    module _ {A : Type 0} (next : ℕ → Reader A) where
+      pub then-short : at ≤ length q → length q < at + k → after (field k good f (drop at q) at) next ≡ fault refusal.Truncated (length q)
+      unfolding after
+      then-short h l = rw (field-short h l)
+
+      pub then-bad : at + k ≤ length q → good (fieldAt at k q) ≡ false → after (field k good f (drop at q) at) next ≡ fault f at
+      unfolding after
+      then-bad h e = rw (field-bad h e)
+
+      pub then-good : at + k ≤ length q → good (fieldAt at k q) ≡ true → after (field k good f (drop at q) at) next ≡ next (fieldAt at k q) (drop (at + k) q) (at + k)
+      unfolding after
+      then-good h e = rw (field-good h e)
 
   pub fieldAt-1 : (at : ℕ) → at < length q → fieldAt at 1 q ≡ getD q at 0
   fieldAt-1 at h = omega (arith, fieldAt-next at 0 q h, fieldAt-none (at + 1) q)

@@ -1,10 +1,11 @@
 pub mod Seen
 pub mod Run
-pub mod Steady
 pub mod Fields
+pub mod Values
+pub mod Sound
+pub mod Valued
+pub mod Steady
 pub mod Parts
 pub mod Clauses
 pub mod Scans
 pub mod Read
-pub mod Values
-pub mod Sound

@@ -16,49 +16,36 @@ use Rattle.reader.specs.declared.cursor.Cursor.{Cursor}
 use Rattle.reader.specs.declared.cursor.Cursor.the-variants.{Next, Fault}
 use Rattle.reader.specs.Seen.{seen, next-within, seen-fault, seen-next, seen-map}
 use Rattle.reader.specs.Steady.{steady-repeat, steady-amount}
-use Rattle.reader.specs.Fields.{field-short, field-bad, field-good, fieldAt-1}
-
--- ---- a field, and a value that is made of it
-module _ {A : Type 0} (q : List ℕ) (k : ℕ) (good : ℕ → Bool) (f : Refusal) (at : ℕ) (next : ℕ → Reader A) where
-  pub then-short : at ≤ length q → length q < at + k → seen (after (field k good f (drop at q) at) next) ≡ Fault refusal.Truncated (length q)
-  unfolding seen after
-  then-short h l = rw (field-short q k good f at h l)
-
-  pub then-bad : at + k ≤ length q → good (fieldAt at k q) ≡ false → seen (after (field k good f (drop at q) at) next) ≡ Fault f at
-  unfolding seen after
-  then-bad h e = rw (field-bad q k good f at h e)
-
-  pub then-good : at + k ≤ length q → good (fieldAt at k q) ≡ true
-      → seen (after (field k good f (drop at q) at) next) ≡ seen (next (fieldAt at k q) (drop (at + k) q) (at + k))
-  unfolding after
-  then-good h e = rw (field-good q k good f at h e)
+use Rattle.reader.specs.Fields.{then-short, then-bad, then-good, fieldAt-1}
 
 -- ---- an amount
 module _ (q : List ℕ) (at : ℕ) where
   pub amount-short : at ≤ length q → length q < at + 4 → seen (amount refusal.Amount (drop at q) at) ≡ Fault refusal.Truncated (length q)
-  unfolding amount
-  amount-short h l = then-short q 4 _ _ at _ h l
+  unfolding amount seen
+  amount-short h l = ap seen (then-short q 4 _ _ at _ h l)
 
   pub amount-bad : at + 4 ≤ length q → inRange (fromUnsigned (fieldAt at 4 q)) ≡ false → seen (amount refusal.Amount (drop at q) at) ≡ Fault refusal.Amount at
-  unfolding amount
-  amount-bad h e = then-bad q 4 (λ n. inRange (fromUnsigned n)) _ at _ h e
+  unfolding amount seen
+  amount-bad h e = ap seen (then-bad q 4 (λ n. inRange (fromUnsigned n)) _ at _ h e)
 
   pub amount-good : at + 4 ≤ length q → inRange (fromUnsigned (fieldAt at 4 q)) ≡ true → seen (amount refusal.Amount (drop at q) at) ≡ Next (at + 4)
   unfolding amount seen
-  amount-good h e = then-good q 4 (λ n. inRange (fromUnsigned n)) _ at _ h e
+  amount-good h e = ap seen (then-good q 4 (λ n. inRange (fromUnsigned n)) _ at _ h e)
 
 -- ---- a field of one byte
 module _ {A : Type 0} (q : List ℕ) (good : ℕ → Bool) (f : Refusal) (at : ℕ) (next : ℕ → Reader A) where
   pub byte-short : at ≤ length q → length q ≤ at → seen (after (field 1 good f (drop at q) at) next) ≡ Fault refusal.Truncated (length q)
-  byte-short h l = then-short q 1 good f at next h (omega arith)
+  unfolding seen
+  byte-short h l = ap seen (then-short q 1 good f at next h (omega arith))
 
   pub byte-bad : at < length q → good (getD q at 0) ≡ false → seen (after (field 1 good f (drop at q) at) next) ≡ Fault f at
-  byte-bad h e = then-bad q 1 good f at next (omega arith) (ap good (fieldAt-1 q at h) ∙ e)
+  unfolding seen
+  byte-bad h e = ap seen (then-bad q 1 good f at next (omega arith) (ap good (fieldAt-1 q at h) ∙ e))
 
   pub byte-good : at < length q → good (getD q at 0) ≡ true
       → seen (after (field 1 good f (drop at q) at) next) ≡ seen (next (getD q at 0) (drop (at + 1) q) (at + 1))
   byte-good h e =
-      then-good q 1 good f at next (omega arith) (ap good (fieldAt-1 q at h) ∙ e)
+      ap seen (then-good q 1 good f at next (omega arith) (ap good (fieldAt-1 q at h) ∙ e))
       ∙ ap (λ (v : ℕ). seen (next v (drop (at + 1) q) (at + 1))) (fieldAt-1 q at h)
 
 -- ---- a literal

@@ -19,7 +19,7 @@ use Rattle.reader.specs.declared.cursor.Scan.{Scan}
 use Rattle.reader.specs.declared.cursor.Scan.the-variants.{Sound, Fault}
 use Rattle.reader.specs.Seen.{seen, Kept}
 use Rattle.reader.specs.Steady.{steady-repeat, steady-clause}
-use Rattle.reader.specs.Fields.{field-short, field-bad, field-good, fieldAt-1}
+use Rattle.reader.specs.Fields.{then-short, then-bad, then-good, fieldAt-1}
 
 unfoldable pub outline : Read Problem → Scan
 outline (fault f place) = Fault f place
@@ -111,17 +111,16 @@ module _ (q : List ℕ) (b r n : ℕ) where
 -- ---- b, r and n
 module _ (q : List ℕ) (k : ℕ) (most : ℕ) (f : Refusal) (at : ℕ) (next : ℕ → Reader Problem) where
   at-most-short : at ≤ length q → length q < at + k → outline (after (field k (λ v. leb v most) f (drop at q) at) next) ≡ Fault refusal.Truncated (length q)
-  unfolding outline after
-  at-most-short h l = rw (field-short q k (λ v. leb v most) f at h l)
+  unfolding outline
+  at-most-short h l = ap outline (then-short q k (λ v. leb v most) f at next h l)
 
   at-most-bad : at + k ≤ length q → most < fieldAt at k q → outline (after (field k (λ v. leb v most) f (drop at q) at) next) ≡ Fault f at
-  unfolding outline after
-  at-most-bad h l = rw (field-bad q k (λ v. leb v most) f at h (lt-leb (fieldAt at k q) most l))
+  unfolding outline
+  at-most-bad h l = ap outline (then-bad q k (λ v. leb v most) f at next h (lt-leb (fieldAt at k q) most l))
 
   at-most-good : at + k ≤ length q → fieldAt at k q ≤ most
       → after (field k (λ v. leb v most) f (drop at q) at) next ≡ next (fieldAt at k q) (drop (at + k) q) (at + k)
-  unfolding after
-  at-most-good h l = rw (field-good q k (λ v. leb v most) f at h (le-leb (fieldAt at k q) most l))
+  at-most-good h l = then-good q k (λ v. leb v most) f at next h (le-leb (fieldAt at k q) most l)
 
 module _ (q : List ℕ) where
   pub problem-short-b : length q < 1 → outline (problem q 0) ≡ Fault refusal.Truncated (length q)

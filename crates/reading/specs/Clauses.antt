@@ -1,11 +1,13 @@
--- The clauses that stand one behind another from a place on: where reading gives a value, it is these.
+-- The clauses that stand one behind another from a place on: where reading gives a value, it is these, each within the limits.
 use mathlib.Core.Path.{_≡_, refl, ap}
 use mathlib.Core.List.{List, [], _∷_}
 use Prim.Native.Nat.{ℕ, zero, suc, _-_, _≤_, _<_}
 use native.Mathlib.Omega.{arith}
 use lib.ListN.{length, drop}
 use Rattle.rules.specs.Problem.{Clause, repeat, clause}
-use Rattle.reader.specs.Values.{clauseAt, clauseEnd, Valued, there, valued-after, clause-valued}
+use Rattle.reader.specs.Values.{clauseAt, clauseEnd}
+use Rattle.reader.specs.Sound.{SoundClauses}
+use Rattle.reader.specs.Valued.{Valued, given, valued-after, clause-valued}
 use Rattle.clauses.specs.Walk.{clause-≤}
 
 module _ (q : List ℕ) (r : ℕ) where
@@ -50,11 +52,7 @@ module _ (q : List ℕ) (r : ℕ) where
     end-within = omega (arith, ends-next, clausesEnd-≥ (n - 1) (clauseEnd q r at))
 
   -- ---- as reading gives them
-  pub clauses-valued : (b n at : ℕ) → at ≤ length q → Valued q (clausesAt n at) (clausesEnd n at) (repeat n (clause b r) (drop at q) at)
-  unfolding repeat clausesAt clausesEnd
-  clauses-valued b zero at h = there q [] at h
-  clauses-valued b (suc n) at h =
-      let e = clauseEnd q r at in
-      valued-after q (clauseAt q r at) e _ _ (clause b r (drop at q) at) _ (clause-valued q b r at h)
-      (λ l. valued-after q (clausesAt n e) (clausesEnd n e) _ _ (repeat n (clause b r) (drop e q) e) _ (clauses-valued b n e l)
-      (λ l. there q (clauseAt q r at ∷ clausesAt n e) (clausesEnd n e) l))
+  pub clauses-valued : (b n at : ℕ) → at ≤ length q → Valued q (clausesAt n at) (SoundClauses q r n at) (clausesEnd n at) (repeat n (clause b r) (drop at q) at)
+  unfolding repeat clausesAt clausesEnd SoundClauses
+  clauses-valued b zero at h = given refl h tt
+  clauses-valued b (suc n) at h = valued-after _ (clause-valued q b r at h) (λ s l. valued-after _ (clauses-valued b n (clauseEnd q r at) l) (λ ss l. given refl l (s, ss)))

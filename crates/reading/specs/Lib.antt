@@ -1,5 +1,4 @@
 pub mod Clauses
-pub mod Gives
 pub mod Over
 pub mod Parsed
 pub mod Outcome

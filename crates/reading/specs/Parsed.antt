@@ -12,47 +12,44 @@ use Rattle.rules.specs.Bytes.{fieldAt}
 use Rattle.rules.specs.Problem.{Clause, Problem, Read, fault, got, after, repeat, clause, end, problem}
 use Rattle.rules.specs.Calls.{withinSplits, read}
 use Rattle.reader.specs.declared.cursor.Scan.the-variants.{Sound, Fault}
-use Rattle.reader.specs.Values.{Valued}
+use Rattle.reader.specs.Sound.{SoundClauses}
+use Rattle.reader.specs.Valued.{Valued, faulty, given}
 use Rattle.reader.specs.Scans.{Header, outline, scanned, body, problem-short-b, problem-bad-b, problem-short-r, problem-bad-r, problem-short-n, problem-bad-n, problem-good}
 use Rattle.reader.specs.Read.{Outlined, scanned-sound}
-use Rattle.reading.specs.Gives.{Given}
 use Rattle.reading.specs.Clauses.{clausesAt, clausesEnd, length-clausesAt, clauses-valued}
 
 -- the question with b, r and n whose clauses stand from byte 4 on
 abbrev pub problemAt : List ℕ → ℕ → ℕ → ℕ → Problem
 problemAt q b r n = record { booleans = b; rationals = r; clauses = clausesAt q r n 4 }
 
--- b, r and n are within their limits, every clause ends in the slice, and reading gave every clause
+-- b, r and n are within their limits, and every clause ends in the slice and is within its own
 pub record Parsed (q : List ℕ) (b r n : ℕ) : Type 0 where
   pub booleans : b ≤ limit.booleans
   pub rationals : r ≤ limit.rationals
   pub clauses : n ≤ limit.clauses
   pub within : clausesEnd q r n 4 ≤ length q
-  pub gives : Given (repeat n (clause b r) (drop 4 q) 4)
+  pub sound : SoundClauses q r n 4
   pub but-splits : read q ≡ withinSplits (got (problemAt q b r n) [] 0)
 
 module _ (q : List ℕ) (b r n : ℕ) where
   -- the clauses as they were read, with b, r and n as their bytes have them
   module _ (B R N : ℕ) (few-b : B ≤ limit.booleans) (few-r : R ≤ limit.rationals) (few-n : N ≤ limit.clauses) where
-    by-clauses : (c : Read (List Clause)) → (Given c → Given (repeat N (clause B R) (drop 4 q) 4)) → Valued q (clausesAt q R N 4) (clausesEnd q R N 4) c
-        → read q ≡ withinSplits (after c (λ cs. end (record { booleans = B; rationals = R; clauses = cs })))
-        → outline (after c (λ cs. end (record { booleans = B; rationals = R; clauses = cs }))) ≡ Sound b r n → Parsed q b r n
-    unfolding after end outline withinSplits
-    by-clauses (fault f place) g t w e = let z : _≡_ {A = ℕ} 0 1 = cc in absurd (omega arith)
-    by-clauses (got cs (x ∷ bytes) place) g t w e = let z : _≡_ {A = ℕ} 0 1 = cc in absurd (omega arith)
-    by-clauses (got cs [] place) g t w e =
-        same (cc) (cc) (sym (length-clausesAt q R N 4) ∙ ap length (sym (t .value)) ∙ cc)
-        (record {
-          booleans = few-b;
-          rationals = few-r;
-          clauses = few-n;
-          within = t .within;
-          gives = g tt;
-          but-splits = w ∙ ap (λ (cs : List Clause). withinSplits (got (record { booleans = B; rationals = R; clauses = cs }) [] 0)) (t .value);
-        })
+    ended : (rest : List ℕ) (place : ℕ) → clausesEnd q R N 4 ≤ length q → SoundClauses q R N 4 → read q ≡ withinSplits (end (problemAt q B R N) rest place) → outline (end (problemAt q B R N) rest place) ≡ Sound b r n → Parsed q b r n
+    unfolding end outline withinSplits
+    ended (x ∷ bytes) place l s w e = let z : _≡_ {A = ℕ} 0 1 = cc in absurd (omega arith)
+    ended [] place l s w e =
+        same (cc) (cc) (sym (length-clausesAt q R N 4) ∙ cc)
+        (record { booleans = few-b; rationals = few-r; clauses = few-n; within = l; sound = s; but-splits = w })
       where
         same : B ≡ b → R ≡ r → N ≡ n → Parsed q B R N → Parsed q b r n
         same x y z p = rw (x, y, z) at p
+
+    by-clauses : (c : Read (List Clause)) → Valued q (clausesAt q R N 4) (SoundClauses q R N 4) (clausesEnd q R N 4) c
+        → read q ≡ withinSplits (after c (λ cs. end (record { booleans = B; rationals = R; clauses = cs })))
+        → outline (after c (λ cs. end (record { booleans = B; rationals = R; clauses = cs }))) ≡ Sound b r n → Parsed q b r n
+    unfolding after outline
+    by-clauses c (faulty f place i) w e = let h = rw i at e in let z : _≡_ {A = ℕ} 0 1 = cc in absurd (omega arith)
+    by-clauses c (given i l s) w e = ended (drop (clausesEnd q R N 4) q) (clausesEnd q R N 4) l s (rw i at w) (rw i at e)
 
   module _ (e : outline (problem q 0) ≡ Sound b r n) where
     -- no fault at a test that the smaller number would fail
@@ -74,7 +71,7 @@ module _ (q : List ℕ) (b r n : ℕ) where
         let R = getD q 1 0 in
         let N = fieldAt 2 2 q in
         let g = problem-good q h ln in
-        by-clauses B R N lb lr ln (repeat N (clause B R) (drop 4 q) 4) (λ h. h) (clauses-valued q R B N 4 hn) (w ∙ ap withinSplits g) (ap outline (sym g) ∙ e)))))))
+        by-clauses B R N lb lr ln (repeat N (clause B R) (drop 4 q) 4) (clauses-valued q R B N 4 hn) (w ∙ ap withinSplits g) (ap outline (sym g) ∙ e)))))))
 
   pub scan-parsed : scanned q ≡ Sound b r n → Parsed q b r n
   unfolding outline

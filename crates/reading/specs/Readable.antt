@@ -6,17 +6,16 @@ use mathlib.Core.Logic.{⊎-elim}
 use Prim.Native.Nat.{ℕ, _+_, _-_, _≤_, _<_}
 use native.Mathlib.Nat.{eq-zero-or-pos}
 use native.Mathlib.Omega.{arith}
-use lib.ListN.{length, drop}
+use lib.ListN.{length}
 use Rattle.types.specs.Limits as limit
-use Rattle.rules.specs.Problem.{got, repeat, clause}
 use Rattle.rules.specs.Split.{splitsOf, overSplit}
 use Rattle.rules.specs.Calls.{sound, read}
 use Rattle.reader.specs.declared.cursor.Scan.{Scan}
 use Rattle.reader.specs.declared.cursor.Scan.the-variants.{Sound, Fault}
 use Rattle.reader.specs.Scans.{scanned}
 use Rattle.reader.specs.Values.{clauseAt, clauseEnd}
-use Rattle.reading.specs.Clauses.{clausesAt, clausesEnd, clausesEnd-≥, clauses-next, ends-next, end-within}
-use Rattle.reading.specs.Gives.{Given, gives-clause, gives-rest}
+use Rattle.reader.specs.Sound.{SoundClause, SoundClauses, clauses-first, clauses-rest}
+use Rattle.reading.specs.Clauses.{clausesAt, clausesEnd, clauses-next, ends-next, end-within}
 use Rattle.reading.specs.Over.{over-here, over-later}
 use Rattle.reading.specs.Parsed.{problemAt, Parsed, scan-parsed}
 use Rattle.reading.specs.Outcome.{outcome, outcome-fault, outcome-sound, read-sound, read-over}
@@ -55,26 +54,22 @@ module _ (q : List ℕ) (b r n : ℕ) (given : outcome (read q) ≡ Sound b r n)
 
 -- ---- from clause to clause
 -- n clauses from `at` on, with k split variables before them
-pub record Ahead (q : List ℕ) (b r n at k : ℕ) : Type 0 where
+pub record Ahead (q : List ℕ) (r n at k : ℕ) : Type 0 where
   pub within : clausesEnd q r n at ≤ length q
-  pub gives : Given (repeat n (clause b r) (drop at q) at)
+  pub sound : SoundClauses q r n at
   pub few : k ≤ limit.splits
   pub splits : overSplit k (clausesAt q r n at) ≡ none
 
-pub ahead-start : {q : List ℕ} {b r n : ℕ} → Readable q b r n → Ahead q b r n 4 0
-ahead-start h = record { within = h .parsed .within; gives = h .parsed .gives; few = omega arith; splits = h .splits }
+pub ahead-start : {q : List ℕ} {b r n : ℕ} → Readable q b r n → Ahead q r n 4 0
+ahead-start h = record { within = h .parsed .within; sound = h .parsed .sound; few = omega arith; splits = h .splits }
 
-module _ {q : List ℕ} {b r n at k : ℕ} (ahead : Ahead q b r n at k) (more : 0 < n) where
+module _ {q : List ℕ} {r n at k : ℕ} (ahead : Ahead q r n at k) (more : 0 < n) where
   -- the next clause, for `next`, `literals` and `splits`
   pub ahead-within : clauseEnd q r at ≤ length q
   ahead-within = omega (arith, end-within q r n at more, ahead .within)
 
-  start-within : at ≤ length q
-  start-within = omega (arith, clausesEnd-≥ q r n at, ahead .within)
-
-  -- reading gave it
-  pub ahead-gives : clause b r (drop at q) at ≡ got (clauseAt q r at) (drop (clauseEnd q r at) q) (clauseEnd q r at)
-  ahead-gives = gives-clause q b r n at (ahead .gives) start-within more
+  pub ahead-sound : SoundClause q r at
+  ahead-sound = clauses-first q r n at more (ahead .sound)
 
   pub ahead-few : k + splitsOf (clauseAt q r at) ≤ limit.splits
   ahead-few = ⊎-elim (λ z. omega arith) (λ h. absurd (past h)) (eq-zero-or-pos (k + splitsOf (clauseAt q r at) - limit.splits))
@@ -86,11 +81,11 @@ module _ {q : List ℕ} {b r n at k : ℕ} (ahead : Ahead q b r n at k) (more : 
           let z : _≡_ {A = ℕ} 0 1 = cc in
           omega arith
 
-  pub ahead-next : Ahead q b r (n - 1) (clauseEnd q r at) (k + splitsOf (clauseAt q r at))
+  pub ahead-next : Ahead q r (n - 1) (clauseEnd q r at) (k + splitsOf (clauseAt q r at))
   ahead-next =
       record {
         within = omega (arith, ends-next q r n at more, ahead .within);
-        gives = gives-rest q b r n at (ahead .gives) start-within more;
+        sound = clauses-rest q r n at more (ahead .sound);
         few = ahead-few;
         splits = sym (over-later k (clauseAt q r at) (clausesAt q r (n - 1) (clauseEnd q r at)) ahead-few) ∙ ap (overSplit k) (sym (clauses-next q r n at more)) ∙ ahead .splits;
       }

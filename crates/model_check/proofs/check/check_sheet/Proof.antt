@@ -2,7 +2,6 @@
 use mathlib.Core.Path.{sym, _∙_}
 use borrow.Author.Needs.{needs}
 use borrow.Author.Tests.{not-true, not-false}
-use Rattle.model_check.specs.Failing.{readable-sound}
 use Rattle.model_check.specs.Check.{checked-short, checked-bad, checked-clauses}
 use Rattle.model_check.proofs.check.check_sheet.Statement.{statement}
 use Rattle.model_check.proofs.check.check_sheet.Tie as tie
@@ -23,7 +22,7 @@ check-clauses-requires : tie.Need-check-clauses-requires
 check-clauses-requires c κs =
     let m = c .before .before .before in
     let g = m .before .before .before .before .pre in
-    (g .parsed .rationals, (readable-sound g, m .read-model .ensures .numerators))
+    (g .parsed .rationals, (g .parsed .sound, m .read-model .ensures .numerators))
 
 returns-3 : tie.Need-returns-3
 returns-3 c =
