@@ -11,7 +11,8 @@ use Rattle.rules.specs.Steps.{Step, encodeStep, encodeProof}
 use Rattle.rules.specs.Elimination.{State}
 use Rattle.rules.specs.Needs.{stepsOf}
 use Rattle.lines.specs.Line.{meaning}
-use Rattle.proof_lines.specs.Held.{stepAt, lineAt, linesIn, tabulate-snoc}
+use Rattle.line_bytes.specs.Places.{stepAt}
+use Rattle.proof_lines.specs.Held.{lineAt, linesIn, tabulate-snoc}
 use Rattle.placing.specs.declared.place.Progress.{Progress}
 use Rattle.placing.specs.declared.place.Progress.the-variants.{Running, Empty, Overflow, OutOfSteps}
 use Rattle.placing.specs.declared.place.Point.{Point}

@@ -14,7 +14,8 @@ use Rattle.lists.specs.Places.{element-all}
 use Rattle.soundness.specs.WellFormed.{WellFormed}
 use Rattle.lines.specs.Line.{meaning}
 use Rattle.lines.specs.Forms.{coefficient-is}
-use Rattle.proof_lines.specs.Held.{stepAt, lineAt, linesIn, ReadyLines, element-tabulate}
+use Rattle.line_bytes.specs.Places.{stepAt}
+use Rattle.proof_lines.specs.Held.{lineAt, linesIn, ReadyLines, element-tabulate}
 use Rattle.placing.specs.declared.place.Point.{Point}
 use Rattle.placing.specs.Steps.{stepFrom, stepsIn, length-stepsIn, Held}
 use Rattle.placing.specs.Point.{stateAt, Leads, leads-trans, pairs-at, Reaches}

@@ -10,8 +10,8 @@ use lib.Seq.{drop-drop, take-at, drop-at, take-all, length-take-le, take-append-
 use Rattle.fields.specs.Field.{stored, length-stored}
 
 -- the bytes of step i
-abbrev pub stepAt : ℕ → List ℕ → List ℕ
-stepAt i s = take 64 (drop (64 * i) s)
+unfoldable pub stepAt : List ℕ → ℕ → List ℕ
+stepAt s i = take 64 (drop (64 * i) s)
 
 -- with other bytes for step i
 abbrev pub withStep : ℕ → List ℕ → List ℕ → List ℕ
@@ -53,7 +53,8 @@ module _ (i : ℕ) (front : List ℕ) (n : length front ≡ 64 * i) where
   stored-behind : (bytes rest : List ℕ) → stored (64 * i) bytes (front ++ rest) ≡ front ++ bytes ++ drop (length bytes) rest
   stored-behind bytes rest = rw (← n, take-append-seam front rest, drop-append-add front rest (length bytes))
 
-  pub step-behind : (bytes rest : List ℕ) → length bytes ≡ 64 → stepAt i (front ++ (bytes ++ rest)) ≡ bytes
+  pub step-behind : (bytes rest : List ℕ) → length bytes ≡ 64 → stepAt (front ++ (bytes ++ rest)) i ≡ bytes
+  unfolding stepAt
   step-behind bytes rest w = rw (drop-at front (bytes ++ rest) (64 * i) n) (take-at bytes rest 64 w)
 
   pub put-behind : (bytes rest : List ℕ) → length bytes ≡ 64 → withStep i bytes (front ++ rest) ≡ front ++ bytes ++ drop 64 rest
@@ -72,12 +73,14 @@ module _ (i : ℕ) (bytes s : List ℕ) (w : length bytes ≡ 64) (h : 64 * i + 
   pub length-put : length (withStep i bytes s) ≡ length s
   length-put = length-stored (64 * i) bytes s fits
 
-  pub put-here : stepAt i (withStep i bytes s) ≡ bytes
+  pub put-here : stepAt (withStep i bytes s) i ≡ bytes
+  unfolding stepAt
   put-here =
       let e : 64 * i + 0 ≡ 64 * i = omega arith in
       (rw e at (part-within (64 * i) bytes s fits 0 64 (omega arith))) ∙ take-all 64 bytes (omega arith)
 
-  pub put-elsewhere : (j : ℕ) → (j ≡ i → ⊥) → stepAt j (withStep i bytes s) ≡ stepAt j s
+  pub put-elsewhere : (j : ℕ) → (j ≡ i → ⊥) → stepAt (withStep i bytes s) j ≡ stepAt s j
+  unfolding stepAt
   put-elsewhere j n =
       ⊎-elim (λ z. ap (take 64) (part-after (64 * i) bytes s fits (64 * j) (omega (arith, n)))) (λ p. part-before (64 * i) bytes s fits (64 * j) 64 (omega arith)) (eq-zero-or-pos (i - j))
 
@@ -110,14 +113,17 @@ module _ (from to : ℕ) (s : List ℕ) (l : from ≤ to) (h : 64 * to ≤ lengt
   pub length-zeroed : length (zeroed from to s) ≡ length s
   length-zeroed = length-stored (64 * from) zeros s zeros-fit
 
-  pub zeroed-within : (j : ℕ) → from ≤ j → j < to → stepAt j (zeroed from to s) ≡ replicate 64 0
+  pub zeroed-within : (j : ℕ) → from ≤ j → j < to → stepAt (zeroed from to s) j ≡ replicate 64 0
+  unfolding stepAt
   zeroed-within j a b =
       let e : 64 * from + (64 * j - 64 * from) ≡ 64 * j = omega arith in
       (rw e at (part-within (64 * from) zeros s zeros-fit (64 * j - 64 * from) 64 (omega (arith, zeros-length))))
       ∙ part-zeros (64 * to - 64 * from) (64 * j - 64 * from) 64 (omega arith)
 
-  pub zeroed-before : (j : ℕ) → j < from → stepAt j (zeroed from to s) ≡ stepAt j s
+  pub zeroed-before : (j : ℕ) → j < from → stepAt (zeroed from to s) j ≡ stepAt s j
+  unfolding stepAt
   zeroed-before j a = part-before (64 * from) zeros s zeros-fit (64 * j) 64 (omega arith)
 
-  pub zeroed-after : (j : ℕ) → to ≤ j → stepAt j (zeroed from to s) ≡ stepAt j s
+  pub zeroed-after : (j : ℕ) → to ≤ j → stepAt (zeroed from to s) j ≡ stepAt s j
+  unfolding stepAt
   zeroed-after j a = ap (take 64) (part-after (64 * from) zeros s zeros-fit (64 * j) (omega (arith, zeros-length)))

@@ -27,7 +27,7 @@ pub fn put(proof: &mut [u8], i: usize, bytes: [u8; 64])
 
 pub fn get(proof: &[u8], i: usize) -> [u8; 64]
     requires { ⌜ 64 * i + 64 ≤ length (now proof) ⌝ }
-    ensures { λ r. ⌜ r ≡ stepAt i (now (proof .entry)) ⌝ }
+    ensures { λ r. ⌜ r ≡ stepAt (now (proof .entry)) i ⌝ }
 {
     let at = 64 * i;
     let mut bytes = [0u8; 64];

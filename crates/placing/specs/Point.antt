@@ -12,7 +12,7 @@ use Rattle.rules.specs.Steps.{Step}
 use Rattle.rules.specs.Lines.{isEmpty}
 use Rattle.rules.specs.Elimination.{Stops, State, running, ended, empty, overflow, outOfSteps, limited, covered, placed, add}
 use Rattle.rules.specs.Needs.{pairsOf}
-use Rattle.proof_lines.specs.Held.{stepAt}
+use Rattle.line_bytes.specs.Places.{stepAt}
 use Rattle.fields.specs.Field.{stored}
 use Rattle.placing.specs.declared.place.Progress.{Progress}
 use Rattle.placing.specs.declared.place.Progress.the-variants.{Running, Empty, Overflow, OutOfSteps}

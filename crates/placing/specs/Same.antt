@@ -27,7 +27,7 @@ use Rattle.lines.specs.declared.line.Line.{Line}
 use Rattle.lines.specs.Line.{meaning}
 use Rattle.line_bytes.specs.Encoding.{headerOf, encoded, encodeStep-is, length-headerBytes}
 use Rattle.line_bytes.specs.Decoding.{decoded, decoded-encoded}
-use Rattle.proof_lines.specs.Held.{stepAt}
+use Rattle.line_bytes.specs.Places.{stepAt}
 use Rattle.placing.specs.Scan.{any-next, any-end}
 use Rattle.placing.specs.Steps.{stepFrom, stepsIn, length-stepsIn, Kept, Held, Words, kept-words}
 

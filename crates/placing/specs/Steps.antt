@@ -19,8 +19,8 @@ use Rattle.lines.specs.declared.line.Line.{Line}
 use Rattle.lines.specs.Line.{meaning, Ready}
 use Rattle.line_bytes.specs.Encoding.{headerOf, encoded, encodeStep-is}
 use Rattle.line_bytes.specs.Decoding.{decoded, decoded-encoded, length-amountsAt}
-use Rattle.line_bytes.specs.Places.{part-after, length-put, put-here}
-use Rattle.proof_lines.specs.Held.{stepAt, lineAt, linesIn, tabulate-snoc, tabulate-cong}
+use Rattle.line_bytes.specs.Places.{stepAt, part-after, length-put, put-here}
+use Rattle.proof_lines.specs.Held.{lineAt, linesIn, tabulate-snoc, tabulate-cong}
 
 -- ---- a step by its bytes
 -- "Byte 0: how (0 loaded, 1 by a figure, 2 by a mark)."
@@ -136,7 +136,6 @@ module _ (proof bytes : List ℕ) (n : ℕ) (room : 64 * n + 64 ≤ length proof
   stored-front = rw append-assoc (take-at (take (64 * n) proof) (bytes ++ drop (64 * n + length bytes) proof) (64 * n) front)
 
   pub stored-step : stepAt after n ≡ bytes
-  unfolding stepAt
   stored-step = put-here n bytes proof whole room
 
   pub stored-rest : drop (64 * suc n) after ≡ drop (64 * suc n) proof

@@ -10,7 +10,7 @@ ghost use Rattle.rules.specs.Bytes.{fieldAt};
 ghost use Rattle.rules.specs.Lists.{same};
 ghost use Rattle.rules.specs.Elimination.{covered};
 ghost use Rattle.lines.specs.Line.{meaning, Ready};
-ghost use Rattle.proof_lines.specs.Held.{stepAt};
+ghost use Rattle.line_bytes.specs.Places.{stepAt};
 ghost use Rattle.placing.specs.Steps.{stepsIn, Held};
 ghost use Rattle.placing.specs.Same.{behind};
 

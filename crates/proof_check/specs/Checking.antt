@@ -16,7 +16,8 @@ use Rattle.rules.specs.Lines.{isEmpty}
 use Rattle.rules.specs.Steps.{Step}
 use Rattle.rules.specs.Checker.{statedLine, checkSteps}
 use Rattle.lines.specs.Line.{meaning, Ready}
-use Rattle.proof_lines.specs.Held.{stepAt, lineAt, linesIn, ReadyLines, tabulate-snoc}
+use Rattle.line_bytes.specs.Places.{stepAt}
+use Rattle.proof_lines.specs.Held.{lineAt, linesIn, ReadyLines, tabulate-snoc}
 use Rattle.checking.specs.declared.compare.Stated.{Stated}
 use Rattle.checking.specs.Stated.{States, found-is, unfound-is}
 

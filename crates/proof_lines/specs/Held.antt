@@ -2,19 +2,17 @@
 use mathlib.Core.Path.{_≡_, refl, ap}
 use mathlib.Core.List.{List, [], _∷_, _++_}
 use mathlib.Core.Option.{Option, none, some}
-use Prim.Native.Nat.{ℕ, zero, suc, _*_, _<_, _≤_}
+use Prim.Native.Nat.{ℕ, zero, suc, _<_, _≤_}
 use native.Mathlib.Omega.{arith}
-use lib.ListN.{length, getElem?, take, drop}
+use lib.ListN.{length, getElem?}
 use Rattle.rules.specs.Lists.{tabulate}
 use Rattle.rules.specs.Lines as rules
 use Rattle.lines.specs.declared.line.Line.{Line}
 use Rattle.lines.specs.Line.{meaning, Ready}
+use Rattle.line_bytes.specs.Places.{stepAt}
 use Rattle.line_bytes.specs.Decoding.{decoded}
 
--- the 64 bytes of step i, and the line that they say
-unfoldable pub stepAt : List ℕ → ℕ → List ℕ
-stepAt proof i = take 64 (drop (64 * i) proof)
-
+-- the line of step i
 unfoldable pub lineAt : List ℕ → ℕ → Line
 lineAt proof i = decoded (stepAt proof i)
 

@@ -17,7 +17,7 @@ use Rattle.rules.specs.Resolve.{resolve}
 use Rattle.rules.specs.Elimination.{Stops, State, running, ended, limited, order, roundOf, Numbered, Pair, pairUp, sideOf, roundPairs, tried, tryAll}
 use Rattle.lines.specs.Line.{meaning}
 use Rattle.lists.specs.Tests.{is-true, of-true}
-use Rattle.proof_lines.specs.Held.{stepAt, lineAt}
+use Rattle.proof_lines.specs.Held.{lineAt}
 use Rattle.line_bytes.specs.Decoding.{decoded}
 use Rattle.placing.specs.declared.place.Progress.{Progress}
 use Rattle.placing.specs.declared.place.Progress.the-variants.{Running, Empty, Overflow, OutOfSteps}

@@ -19,7 +19,8 @@ use Rattle.lists.specs.Tabulated.{length-tabulate, getD-tabulate}
 use Rattle.lines.specs.Line.{meaning, Shaped}
 use Rattle.lines.specs.Forms.{coefficient-is}
 use Rattle.line_bytes.specs.Decoding.{decoded, getD-amountsAt}
-use Rattle.proof_lines.specs.Held.{stepAt, lineAt}
+use Rattle.line_bytes.specs.Places.{stepAt}
+use Rattle.proof_lines.specs.Held.{lineAt}
 use Rattle.placing.specs.Steps.{stepFrom, stepsIn, length-stepsIn, field-stepAt}
 use Rattle.turns.specs.declared.side.Variable.{Variable}
 use Rattle.turns.specs.declared.side.Variable.the-variants.{Rational, Boolean}

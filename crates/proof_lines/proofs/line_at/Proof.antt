@@ -1,7 +1,7 @@
 -- `proof_lines::line_at` meets its contract. Assumes nothing.
 use mathlib.Core.Path.{ap, _∙_}
 use Rattle.line_bytes.specs.Decoding.{decoded}
-use Rattle.proof_lines.specs.Held.{stepAt, lineAt}
+use Rattle.proof_lines.specs.Held.{lineAt}
 use borrow.Author.Needs.{needs}
 use Rattle.proof_lines.proofs.line_at.Statement.{statement}
 use Rattle.proof_lines.proofs.line_at.Tie as tie
@@ -13,7 +13,7 @@ decode-requires : tie.Need-decode-requires
 decode-requires c κs = search needs
 
 returns : tie.Need-returns
-unfolding lineAt stepAt
+unfolding lineAt
 returns c = c .decode .ensures ∙ ap decoded (c .before .get .ensures)
 
 pub line-at-spec : {M : Type 1} → statement M

@@ -7,6 +7,7 @@ use lib.ListN.{length, getD, drop, take}
 use Prim.Native.Nat.{ℕ, _+_, _-_, _*_, _≤_, _<_}
 use native.Mathlib.Omega.{arith}
 use borrow.Author.Needs.{needs}
+use Rattle.line_bytes.specs.Places.{stepAt}
 use Rattle.line_bytes.proofs.steps.get.Statement.{statement}
 use Rattle.line_bytes.proofs.steps.get.Tie as tie
 
@@ -52,6 +53,7 @@ loop-again c = let s = c .before .before .before in
     )
 
 returns : tie.Need-returns Inv-loop μ-loop
+unfolding stepAt
 returns c = let s = c .before .before in
     let l = c .before .loop in
     let b = s .args .proof .now in

@@ -11,7 +11,7 @@ use Rattle.rules.specs.Elimination.{covered}
 use Rattle.lines.specs.Line.{meaning}
 use Rattle.line_bytes.specs.Decoding.{decoded, decoded-encoded}
 use Rattle.line_bytes.specs.Encoding.{headerOf}
-use Rattle.proof_lines.specs.Held.{stepAt}
+use Rattle.line_bytes.specs.Places.{stepAt}
 use Rattle.placing.specs.Steps.{stepsIn, Words}
 use Rattle.placing.specs.Same.{behind, coveredFrom, covered-all, covered-step, covered-none}
 use Rattle.placing.proofs.covered.covered.Statement.{statement}

@@ -9,7 +9,7 @@ use lib.Dec.{eqb}
 use lib.ListN.{length, getD, drop}
 use Rattle.rules.specs.Bytes.{fieldAt}
 use Rattle.rules.specs.Lists.{same}
-use Rattle.proof_lines.specs.Held.{stepAt}
+use Rattle.line_bytes.specs.Places.{stepAt}
 use Rattle.placing.specs.Scan.{same-next, same-end}
 use Rattle.placing.specs.Steps.{length-stepAt, byte-stepAt, field-stepAt}
 use Rattle.placing.specs.Same.{behind, same-by-field}

@@ -9,7 +9,8 @@ use borrow.Author.Tests.{not-true, not-false}
 use Rattle.types.specs.declared.answers.Checked.the-variants.{Accepted, Fails}
 use Rattle.rules.specs.Elimination.{loadableOf}
 use Rattle.rules.specs.Checker.{statedLine, checkProof}
-use Rattle.proof_lines.specs.Held.{stepAt, linesIn}
+use Rattle.line_bytes.specs.Places.{stepAt}
+use Rattle.proof_lines.specs.Held.{linesIn}
 use Rattle.checking.specs.Stated.{States}
 use Rattle.proof_check.specs.Index.{problemOf}
 use Rattle.proof_check.specs.Checking.{Following, following-start, following-done, following-stop, following-next}
@@ -37,7 +38,6 @@ line-stated-requires c κs =
 -- what step i states
 stated : (c : tie.After-line-stated Inv-loop μ-loop) → let l = c .before .before .before .loop in let a = c .before .before .before .before .before .before .before .before .args in
     States (statedLine (loadableOf (problemOf (a .q .now) (a .sizes))) (linesIn (a .proof .now) (l .i)) (stepAt (a .proof .now) (l .i))) (stepAt (a .proof .now) (l .i)) (c .line-stated .result)
-unfolding stepAt
 stated c =
     let l = c .before .before .before .loop in
     let a = c .before .before .before .before .before .before .before .before .args in
