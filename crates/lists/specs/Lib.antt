@@ -4,3 +4,4 @@ pub mod Places
 pub mod Dropped
 pub mod Equal
 pub mod Tabulated
+pub mod Scan

@@ -1,4 +1,3 @@
-pub mod Scan
 pub mod Steps
 pub mod Same
 pub mod Point

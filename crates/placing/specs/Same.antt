@@ -1,7 +1,7 @@
 -- Lines are equal where the bytes behind their headers are.
 use mathlib.Core.Path.{_≡_, refl, sym, ap, subst, _∙_}
 use mathlib.Core.Bool.{Bool, true, false, _&&_, _||_, Bool·beq}
-use mathlib.Core.List.{List, [], _∷_, _++_, append-assoc}
+use mathlib.Core.List.{List, _++_, append-assoc}
 use mathlib.Core.Option.{Option, none, some}
 use Prim.Native.Nat.{ℕ, _+_, _-_, _≤_, _<_}
 use native.Mathlib.Omega.{arith}
@@ -16,11 +16,12 @@ use Rattle.rules.specs.Bytes.{fromBytes, fieldAt, padded}
 use Rattle.rules.specs.Problem.{Constraint}
 use Rattle.rules.specs.Lines as rules
 use Rattle.rules.specs.Lines.{sameConstraint, sameLine}
-use Rattle.rules.specs.Steps.{Step, Header, header, headerBytes, lineBytes, encodeStep}
+use Rattle.rules.specs.Steps.{Step, Header, header, headerBytes, lineBytes}
 use Rattle.rules.specs.Elimination.{covered}
 use Rattle.lists.specs.Tests.{tests-agree}
 use Rattle.lists.specs.Tabulated.{length-tabulate, getD-tabulate}
 use Rattle.lists.specs.Equal.{same-yes, yes-same}
+use Rattle.lists.specs.Scan.{any-next, any-end}
 use Rattle.vectors.specs.Sign.{yes-equal}
 use Rattle.saturation.specs.Equal.{sameLine-yes}
 use Rattle.lines.specs.declared.line.Line.{Line}
@@ -28,7 +29,6 @@ use Rattle.lines.specs.Line.{meaning}
 use Rattle.line_bytes.specs.Encoding.{headerOf, encoded, encodeStep-is, length-headerBytes}
 use Rattle.line_bytes.specs.Decoding.{decoded, decoded-encoded}
 use Rattle.line_bytes.specs.Places.{stepAt}
-use Rattle.placing.specs.Scan.{any-next, any-end}
 use Rattle.placing.specs.Steps.{stepFrom, stepsIn, length-stepsIn, Kept, Held, Words, kept-words}
 
 -- ---- a line equals itself

@@ -7,7 +7,7 @@ use borrow.Author.Tests.{eq-eqb, ne-eqb}
 use lib.Dec.{eqb}
 use lib.ListN.{length, drop, getD}
 use Rattle.rules.specs.Lists.{same}
-use Rattle.lines.specs.Scan.{same-next, same-end}
+use Rattle.lists.specs.Scan.{same-next, same-end}
 use Rattle.checking.proofs.compare.same_bytes.Statement.{statement}
 use Rattle.checking.proofs.compare.same_bytes.Tie as tie
 
@@ -50,7 +50,7 @@ returns-2 : tie.Need-returns-2 Inv-loop μ-loop
 returns-2 c =
     let l = c .before .loop in
     let s = c .before .before in
-    sym (l .inv .3 ∙ same-end 0 eqb (s .args .t1) (s .args .t2) (l .i) (omega arith) (omega arith))
+    sym (l .inv .3 ∙ same-end eqb (s .args .t1) (s .args .t2) (l .i) (omega arith) (omega arith))
 
 pub same-bytes-spec : {M : Type 1} → statement M
 same-bytes-spec =

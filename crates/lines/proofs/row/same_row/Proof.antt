@@ -11,7 +11,8 @@ use mir.Syntax.{w64}
 use mir.Val.{SFits}
 use mir.Facts.{toZ-ofZ}
 use Rattle.rules.specs.Arithmetic.{equal}
-use Rattle.lines.specs.Scan.{Scanned, scanned-start, scanned-next, same-at, same-none}
+use Rattle.lists.specs.Scan.{same-at, same-none}
+use Rattle.lines.specs.Scan.{Scanned, scanned-start, scanned-next}
 use Rattle.lines.proofs.row.same_row.Statement.{statement}
 use Rattle.lines.proofs.row.same_row.Tie as tie
 

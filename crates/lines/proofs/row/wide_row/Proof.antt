@@ -7,7 +7,8 @@ use borrow.Author.Needs.{needs}
 use lib.IntN.{pos}
 use lib.ListN.{length, getD}
 use Rattle.rules.specs.Problem.{inRange}
-use Rattle.lines.specs.Scan.{Scanned, scanned-start, scanned-next, told, any-at, any-none}
+use Rattle.lists.specs.Scan.{any-at, any-none}
+use Rattle.lines.specs.Scan.{Scanned, scanned-start, scanned-next, told}
 use Rattle.lines.proofs.row.wide_row.Statement.{statement}
 use Rattle.lines.proofs.row.wide_row.Tie as tie
 

@@ -1,16 +1,15 @@
 -- `covered::same_step` meets its contract. Invariant: what is left of the bytes decides. Assumes nothing.
 use mathlib.Core.Path.{_≡_, refl, sym, ap, _∙_}
-use mathlib.Core.Bool.{Bool, true, false, _&&_}
+use mathlib.Core.Bool.{_&&_}
 use Prim.Native.Nat.{ℕ, _+_, _-_, _*_, _≤_}
 use native.Mathlib.Omega.{arith}
 use borrow.Author.Needs.{needs}
 use borrow.Author.Tests.{eq-eqb, ne-eqb}
 use lib.Dec.{eqb}
 use lib.ListN.{length, getD, drop}
-use Rattle.rules.specs.Bytes.{fieldAt}
 use Rattle.rules.specs.Lists.{same}
+use Rattle.lists.specs.Scan.{same-next, same-end}
 use Rattle.line_bytes.specs.Places.{stepAt}
-use Rattle.placing.specs.Scan.{same-next, same-end}
 use Rattle.placing.specs.Steps.{length-stepAt, byte-stepAt, field-stepAt}
 use Rattle.placing.specs.Same.{behind, same-by-field}
 use Rattle.placing.proofs.covered.same_step.Statement.{statement}
