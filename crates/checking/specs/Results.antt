@@ -8,11 +8,12 @@ use lib.ListN.{length, getElem?, getD}
 use Rattle.rules.specs.Bytes.{fieldAt}
 use Rattle.rules.specs.Lines as rules
 use Rattle.rules.specs.Checker.{derived}
+use Rattle.lists.specs.Tabulated.{element-tabulate, element-beyond}
 use Rattle.layout.specs.Fields.{fieldAt-none, fieldAt-next}
 use Rattle.lines.specs.declared.line.Line.{Line}
 use Rattle.lines.specs.Line.{meaning}
 use Rattle.line_bytes.specs.Encoding.{headerOf}
-use Rattle.proof_lines.specs.Held.{lineAt, linesIn, element-tabulate, element-beyond}
+use Rattle.proof_lines.specs.Held.{lineAt, linesIn}
 use Rattle.checking.specs.declared.compare.Stated.{Stated}
 use Rattle.checking.specs.Stated.{lineFound, Holds, States, matched}
 use Rattle.checking.specs.Derived.{derivedBy, derived-absent, derived-alone, by-neither, resultStated, result-is}

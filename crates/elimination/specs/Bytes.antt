@@ -1,18 +1,16 @@
 -- The bytes of the steps that a proof holds.
 use mathlib.Core.Path.{_≡_, refl, sym, ap, _∙_}
 use mathlib.Core.List.{List, [], _∷_, _++_, map, append-assoc, append-nil}
-use Prim.Native.Nat.{ℕ, zero, suc, _+_, _*_, _≤_}
+use Prim.Native.Nat.{ℕ, zero, suc, _+_, _*_}
 use native.Mathlib.Omega.{arith}
-use lib.ListN.{length, take, drop, take-append-drop}
+use lib.ListN.{take}
 use lib.Seq.{take-add}
 use Rattle.rules.specs.Lists.{tabulate}
-use Rattle.rules.specs.Lines as rules
 use Rattle.rules.specs.Steps.{Step, encodeStep, encodeProof}
-use Rattle.rules.specs.Elimination.{State}
 use Rattle.rules.specs.Needs.{stepsOf}
-use Rattle.lines.specs.Line.{meaning}
+use Rattle.lists.specs.Tabulated.{tabulate-snoc, map-tabulate}
 use Rattle.line_bytes.specs.Places.{stepAt}
-use Rattle.proof_lines.specs.Held.{lineAt, linesIn, tabulate-snoc}
+use Rattle.proof_lines.specs.Held.{lineAt, linesIn}
 use Rattle.placing.specs.declared.place.Progress.{Progress}
 use Rattle.placing.specs.declared.place.Progress.the-variants.{Running, Empty, Overflow, OutOfSteps}
 use Rattle.placing.specs.declared.place.Point.{Point}
@@ -48,11 +46,6 @@ held-bytes proof (suc n) h =
     ∙ sym (ap encodeProof (tabulate-snoc n (λ i. stepFrom (stepAt proof i))) ∙ encode-snoc (stepsIn proof n) s)
 
 -- and their lines
-map-tabulate : {A B : Type 0} (g : A → B) (n : ℕ) (f : ℕ → A) → map g (tabulate n f) ≡ tabulate n (λ i. g (f i))
-unfolding tabulate
-map-tabulate g zero f = refl
-map-tabulate {B = B} g (suc n) f = ap (λ (bs : List B). g (f 0) ∷ bs) (map-tabulate g n (λ i. f (suc i)))
-
 pub held-lines : (proof : List ℕ) (n : ℕ) → linesIn proof n ≡ map (λ s. s .line) (stepsIn proof n)
 unfolding linesIn stepsIn stepFrom lineAt
 held-lines proof n = sym (map-tabulate (λ (s : Step). s .line) n (λ i. stepFrom (stepAt proof i)))

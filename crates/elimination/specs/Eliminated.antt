@@ -1,21 +1,21 @@
 -- What an elimination leaves: the course of the definitions, its steps as the proof's bytes, and what callers of those know.
-use mathlib.Core.Path.{_≡_, refl, sym, ap, subst, _∙_}
+use mathlib.Core.Path.{_≡_, sym, ap, _∙_}
 use mathlib.Core.List.{List, [], _++_, map}
 use Prim.Native.Nat.{ℕ, _*_, _≤_, _<_}
 use lib.IntN.{pos}
-use native.Mathlib.Omega.{arith}
-use lib.ListN.{length, getD, take, drop, take-append-drop}
+use lib.ListN.{length, getD, drop, take-append-drop}
 use Rattle.types.specs.declared.limits.Limits.{Limits}
 use Rattle.rules.specs.Problem.{Problem}
 use Rattle.rules.specs.Steps.{Step, encodeProof}
 use Rattle.rules.specs.Needs.{stepsOf, pairsOf}
-use Rattle.rules.specs.Elimination.{State, running, limited, order, loadableOf, load, rounds, eliminate, course}
+use Rattle.rules.specs.Elimination.{running, limited, order, loadableOf, load, rounds, eliminate, course}
 use Rattle.lists.specs.Places.{element-all}
+use Rattle.lists.specs.Tabulated.{element-tabulate}
 use Rattle.soundness.specs.WellFormed.{WellFormed}
 use Rattle.lines.specs.Line.{meaning}
 use Rattle.lines.specs.Forms.{coefficient-is}
 use Rattle.line_bytes.specs.Places.{stepAt}
-use Rattle.proof_lines.specs.Held.{lineAt, linesIn, ReadyLines, element-tabulate}
+use Rattle.proof_lines.specs.Held.{lineAt, linesIn, ReadyLines}
 use Rattle.placing.specs.declared.place.Point.{Point}
 use Rattle.placing.specs.Steps.{stepFrom, stepsIn, length-stepsIn, Held}
 use Rattle.placing.specs.Point.{stateAt, Leads, leads-trans, pairs-at, Reaches}

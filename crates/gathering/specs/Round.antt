@@ -2,14 +2,14 @@
 use mathlib.Core.Path.{_≡_, refl, ap}
 use mathlib.Core.Bool.{Bool, true, false, _&&_, _||_}
 use mathlib.Core.List.{List, [], _∷_}
-use Prim.Native.Nat.{ℕ, zero, suc, _+_, _<_}
+use Prim.Native.Nat.{ℕ, _+_, _<_}
 use native.Mathlib.Numerals.{add-one}
-use native.Mathlib.Omega.{arith}
 use lib.Dec.{eqb}
 use lib.ListN.{drop}
-use Rattle.rules.specs.Lists.{any, filter, tabulate}
+use Rattle.rules.specs.Lists.{any, filter}
 use Rattle.rules.specs.Lines as rules
 use Rattle.rules.specs.Elimination.{order, roundOf}
+use Rattle.lists.specs.Tabulated.{drop-tabulate, drop-tabulated}
 use Rattle.lines.specs.Line.{meaning}
 use Rattle.proof_lines.specs.Held.{lineAt, linesIn}
 
@@ -38,17 +38,6 @@ any-filter q p (a ∷ s) = by (p a) (any-filter q p s)
     by false e = e
 
 -- ---- from line j on
-pub drop-tabulate : {A : Type 0} (n : ℕ) (f : ℕ → A) (j : ℕ) → j < n → drop j (tabulate n f) ≡ f j ∷ drop (suc j) (tabulate n f)
-unfolding tabulate
-drop-tabulate zero f j h = absurd (omega arith)
-drop-tabulate (suc n) f zero h = refl
-drop-tabulate (suc n) f (suc j) h = drop-tabulate n (λ i. f (suc i)) j (omega arith)
-
-pub drop-tabulated : {A : Type 0} (n : ℕ) (f : ℕ → A) → drop n (tabulate n f) ≡ []
-unfolding tabulate
-drop-tabulated zero f = refl
-drop-tabulated (suc n) f = drop-tabulated n (λ i. f (suc i))
-
 module _ (proof : List ℕ) (n : ℕ) where
   pub lines-next : (j : ℕ) → j < n → drop j (linesIn proof n) ≡ meaning (lineAt proof j) ∷ drop (j + 1) (linesIn proof n)
   unfolding linesIn

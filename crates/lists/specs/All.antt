@@ -3,12 +3,11 @@ use mathlib.Core.Path.{_≡_, refl, ap}
 use mathlib.Core.Bool.{Bool, true, false, not}
 use mathlib.Core.Logic.{_⊎_, inl, inr, ⊎-elim}
 use mathlib.Core.List.{List, [], _∷_, _++_, map}
-use Prim.Native.Nat.{ℕ, zero, suc, _<_}
-use native.Mathlib.Omega.{arith}
+use Prim.Native.Nat.{ℕ, zero, suc}
 use lib.Dec.{T}
 use lib.ListN.{getD, replicate}
 use mir.Facts.{or-yes, or-no, and-yes, yes-and}
-use Rattle.rules.specs.Lists.{any, all, filter, tabulate}
+use Rattle.rules.specs.Lists.{any, all, filter}
 use Rattle.lists.specs.Tests.{or-l, or-r}
 
 module _ {A : Type 0} where
@@ -122,18 +121,10 @@ module _ {A : Type 0} where
       by false e = e
 
 -- ---- made lists
-module _ {A : Type 0} (P : A → Type 0) where
-  -- what holds of everything
-  pub every : (s : List A) → ((a : A) → P a) → All P s
-  every [] h = tt
-  every (a ∷ s) h = (h a, every s h)
-
-  -- the element at place i of f 0, f 1, ..
-  pub any-tabulate : (n : ℕ) (f : ℕ → A) (i : ℕ) → i < n → P (f i) → Any P (tabulate n f)
-  unfolding tabulate
-  any-tabulate zero f i h p = absurd (omega arith)
-  any-tabulate (suc n) f zero h p = inl p
-  any-tabulate (suc n) f (suc i) h p = inr (any-tabulate n (λ j. f (suc j)) i (omega arith) p)
+-- what holds of everything
+pub every : {A : Type 0} (P : A → Type 0) (s : List A) → ((a : A) → P a) → All P s
+every P [] h = tt
+every P (a ∷ s) h = (h a, every P s h)
 
 module _ {A B : Type 0} (P : B → Type 0) (f : A → B) where
   pub any-mapped : (s : List A) → Any (λ a. P (f a)) s → Any P (map f s)

@@ -4,18 +4,16 @@ use mathlib.Core.List.{List, [], _∷_, _++_, append-assoc, append-nil}
 use Prim.Native.Nat.{ℕ, zero, suc, _+_, _-_, _≤_, _<_}
 use native.Mathlib.Numerals.{add-one}
 use native.Mathlib.Omega.{arith}
-use lib.IntN.{ℤ, pos}
-use lib.ListN.{length, getD, set, take, drop, replicate, length-append, take-append-drop}
+use lib.ListN.{length, set, take, drop, replicate, length-append, take-append-drop}
 use lib.Seq.{sets-eq}
 use Rattle.rules.specs.Lists.{tabulate}
 use Rattle.rules.specs.Bytes.{toBytes, amountBytes, padded}
 use Rattle.rules.specs.Model.{booleanByte, encodeModel}
 use Rattle.rules.specs.Meaning.{Assignment}
-use Rattle.lists.specs.Tabulated.{length-tabulate}
+use Rattle.lists.specs.Tabulated.{length-tabulate, tabulate-snoc}
 use Rattle.layout.specs.Bytes.{length-toBytes}
 use Rattle.fields.specs.Field.{stored, length-stored, stored-++}
 use Rattle.line_bytes.specs.Encoding.{length-amounts}
-use Rattle.proof_lines.specs.Held.{tabulate-snoc}
 
 -- nothing, and one byte more
 pub stored-nothing : (at : ℕ) (s : List ℕ) → s ≡ stored at [] s
@@ -32,13 +30,6 @@ pub tabulate-stored : (at i : ℕ) (g : ℕ → ℕ) (s : List ℕ) → at + i <
 tabulate-stored at i g s h k =
     byte-stored at (at + i) (g i) (tabulate i g) s (ap (λ (n : ℕ). at + n) (length-tabulate i g)) h k
     ∙ ap (λ (x : List ℕ). stored at x s) (sym (ap (λ (n : ℕ). tabulate n g) (add-one i) ∙ tabulate-snoc i g))
-
--- the first numbers of a row
-pub tabulate-take : (n : ℕ) (zs : List ℤ) → n ≤ length zs → tabulate n (λ i. getD zs i (pos 0)) ≡ take n zs
-unfolding tabulate
-tabulate-take zero zs h = refl
-tabulate-take (suc n) [] h = absurd (omega arith)
-tabulate-take (suc n) (z ∷ zs) h = ap (λ (s : List ℤ). z ∷ s) (tabulate-take n zs (omega arith))
 
 drop-zeros : (n k : ℕ) → drop k (replicate {A = ℕ} n 0) ≡ replicate (n - k) 0
 drop-zeros n zero = let e : n - 0 ≡ n = omega arith in ap (λ (m : ℕ). replicate {A = ℕ} m 0) (sym e)

@@ -1,17 +1,16 @@
 -- The steps that a proof's bytes hold: a step's origin and line come back from its bytes, and one is put behind the others.
-use mathlib.Core.Path.{_≡_, refl, sym, ap, subst, _∙_}
-use mathlib.Core.List.{List, [], _∷_, _++_, map, append-assoc, append-nil}
+use mathlib.Core.Path.{_≡_, sym, ap, subst, _∙_}
+use mathlib.Core.List.{List, [], _∷_, _++_, append-assoc}
 use Prim.Native.Nat.{ℕ, zero, suc, _+_, _*_, _≤_, _<_}
 use native.Mathlib.Omega.{arith}
 use borrow.Author.Count.{below-more}
-use lib.ListN.{length, getD, take, drop, length-append, length-drop}
-use lib.Seq.{take-at, drop-at, take-take, drop-drop, take-add, length-take-le, getD-take, getD-drop}
+use lib.ListN.{length, getD, take, drop, length-drop}
+use lib.Seq.{take-at, drop-at, take-take, take-add, length-take-le, getD-take, getD-drop}
 use Rattle.rules.specs.Lists.{tabulate}
-use Rattle.rules.specs.Bytes.{fieldAt, padded}
-use Rattle.rules.specs.Lines as rules
+use Rattle.rules.specs.Bytes.{fieldAt}
 use Rattle.rules.specs.Lines.{rational, boolean}
-use Rattle.rules.specs.Steps.{Origin, loaded, resolved, Step, Header, header, headerBytes, lineBytes, encodeStep, encodeProof}
-use Rattle.lists.specs.Tabulated.{length-tabulate}
+use Rattle.rules.specs.Steps.{Origin, loaded, resolved, Step, Header, header, encodeStep}
+use Rattle.lists.specs.Tabulated.{length-tabulate, tabulate-snoc, tabulate-cong}
 use Rattle.layout.specs.Fields.{fieldAt-4}
 use Rattle.layout.specs.Headers.{how-back, which-back, first-back, second-back}
 use Rattle.fields.specs.Field.{stored}
@@ -20,7 +19,6 @@ use Rattle.lines.specs.Line.{meaning, Ready}
 use Rattle.line_bytes.specs.Encoding.{headerOf, encoded, encodeStep-is}
 use Rattle.line_bytes.specs.Decoding.{decoded, decoded-encoded, length-amountsAt}
 use Rattle.line_bytes.specs.Places.{stepAt, part-after, length-put, put-here}
-use Rattle.proof_lines.specs.Held.{lineAt, linesIn, tabulate-snoc, tabulate-cong}
 
 -- ---- a step by its bytes
 -- "Byte 0: how (0 loaded, 1 by a figure, 2 by a mark)."

@@ -1,9 +1,9 @@
 -- The check goes from step to step: what is left to check comes to the same.
-use mathlib.Core.Path.{_≡_, refl, sym, ap, subst, _∙_}
+use mathlib.Core.Path.{_≡_, sym, ap, subst, _∙_}
 use mathlib.Core.Bool.{Bool, true, false, cond}
 use mathlib.Core.List.{List, [], _∷_, _++_}
 use mathlib.Core.Logic.{⊎-elim}
-use Prim.Native.Nat.{ℕ, zero, suc, _+_, _*_, _-_, _<_, _≤_}
+use Prim.Native.Nat.{ℕ, suc, _+_, _*_, _-_, _<_, _≤_}
 use native.Mathlib.Nat.{eq-zero-or-pos}
 use native.Mathlib.Numerals.{add-one}
 use native.Mathlib.Omega.{arith}
@@ -15,16 +15,12 @@ use Rattle.rules.specs.Lines as rules
 use Rattle.rules.specs.Lines.{isEmpty}
 use Rattle.rules.specs.Steps.{Step}
 use Rattle.rules.specs.Checker.{statedLine, checkSteps}
+use Rattle.lists.specs.Tabulated.{length-tabulate, tabulate-snoc}
 use Rattle.lines.specs.Line.{meaning, Ready}
 use Rattle.line_bytes.specs.Places.{stepAt}
-use Rattle.proof_lines.specs.Held.{lineAt, linesIn, ReadyLines, tabulate-snoc}
+use Rattle.proof_lines.specs.Held.{lineAt, linesIn, ReadyLines}
 use Rattle.checking.specs.declared.compare.Stated.{Stated}
 use Rattle.checking.specs.Stated.{States, found-is, unfound-is}
-
-length-tabulate : {A : Type 0} (n : ℕ) (f : ℕ → A) → length (tabulate n f) ≡ n
-unfolding tabulate
-length-tabulate zero f = refl
-length-tabulate (suc n) f = ap suc (length-tabulate n (λ i. f (suc i)))
 
 length-lines : (proof : List ℕ) (n : ℕ) → length (linesIn proof n) ≡ n
 unfolding linesIn

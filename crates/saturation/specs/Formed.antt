@@ -16,7 +16,8 @@ use Rattle.rules.specs.Lines.{Booleans, Line, rational, boolean, coefficient, c
 use Rattle.rules.specs.Elimination.{order}
 use Rattle.rules.specs.Values.{walk}
 use Rattle.lists.specs.Tests.{or-l, or-r}
-use Rattle.lists.specs.All.{All, Any, all-map, all-both, any-left, any-right, yes-any, any-tabulate}
+use Rattle.lists.specs.All.{All, Any, all-map, all-both, any-left, any-right, yes-any}
+use Rattle.lists.specs.Tabulated.{any-tabulate}
 use Rattle.resolution.specs.Members.{has}
 use Rattle.resolution.specs.Variables.{nonzero, contains-rational, contains-boolean}
 use Rattle.resolution.specs.Formed.{Eight, Formed}

@@ -23,6 +23,7 @@ use Rattle.rules.specs.Model.{written}
 use Rattle.rules.specs.Calls.{stopped, decided, noModel, concluded, said, proofAfter, modelAfter}
 use Rattle.lists.specs.All.{All, all-map}
 use Rattle.lists.specs.Places.{element-all}
+use Rattle.lists.specs.Tabulated.{element-tabulate}
 use Rattle.soundness.specs.WellFormed.{WellFormed}
 use Rattle.course.specs.Held.{limited-held}
 use Rattle.course.specs.Sound.{Sound, course-sound}
@@ -31,7 +32,7 @@ use Rattle.encoding.specs.Steps.{proof-length}
 use Rattle.lines.specs.Line.{meaning}
 use Rattle.line_bytes.specs.Places.{zeroed, zeroed-behind}
 use Rattle.lines.specs.Forms.{coefficient-is}
-use Rattle.proof_lines.specs.Held.{lineAt, linesIn, element-tabulate}
+use Rattle.proof_lines.specs.Held.{lineAt, linesIn}
 use Rattle.walk.specs.Narrow.{Narrow}
 use Rattle.elimination.specs.declared.End.{End}
 use Rattle.elimination.specs.declared.End.the-variants.{Saturated, Empty, Overflow, OutOfSteps}

@@ -1,5 +1,5 @@
 -- A turn: each of its uppers with each of its lowers, what is left of the pairs at each point.
-use mathlib.Core.Path.{_≡_, refl, sym, ap, subst, _∙_}
+use mathlib.Core.Path.{_≡_, refl, sym, ap, _∙_}
 use mathlib.Core.Bool.{Bool, true, false, _&&_}
 use mathlib.Core.List.{List, [], _∷_, _++_, map}
 use mathlib.Core.Option.{Option, none, some}
@@ -10,11 +10,10 @@ use lib.ListN.{length}
 use mir.Facts.{and-yes}
 use Rattle.types.specs.declared.limits.Limits.{Limits}
 use Rattle.rules.specs.Lines as rules
-use Rattle.rules.specs.Lines.{positively, negatively}
 use Rattle.rules.specs.Steps.{Step, resolved}
 use Rattle.rules.specs.Needs.{pairsOf}
 use Rattle.rules.specs.Resolve.{resolve}
-use Rattle.rules.specs.Elimination.{Stops, State, running, ended, limited, order, roundOf, Numbered, Pair, pairUp, sideOf, roundPairs, tried, tryAll}
+use Rattle.rules.specs.Elimination.{Stops, State, running, limited, order, roundOf, Numbered, Pair, pairUp, sideOf, roundPairs, tried, tryAll}
 use Rattle.lines.specs.Line.{meaning}
 use Rattle.lists.specs.Tests.{is-true, of-true}
 use Rattle.proof_lines.specs.Held.{lineAt}

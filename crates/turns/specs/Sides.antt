@@ -1,21 +1,18 @@
 -- A turn's lines with its variable on one side, found by their bytes and from number to number.
-use mathlib.Core.Path.{_≡_, refl, sym, ap, _∙_}
+use mathlib.Core.Path.{_≡_, sym, ap, _∙_}
 use mathlib.Core.Bool.{Bool, true, false, _&&_}
 use mathlib.Core.List.{List, [], _∷_}
 use Prim.Native.Nat.{ℕ, suc, _+_, _*_, _≤_, _<_}
 use native.Mathlib.Numerals.{add-one}
 use native.Mathlib.Omega.{arith}
-use lib.IntN.{pos}
 use lib.Dec.{eqb}
-use lib.ListN.{length, getD, drop, drop-of-length-le}
-use lib.Seq.{drop-cons}
-use Rattle.rules.specs.Lists.{tabulate}
+use lib.ListN.{length, drop, drop-of-length-le}
 use Rattle.rules.specs.Bytes.{fromUnsigned, fieldAt}
 use Rattle.rules.specs.Lines as rules
 use Rattle.rules.specs.Lines.{rational, boolean, coefficient, positively, negatively}
 use Rattle.rules.specs.Steps.{Step}
 use Rattle.rules.specs.Elimination.{order, roundOf, Numbered, select}
-use Rattle.lists.specs.Tabulated.{length-tabulate, getD-tabulate}
+use Rattle.lists.specs.Tabulated.{drop-tabulate}
 use Rattle.lines.specs.Line.{meaning, Shaped}
 use Rattle.lines.specs.Forms.{coefficient-is}
 use Rattle.line_bytes.specs.Decoding.{decoded, getD-amountsAt}
@@ -82,9 +79,7 @@ module _ (test : rules.Line → Bool) (i : ℕ) (s : Step) (ss : List Step) wher
 module _ (test : rules.Line → Bool) (proof : List ℕ) (m : ℕ) where
   first : (i : ℕ) → i < m → drop i (stepsIn proof m) ≡ stepFrom (stepAt proof i) ∷ drop (suc i) (stepsIn proof m)
   unfolding stepsIn
-  first i h =
-      let f : ℕ → Step = λ k. stepFrom (stepAt proof k) in
-      drop-cons (tabulate m f) i (f i) (omega (arith, length-tabulate m f)) ∙ ap (λ (s : Step). s ∷ drop (suc i) (tabulate m f)) (getD-tabulate m f i (f i) h)
+  first = drop-tabulate m (λ k. stepFrom (stepAt proof k))
 
   pub selected-here : (i : ℕ) → i < m → test (meaning (lineAt proof i)) ≡ true → selected test proof m i ≡ numbered proof i ∷ selected test proof m (i + 1)
   unfolding selected stepFrom lineAt

@@ -20,14 +20,13 @@ use Rattle.rules.specs.Elimination.{order, roundOf}
 use Rattle.rules.specs.Values.{Fraction, Gathered, gather, tightest, value, rationalValue, withRational, withBoolean, assign, start, walkFrom}
 use Rattle.rules.specs.Model.{tooLarge}
 use Rattle.lists.specs.All.{All, all-map, filter-all}
-use Rattle.lists.specs.Tabulated.{all-tabulate}
+use Rattle.lists.specs.Tabulated.{all-tabulate, none-tabulate}
 use Rattle.vectors.specs.Put.{put-same, put-other}
 use Rattle.saturation.specs.Gathered.{OfBound, gives, gather-all}
 use Rattle.lines.specs.Line.{meaning}
 use Rattle.lines.specs.Forms.{coefficient-is}
 use Rattle.proof_lines.specs.Held.{lineAt, linesIn, ReadyLines}
 use Rattle.gathering.specs.Round.{own}
-use Rattle.walk.specs.Words.{any-none}
 
 pub record Narrow (proof : List ℕ) (n r : ℕ) : Type 0 where
   pub zeros : (i : ℕ) → i < n → (f : ℕ) → r ≤ f → getD (lineAt proof i .coefficients) f (pos 0) ≡ pos 0
@@ -90,7 +89,7 @@ module _ (lines : List rules.Line) (r : ℕ) (h : (f : ℕ) → r ≤ f → With
 -- ---- only the first r numerators count
 any-front : (p : ℤ → Bool) (n r : ℕ) (g : ℕ → ℤ) → r ≤ n → ((j : ℕ) → r ≤ j → p (g j) ≡ false) → any p (tabulate n g) ≡ any p (tabulate r g)
 unfolding any tabulate
-any-front p n zero g l h = any-none p n g (λ i. h i (omega arith))
+any-front p n zero g l h = none-tabulate p n g (λ i k. h i (omega arith))
 any-front p zero (suc r) g l h = absurd (omega arith)
 any-front p (suc n) (suc r) g l h = ap (λ (b : Bool). p (g 0) || b) (any-front p n r (λ i. g (suc i)) (omega arith) (λ j k. h (suc j) (omega arith)))
 

@@ -7,6 +7,7 @@ use native.Mathlib.Omega.{arith}
 use lib.IntN.{ℤ, pos, natAbs, _+ℤ_, _*ℤ_}
 use lib.Dec.{T, leb, ltb, ltb→lt}
 use lib.ListN.{length, getD, set, replicate}
+use lib.Seq.{take-all}
 use borrow.Author.Tests.{le-ltb, lt-ltb, lt-leb, leb-false}
 use Rattle.types.specs.Limits.{amount}
 use Rattle.integers.specs.Ring.{*-comm, *-zeroʳ, +-identityˡ, +-identityʳ}
@@ -18,6 +19,7 @@ use Rattle.rules.specs.Values.{Fraction, withRational, withBoolean}
 use Rattle.rules.specs.Model.{tooLarge}
 use Rattle.lists.specs.Tests.{of-true, of-false, is-false, tests-agree}
 use Rattle.lists.specs.All.{every, any-no, all-map, yes-all, any-agree, getD-replicate-same}
+use Rattle.lists.specs.Tabulated.{tabulate-take, none-tabulate}
 use Rattle.vectors.specs.Dot.{getD-combine}
 use Rattle.masks.specs.Mask.{bits, length-bits}
 use Rattle.rows.specs.Amount.{Amounts, all-amounts}
@@ -69,11 +71,6 @@ module _ (a c m : ℤ) where
             (put-both f (λ k. getD numerators k (pos 0)) (λ k. getD (replicate 8 (pos 0)) k (pos 0)) (λ k. getD-replicate-same 8 k (pos 0)) j)
 
 -- ---- too large, by the numerators' list
-tabulate-getD : (zs : List ℤ) → tabulate (length zs) (λ i. getD zs i (pos 0)) ≡ zs
-unfolding tabulate
-tabulate-getD [] = refl
-tabulate-getD (z ∷ zs) = ap (λ (s : List ℤ). z ∷ s) (tabulate-getD zs)
-
 -- the same test of a number, said with ≤ and with <
 outside : (z : ℤ) → ltb amount (natAbs z) ≡ not (inRange z)
 unfolding inRange
@@ -84,7 +81,7 @@ outside z =
 pub large-words : (row : List ℤ) (χ : Assignment) → length row ≡ 8 → value row ≡ χ .numerators → tooLarge 8 χ ≡ ltb amount (χ .denominator) || any (λ z. not (inRange z)) row
 unfolding tooLarge value
 large-words row χ n e =
-    let t : tabulate 8 (χ .numerators) ≡ row = ap (λ (g : ℕ → ℤ). tabulate 8 g) (sym e) ∙ ap (λ (k : ℕ). tabulate k (λ i. getD row i (pos 0))) (sym n) ∙ tabulate-getD row in
+    let t : tabulate 8 (χ .numerators) ≡ row = ap (λ (g : ℕ → ℤ). tabulate 8 g) (sym e) ∙ tabulate-take 8 row (pos 0) (omega arith) ∙ take-all 8 row (omega arith) in
     rw (t, any-agree (λ z. ltb amount (natAbs z)) (λ z. not (inRange z)) row (every (λ z. ltb amount (natAbs z) ≡ not (inRange z)) row outside))
 
 pub amounts-words : (row : List ℤ) → any (λ z. not (inRange z)) row ≡ false → Amounts row
@@ -96,16 +93,11 @@ amounts-words row e =
     twice true h = h
     twice false h = h
 
-pub any-none : (p : ℤ → Bool) (n : ℕ) (g : ℕ → ℤ) → ((i : ℕ) → p (g i) ≡ false) → any p (tabulate n g) ≡ false
-unfolding any tabulate
-any-none p zero g h = refl
-any-none p (suc n) g h = rw (h 0) (any-none p n (λ i. g (suc i)) (λ i. h (suc i)))
-
 pub range-written : (m : Model) (r : ℕ) → InRange m → tooLarge r (assignment m) ≡ false
 unfolding tooLarge assignment value
 range-written m r h =
     rw (le-ltb amount (m .denominator) (h .small))
-    (any-none (λ z. ltb amount (natAbs z)) r (λ f. getD (m .numerators) f (pos 0)) (λ i. le-ltb amount (natAbs (getD (m .numerators) i (pos 0))) (h .amounts .small i)))
+    (none-tabulate (λ z. ltb amount (natAbs z)) r (λ f. getD (m .numerators) f (pos 0)) (λ i k. le-ltb amount (natAbs (getD (m .numerators) i (pos 0))) (h .amounts .small i)))
 
 -- ---- a rational variable more, over the common denominator D
 module _ (m : Model) (f : ℕ) (x : Fraction) (D : ℕ) (common : D ≡ lcm (m .denominator) (x .denominator)) where

@@ -7,11 +7,11 @@ use borrow.Author.Needs.{needs}
 use lib.IntN.{ℤ, pos}
 use lib.ListN.{length, getD, take}
 use Rattle.rules.specs.Bytes.{toBytes, toUnsigned, amountBytes}
+use Rattle.lists.specs.Tabulated.{tabulate-take}
 use Rattle.fields.specs.Field.{stored}
 use Rattle.rows.specs.Amount.{amount-bits}
 use Rattle.evaluation.specs.Model.{value}
 use Rattle.line_bytes.specs.Encoding.{amount-stored, stored-none}
-use Rattle.model_bytes.specs.Parts.{tabulate-take}
 use Rattle.model_bytes.proofs.put_numerators.Statement.{statement}
 use Rattle.model_bytes.proofs.put_numerators.Tie as tie
 
@@ -73,7 +73,7 @@ returns c =
     let s = c .before .before .before in
     let zs = s .args .t4 in
     let e : l .i ≡ s .args .r = omega (arith, l .inv .0, c .loop-test .left) in
-    let t = ap (λ (n : ℕ). take n zs) e ∙ sym (tabulate-take (s .args .r) zs (omega (arith, l .inv .1, s .pre .0))) in
+    let t = ap (λ (n : ℕ). take n zs) e ∙ sym (tabulate-take (s .args .r) zs (pos 0) (omega (arith, l .inv .1, s .pre .0))) in
     l .inv .3 ∙ ap (λ (x : List ℤ). stored (s .args .at) (amountBytes x) (s .args .s .now)) t
 
 pub put-numerators-spec : {M : Type 1} → statement M
