@@ -56,7 +56,11 @@ fn answer(answer: Answer, pairs: u64) -> String {
             format!("{verdict} (lines of the book: {lines}, pairs tried: {pairs})")
         }
         Answer::Refused(Refusal { number, place }) => {
-            format!("refused, {number} at {place}: {}", reason(number))
+            let why = reason(number);
+            match number {
+                14.. => format!("refused, {number} at {place}: {why} (pairs tried: {pairs})"),
+                _ => format!("refused, {number} at {place}: {why}"),
+            }
         }
     }
 }

@@ -1,4 +1,5 @@
 pub mod Sides
 pub mod Pairs
+pub mod Left
 pub mod Rounds
 pub mod Turns

@@ -1,15 +1,15 @@
 -- A pair's result: dropped, wide, or put to the tests of a line.
-use mathlib.Core.Path.{_≡_, refl, sym, ap, subst, _∙_}
+use mathlib.Core.Path.{_≡_, refl, ap, _∙_}
 use mathlib.Core.Bool.{Bool, true, false, cond}
 use mathlib.Core.List.{List}
-use mathlib.Core.Option.{Option, none, some}
-use Prim.Native.Nat.{ℕ, suc, _≤_, _<_}
+use mathlib.Core.Option.{Option}
+use Prim.Native.Nat.{ℕ, _≤_, _<_}
 use native.Mathlib.Omega.{arith}
 use Rattle.types.specs.declared.limits.Limits.{Limits}
 use Rattle.rules.specs.Lines as rules
 use Rattle.rules.specs.Lines.{positively, negatively}
 use Rattle.rules.specs.Resolve.{resolve}
-use Rattle.rules.specs.Steps.{Step, Origin, resolved, header}
+use Rattle.rules.specs.Steps.{Origin, resolved, header}
 use Rattle.rules.specs.Elimination.{State, overflows, limited, Pair, placed, add, tried}
 use Rattle.lines.specs.declared.line.Line.{Line}
 use Rattle.lines.specs.Line.{meaning}

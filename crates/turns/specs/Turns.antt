@@ -1,17 +1,17 @@
 -- The turns by their numbers: each takes the next variable of the order, until none is left.
 use mathlib.Core.Path.{_≡_, refl, sym, ap, _∙_}
-use mathlib.Core.Bool.{Bool, true, false}
-use mathlib.Core.List.{List, [], _∷_, _++_}
+use mathlib.Core.Bool.{false}
+use mathlib.Core.List.{List, [], _∷_}
 use Prim.Native.Nat.{ℕ, suc, _+_, _*_, _-_, _≤_, _<_}
 use native.Mathlib.Numerals.{add-one}
 use native.Mathlib.Omega.{arith}
-use lib.ListN.{length, getD, drop, length-append, drop-of-length-le, List·getD-append}
+use lib.ListN.{length, getD, drop, drop-of-length-le, List·getD-append}
 use lib.Seq.{drop-cons, getD-append-add}
 use Rattle.types.specs.declared.limits.Limits.{Limits}
 use Rattle.rules.specs.Lists.{tabulate}
 use Rattle.rules.specs.Lines as rules
 use Rattle.rules.specs.Lines.{rational, boolean}
-use Rattle.rules.specs.Elimination.{State, running, limited, order, roundPairs, tryAll, rounds}
+use Rattle.rules.specs.Elimination.{limited, order, rounds}
 use Rattle.lists.specs.Tabulated.{length-tabulate, getD-tabulate}
 use Rattle.placing.specs.declared.place.Progress.{Progress}
 use Rattle.placing.specs.declared.place.Progress.the-variants.{Running, Empty, Overflow, OutOfSteps}

@@ -1,15 +1,15 @@
 -- `round::round` meets its contract. Invariants: the pairs that are left at each loop's test come to what the turn comes to; of the lowers,
 -- whatever the turn began with. Assumes nothing.
-use mathlib.Core.Path.{_≡_, refl, sym, ap, _∙_}
+use mathlib.Core.Path.{refl, sym, _∙_}
 use mathlib.Core.List.{List}
-use Prim.Native.Nat.{ℕ, _+_, _*_, _-_, _≤_, _<_}
+use Prim.Native.Nat.{ℕ, _+_, _*_, _-_, _<_}
 use native.Mathlib.Omega.{arith}
 use borrow.Author.Needs.{needs}
 use borrow.Author.Tests.{not-true, not-false}
 use Rattle.placing.specs.declared.place.Point.{Point}
-use Rattle.proof_lines.specs.Held.{lineAt}
 use Rattle.placing.specs.Steps.{held-fewer}
-use Rattle.turns.specs.Rounds.{AtUpper, AtLower, Entered, line-same, upper-first, upper-done, lower-first, upper-next, pairable, Turning, laterLowers, turning-pair, lower-next, turn-ended}
+use Rattle.turns.specs.Left.{line-same}
+use Rattle.turns.specs.Rounds.{AtUpper, AtLower, Entered, upper-first, upper-done, lower-first, upper-next, pairable, Turning, laterLowers, turning-pair, lower-next, turn-ended}
 use Rattle.turns.proofs.round.round.Statement.{statement}
 use Rattle.turns.proofs.round.round.Tie as tie
 

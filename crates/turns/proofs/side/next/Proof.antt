@@ -1,9 +1,8 @@
 -- `side::next` meets its contract. Invariant: no line is chosen between the number given and i. Assumes nothing.
 use mathlib.Core.Path.{_≡_, refl, sym, _∙_}
-use Prim.Native.Nat.{_-_, _≤_, _<_}
+use Prim.Native.Nat.{_-_, _≤_}
 use native.Mathlib.Omega.{arith}
 use borrow.Author.Needs.{needs}
-use Rattle.lines.specs.Line.{Shaped}
 use Rattle.proof_lines.specs.Held.{lineAt}
 use Rattle.turns.specs.Sides.{variableOf, chosen, selected, selected-past}
 use Rattle.turns.proofs.side.next.Statement.{statement}
