@@ -6,7 +6,20 @@
  * (0 to 32) and m literals of one byte, a mark's number, plus 128 if negated; a
  * byte t (0 to 8) and t conditions: a byte 1 (at most) or 2 (below), r
  * coefficients and a bound, each four bytes and signed, at most 1,000,000,000
- * in size. A clause holds if one of its literals or conditions does.
+ * in size. A condition holds if the sum of coefficient times figure is at most,
+ * or below, the bound; a clause if one of its literals or conditions does. The
+ * question: are there marks and figures, fractions of any size, with which
+ * every clause holds?
+ *
+ * Solving tidies each clause: a condition without figures goes, and its clause
+ * with it if it is true; so does a clause with a mark and its negation; the
+ * rest is divided by its greatest common divisor. A clause left with k
+ * conditions is cut into k pieces by k - 1 links, marks of the solver's own.
+ * These are the first lines of the book. The course then eliminates one figure
+ * after the other, and then the marks, by combining two lines at a time; the
+ * result of such a pair is a line of the book too. A line with nothing in it
+ * ends the course: the clauses contradict each other. Without one, a value for
+ * each mark and figure is worked out backwards from the lines.
  *
  * A question, a book and a sheet are bytes that the caller owns and lends for
  * the time of one call. No call keeps a pointer or any state, allocates,
@@ -16,7 +29,7 @@
  * NULL where its length is 0. Buffers of one call must not overlap. A call
  * takes some two kilobytes of stack.
  *
- * Link with libjemuling.a; nothing else is needed.
+ * Link with libjemuling.a; it needs memset of the C library and nothing else.
  */
 #ifndef JEMULING_H
 #define JEMULING_H
@@ -41,16 +54,19 @@ extern "C" {
  * the place that the comment names; from 64 on the call has answered.
  */
 enum {
-    /* The question is refused, with the first fault in this order. */
-    JEMULING_LONG = 3,        /* over 32,768 bytes; 32,768 */
-    JEMULING_SHORT = 4,       /* it ends before a field is complete; its length */
+    /*
+     * The question is at fault: 3 first; then 4 to 11, the first that is met
+     * as the fields are read one by one; then 12, then 13.
+     */
+    JEMULING_LONG = 3,        /* the question has over 32,768 bytes; 32,768 */
+    JEMULING_SHORT = 4,       /* the question ends before a field is complete; its length */
     JEMULING_MARKS = 5,       /* more than 16 marks; 0 */
     JEMULING_FIGURES = 6,     /* more than 8 figures; 1 */
     JEMULING_CLAUSES = 7,     /* more than 256 clauses; 2 */
     JEMULING_LITERAL = 8,     /* more than 32 literals, or a mark that the question does not have; its byte */
     JEMULING_CONDITIONS = 9,  /* more than 8 conditions; its byte */
-    JEMULING_RELATION = 10,   /* neither 1 (at most) nor 2 (below); its byte */
-    JEMULING_AMOUNT = 11,     /* beyond 1,000,000,000 in size; its first byte */
+    JEMULING_RELATION = 10,   /* a relation neither 1 (at most) nor 2 (below); its byte */
+    JEMULING_AMOUNT = 11,     /* an amount beyond 1,000,000,000 in size; its first byte */
     JEMULING_TAIL = 12,       /* bytes follow the last clause; the first of them */
     JEMULING_LINKS = 13,      /* the tidied clauses take more than 16 links; first byte of the clause passing it */
     /* Solving: the course met a limit. The book's 65,536 bytes are 0, the sheet is as it was. */
@@ -60,11 +76,14 @@ enum {
     JEMULING_BOOK = 1,        /* a book to write has under 65,536 bytes; 0 */
     JEMULING_SHEET = 2,       /* a sheet has under 64 bytes; 0 */
     JEMULING_CLAIM = 16,      /* a book to check has not 64 to 65,536 bytes by 64s; its length */
-    JEMULING_SLIP = 17,       /* a sheet to check has a field out of its range; first byte of the first such field */
+    JEMULING_SLIP = 17,       /* a sheet to check has another count of marks or figures than the question, a mark not
+                                 0 or 1, a denominator outside 1 to 1,000,000,000, or a numerator beyond
+                                 1,000,000,000 in size; first byte of the first such field */
     /* A verdict; `value` is the count of the book's lines. */
     JEMULING_AGREES = 64,     /* the marks and figures on the sheet satisfy the question */
     JEMULING_CANNOT = 65,     /* no marks and figures do; the book's lines show it */
-    JEMULING_UNWRITTEN = 66,  /* some do, but a number of those that the value rule gives is too large for the sheet */
+    JEMULING_UNWRITTEN = 66,  /* some do, but a bound or value that was worked out for them, or the common
+                                 denominator, is too large for a sheet */
     /* What a check found. */
     JEMULING_ACCEPTED = 67,   /* the book is a refutation, or the sheet satisfies every clause; 0 */
     JEMULING_FAILS = 68,      /* the first line that does not follow (the count of lines if only an empty last line
@@ -88,8 +107,8 @@ typedef struct {
 } jemuling_solved;
 
 /*
- * Solves a question. Says JEMULING_BOOK, JEMULING_SHEET, then 3 to 13, in this
- * order, and then alters no byte; or a verdict; or 14 or 15.
+ * Solves a question. Says JEMULING_BOOK, else JEMULING_SHEET, else a fault of
+ * the question, 3 to 13, and then alters no byte; or a verdict; or 14 or 15.
  *
  * After a verdict the book's first `value` lines of 64 bytes are those of the
  * course and the rest of its 65,536 bytes is 0; the sheet's 64 bytes are the
@@ -117,16 +136,17 @@ jemuling_solved jemuling_solve(const uint8_t *question, size_t question_length,
  * Checks that a book refutes a question: every line is a piece of a clause or
  * the result of two earlier lines, and the last is empty. Whoever wrote the
  * book, after JEMULING_ACCEPTED no marks and figures satisfy the question.
- * Writes nothing. Says 3 to 13, then JEMULING_CLAIM, then JEMULING_ACCEPTED or
- * JEMULING_FAILS.
+ * Writes nothing. Says a fault of the question, 3 to 13, else JEMULING_CLAIM,
+ * else JEMULING_ACCEPTED or JEMULING_FAILS.
  */
 jemuling_told jemuling_check_book(const uint8_t *question, size_t question_length,
                                   const uint8_t *book, size_t book_length);
 
 /*
  * Checks that the marks and figures on a sheet satisfy a question. Bytes after
- * the last numerator are not read. Writes nothing. Says 3 to 13, then
- * JEMULING_SHEET, JEMULING_SLIP, then JEMULING_ACCEPTED or JEMULING_FAILS.
+ * the last numerator are not read. Writes nothing. Says a fault of the
+ * question, 3 to 13, else JEMULING_SHEET, else JEMULING_SLIP, else
+ * JEMULING_ACCEPTED or JEMULING_FAILS.
  */
 jemuling_told jemuling_check_sheet(const uint8_t *question, size_t question_length,
                                    const uint8_t *sheet, size_t sheet_length);

@@ -3,17 +3,18 @@
 
 mod words;
 
-use notation::{contents, encode, names_for, text, Failure, Names};
+use notation::{encode, names_for, question_bytes, text, Failure, Names};
 use std::io::Write;
 use std::process::ExitCode;
 
-const USAGE: &str = "usage: explain FILE [NAMES]; FILE is a notation file (.txt) or a question";
+const USAGE: &str =
+    "usage: explain FILE.txt (notation) | explain FILE [NAMES.txt] (the bytes of a question)";
 
 fn main() -> ExitCode {
-    let arguments: Vec<String> = std::env::args_os()
-        .skip(1)
-        .map(|argument| argument.to_string_lossy().into_owned())
-        .collect();
+    let arguments = match notation::words(std::env::args_os()) {
+        Ok(arguments) => arguments,
+        Err(failure) => return fail(failure.status(), &failure.to_string()),
+    };
     let words: Vec<&str> = arguments.iter().map(String::as_str).collect();
     let explained = match words[..] {
         [file] if file.ends_with(".txt") => explain_text(file),
@@ -51,5 +52,5 @@ fn explain_text(file: &str) -> Result<String, Failure> {
 
 fn explain_bytes(file: &str, names: Option<&str>) -> Result<String, Failure> {
     let names = |question: &_| -> Result<Names, Failure> { names_for(question, names) };
-    words::explain(&contents(file)?, names)
+    words::explain(&question_bytes(file)?, names)
 }

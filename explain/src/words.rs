@@ -50,7 +50,8 @@ fn answer(answer: Answer, pairs: u64) -> String {
                 Verdict::Agrees => "agrees",
                 Verdict::Cannot => "cannot agree",
                 Verdict::Unwritten => {
-                    "unwritten: it can agree, but a number of the shares is too large for the sheet"
+                    "unwritten: it can agree, but a bound or a share that was worked out, or \
+                     the common denominator, is too large for the sheet"
                 }
             };
             format!("{verdict} (lines of the book: {lines}, pairs tried: {pairs})")
@@ -74,7 +75,7 @@ fn reason(number: u8) -> &'static str {
         7 => "more than 256 clauses",
         8 => "more than 32 literals, or a mark that the question does not have",
         9 => "more than 8 conditions",
-        10 => "neither 1 (at most) nor 2 (below)",
+        10 => "a relation neither 1 (at most) nor 2 (below)",
         11 => "an amount beyond 1,000,000,000 in size",
         12 => "bytes follow the last clause",
         13 => "more than 16 links",

@@ -6,9 +6,24 @@ use crate::encode::encode;
 use crate::failure::{Failure, Mistake};
 use crate::names::Names;
 use crate::parse::{parse, Text};
-use crate::question::Question;
+use crate::question::{Question, BYTES};
 use crate::sheet::explain_sheet;
 use crate::show::show;
+use std::env::ArgsOs;
+use std::ffi::OsString;
+use std::io::Read;
+
+/// A program's arguments after its name, all of them UTF-8.
+pub fn words(arguments: ArgsOs) -> Result<Vec<String>, Failure> {
+    let word = |argument: OsString| {
+        let said = |argument: OsString| {
+            let name = argument.to_string_lossy().into_owned();
+            in_file(&name, "expected a name in UTF-8")
+        };
+        argument.into_string().map_err(said)
+    };
+    arguments.skip(1).map(word).collect()
+}
 
 /// The bytes for standard output.
 pub fn run(arguments: &[String]) -> Result<Vec<u8>, Failure> {
@@ -68,7 +83,7 @@ fn in_words(
 }
 
 fn question(file: &str) -> Result<Question, Failure> {
-    decode(&contents(file)?).map_err(|message| in_file(file, &message))
+    decode(&question_bytes(file)?).map_err(|message| in_file(file, &message))
 }
 
 /// The names of a notation file, or numbered ones.
@@ -116,8 +131,19 @@ fn mistake(line: usize, column: usize, message: String) -> Mistake {
     }
 }
 
-pub fn contents(file: &str) -> Result<Vec<u8>, Failure> {
+/// A file of the notation, a sheet or a book.
+fn contents(file: &str) -> Result<Vec<u8>, Failure> {
     std::fs::read(file).map_err(|error| in_file(file, &error.to_string()))
+}
+
+/// A question's bytes; one too many is enough to tell that there are too many.
+pub fn question_bytes(file: &str) -> Result<Vec<u8>, Failure> {
+    let mut bytes = Vec::new();
+    let most = BYTES as u64 + 1;
+    std::fs::File::open(file)
+        .and_then(|file| file.take(most).read_to_end(&mut bytes))
+        .map_err(|error| in_file(file, &error.to_string()))?;
+    Ok(bytes)
 }
 
 fn in_file(file: &str, message: &str) -> Failure {

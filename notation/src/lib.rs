@@ -27,7 +27,7 @@ mod sum;
 mod token;
 
 pub use book::explain_book;
-pub use command::{contents, names_for, run, text};
+pub use command::{names_for, question_bytes, run, text, words};
 pub use decode::decode;
 pub use encode::encode;
 pub use failure::{Failure, Mistake};

@@ -1,15 +1,12 @@
 //! The program `notation`: see the library.
 
-use notation::{run, Failure};
+use notation::{run, words, Failure};
 use std::io::Write;
 use std::process::ExitCode;
 
 fn main() -> ExitCode {
-    let arguments: Vec<String> = std::env::args_os()
-        .skip(1)
-        .map(|argument| argument.to_string_lossy().into_owned())
-        .collect();
-    match run(&arguments).and_then(|bytes| print(&bytes)) {
+    let output = words(std::env::args_os()).and_then(|words| run(&words));
+    match output.and_then(|bytes| print(&bytes)) {
         Ok(()) => ExitCode::SUCCESS,
         Err(failure) => {
             eprintln!("{failure}");

@@ -13,8 +13,9 @@ pub struct Text {
     pub question: Question,
 }
 
-/// Reads a notation file, or finds its first mistake.
+/// Reads a notation file, or finds its first mistake. A byte order mark before it is passed over.
 pub fn parse(text: &str) -> Result<Text, Mistake> {
+    let text = text.strip_prefix('\u{feff}').unwrap_or(text);
     let mut parser = Parser::default();
     for (index, line) in text.lines().enumerate() {
         parser.line(Line::new(line, index + 1)?)?;

@@ -97,7 +97,8 @@ impl Scanner<'_> {
             _ if first.is_ascii_digit() => self.number(),
             _ if first.is_alphabetic() => Ok(Kind::Word(self.while_it(in_name))),
             _ => Err(self.mistake(format!(
-                "expected a name, a number or a sign, found '{first}'"
+                "expected a name, a number or a sign, found {}",
+                visible(first)
             ))),
         }
     }
@@ -147,4 +148,12 @@ impl Scanner<'_> {
 
 fn in_name(c: char) -> bool {
     c.is_alphabetic() || c.is_ascii_digit() || c == '_'
+}
+
+/// A character between quotes, or its number if it would not be seen.
+fn visible(character: char) -> String {
+    match character.escape_debug().nth(1) {
+        Some('u' | '0') => format!("U+{:04X}", character as u32),
+        _ => format!("'{character}'"),
+    }
 }

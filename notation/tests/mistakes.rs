@@ -63,6 +63,14 @@ fn in_clauses() {
             "3: expected a name, a number or a sign, found '*'",
         ),
         (
+            "x \u{200b}<= 1",
+            "3: expected a name, a number or a sign, found U+200B",
+        ),
+        (
+            "x \0<= 1",
+            "3: expected a name, a number or a sign, found U+0000",
+        ),
+        (
             "_x <= 1",
             "1: expected a name, a number or a sign, found '_'",
         ),

@@ -107,6 +107,22 @@ impl Random {
     }
 }
 
+/// Line ends of other systems, no line end and a byte order mark make no difference.
+#[test]
+fn texts_of_other_systems() {
+    let text = "marks a\nfigures x\n\n  x <= 1 or a # why\n";
+    let bytes = encode(&parse(text).unwrap().question);
+    let others = [
+        text.replace('\n', "\r\n"),
+        text.trim_end().to_string(),
+        format!("\u{feff}{text}"),
+        text.replace(' ', "\t"),
+    ];
+    for other in others {
+        assert_eq!(encode(&parse(&other).unwrap().question), bytes);
+    }
+}
+
 /// A text is a question again, or a mistake on the line of the clause where the second solver
 /// finds a link too many.
 #[test]

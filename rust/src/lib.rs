@@ -1,11 +1,13 @@
 //! Jemuling's calls behind safe functions. The declarations below are those of
 //! `include/jemuling.h`, whose comments say what each call answers and leaves in the buffers.
 
-/// The sizes of a full-size book and of a sheet, in bytes.
+/// In bytes: a question at most, a line of a book, a full-size book and sheet.
+pub const QUESTION_BYTES: usize = 32_768;
+pub const LINE_BYTES: usize = 64;
 pub const BOOK_BYTES: usize = 65_536;
 pub const SHEET_BYTES: usize = 64;
 
-/// A refusal of document 01's table, 1 to 17, and its place.
+/// A refusal by its number, 1 to 17, and its place; the header says what each number means.
 #[derive(Clone, Copy, Debug, PartialEq, Eq)]
 pub struct Refusal {
     pub number: u8,
@@ -99,7 +101,7 @@ const ACCEPTED: u64 = 67;
 const FAILS: u64 = 68;
 const OF_SHEET: u64 = 70;
 
-/// Solves a question. The buffers are lent for the call and hold what 01 says afterwards.
+/// Solves a question. The buffers are lent for the call, and hold afterwards what the header says.
 pub fn solve(question: &[u8], book: &mut [u8], sheet: &mut [u8]) -> Solved {
     // SAFETY: the call reads the question and reads and writes the buffers within their lengths,
     // and keeps no pointer; slices lent mutably do not overlap.
@@ -153,7 +155,8 @@ pub fn hand_back<'a>(answer: Answer, book: &'a [u8], sheet: &'a [u8]) -> Part<'a
         Answer::Verdict(Verdict::Agrees, lines) => (AGREES, lines),
         Answer::Verdict(Verdict::Cannot, lines) => (CANNOT, lines),
         Answer::Verdict(Verdict::Unwritten, lines) => (UNWRITTEN, lines),
-        Answer::Refused(refusal) => (u64::from(refusal.number), refusal.place),
+        // a refusal's number is below 64, whatever the caller put into it
+        Answer::Refused(Refusal { number, place }) => (u64::from(number.min(63)), place),
     };
     // SAFETY: as for `check_book`.
     let told = unsafe {
