@@ -36,6 +36,15 @@ reduce-same n d p =
 pub reduce-positive : (n : ℤ) (d : ℕ) → 0 < d → Positive (reduce n d)
 reduce-positive n d p = reduce-same n d p .up .right
 
+-- what every reduced fraction has
+abbrev pub OfReduced : (Fraction → Type 0) → Type 0
+OfReduced P = (n : ℤ) (d : ℕ) → 0 < d → P (reduce n d)
+
+pub quotient-has : (P : Fraction → Type 0) → OfReduced P → (n a : ℤ) (d : ℕ) → 0 < natAbs a → 0 < d → P (quotient n a d)
+unfolding quotient
+quotient-has P h n (pos a) d z p = h n (a * d) (mul-pos z p)
+quotient-has P h n (negsuc a) d z p = h (negℤ n) (suc a * d) (mul-pos (omega arith) p)
+
 -- a quotient by a positive or a negative number, the sign in the numerator
 pub quotient-positive : (n c : ℤ) (d : ℕ) → T (isPositive c) → 0 < d → Same (over n (natAbs c * d)) (quotient n c d)
 unfolding quotient isPositive
@@ -86,9 +95,6 @@ below n d m e z h = rw (twiceʳ m d e, spread (n *ℤ e) (m *ℤ d) e) (rel-+ (r
 middle : (x y : Fraction) → Positive x → Positive y → Same (over (x .numerator *ℤ pos (y .denominator) +ℤ y .numerator *ℤ pos (x .denominator)) (2 * (x .denominator * y .denominator))) (midpoint x y)
 unfolding midpoint
 middle x y p q = reduce-same (x .numerator *ℤ pos (y .denominator) +ℤ y .numerator *ℤ pos (x .denominator)) (2 * (x .denominator * y .denominator)) (mul-pos (omega arith) (mul-pos p q))
-
-pub midpoint-positive : (x y : Fraction) → Positive x → Positive y → Positive (midpoint x y)
-midpoint-positive x y p q = middle x y p q .up .right
 
 module _ (x y : Fraction) (h : Below true x y) where
   pub midpoint-above : Below true x (midpoint x y)

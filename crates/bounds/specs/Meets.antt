@@ -1,6 +1,6 @@
 -- A constraint is a bound on its variable: a value that meets the bound makes the constraint hold, and a combination that holds makes
 -- the two bounds of its pair agree.
-use mathlib.Core.Path.{_≡_, ap}
+use mathlib.Core.Path.{_≡_, ap, _∙_}
 use mathlib.Core.Bool.{Bool}
 use mathlib.Core.Logic.{_↔_}
 use mathlib.Core.List.{List}
@@ -10,12 +10,13 @@ use lib.IntN.{ℤ, pos, negℤ, natAbs, _+ℤ_, _-ℤ_, _*ℤ_}
 use lib.Signed.{_<ℤ_}
 use lib.Dec.{T}
 use lib.ListN.{getD, set}
-use Rattle.integers.specs.Ring.{ring, negation}
+use Rattle.integers.specs.Ring.{ring, negation, *-zeroˡ}
 use Rattle.integers.specs.Natural.{pos-mono-<}
 use Rattle.integers.specs.Product.{*-positive}
 use Rattle.rules.specs.Arithmetic.{lcm, sum, combine, isPositive, isNegative}
 use Rattle.rules.specs.Meaning.{Assignment}
 use Rattle.vectors.specs.Lcm.{lcm-dvdˡ, lcm-dvdʳ, lcm-positive}
+use Rattle.vectors.specs.Put.{put-same, put-other}
 use Rattle.vectors.specs.Sign.{positive-is, negative-is}
 use Rattle.vectors.specs.Relation.{Rel, rel-*ʳ, rel-*-cancelʳ, rel-neg}
 use Rattle.vectors.specs.Constraint.{Holds, put-holds, put-keeps}
@@ -69,6 +70,19 @@ module _ {s : Bool} (n N a d e k m D : ℤ) (p : d *ℤ k ≡ D) (q : e *ℤ m �
       right = rw (← q) (simp (ring, negation))
 
 -- ---- one variable more in an assignment
+module _ (i : ℕ) (q : Fraction) (χ : Assignment) where
+  pub with-same : withRational i q χ .numerators i ≡ q .numerator *ℤ pos (lcm (χ .denominator) (q .denominator) / q .denominator)
+  unfolding withRational
+  with-same = let D = lcm (χ .denominator) (q .denominator) in put-same i (q .numerator *ℤ pos (D / q .denominator)) (λ j. χ .numerators j *ℤ pos (D / χ .denominator))
+
+  pub with-other : (j : ℕ) → (j ≡ i → ⊥) → withRational i q χ .numerators j ≡ χ .numerators j *ℤ pos (lcm (χ .denominator) (q .denominator) / χ .denominator)
+  unfolding withRational
+  with-other = let D = lcm (χ .denominator) (q .denominator) in put-other i (q .numerator *ℤ pos (D / q .denominator)) (λ j. χ .numerators j *ℤ pos (D / χ .denominator))
+
+  -- a 0 stays
+  pub with-zero : (j : ℕ) → (j ≡ i → ⊥) → χ .numerators j ≡ pos 0 → withRational i q χ .numerators j ≡ pos 0
+  with-zero j n e = let D = lcm (χ .denominator) (q .denominator) in with-other j n ∙ rw e (*-zeroˡ (pos (D / χ .denominator)))
+
 module _ (i : ℕ) (q : Fraction) (χ : Assignment) (zd : 0 < χ .denominator) (zq : Positive q) where
   abbrev d : ℕ
   d = χ .denominator
@@ -80,10 +94,10 @@ module _ (i : ℕ) (q : Fraction) (χ : Assignment) (zd : 0 < χ .denominator) (
   unfolding withRational
   with-denominator = lcm-positive d (q .denominator) zd zq
 
-  exactˡ : d * (D / d) ≡ D
+  pub exactˡ : d * (D / d) ≡ D
   exactˡ = mul-div-cancel' d (lcm-dvdˡ d (q .denominator) zd)
 
-  exactʳ : q .denominator * (D / q .denominator) ≡ D
+  pub exactʳ : q .denominator * (D / q .denominator) ≡ D
   exactʳ = mul-div-cancel' (q .denominator) (lcm-dvdʳ d (q .denominator))
 
   positiveˡ : pos 0 <ℤ pos (D / d)

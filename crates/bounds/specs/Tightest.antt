@@ -19,7 +19,7 @@ Sound gs = All (λ g. Positive (g .at)) gs
 -- ---- a property that one of two bounds has, and equal ones have together, is the tightest's
 module _ (before : Fraction → Fraction → Bool) (P : Fraction → Bool → Type 0)
     (join : (x y : Fraction) (s t : Bool) → T (not (before x y)) → T (not (before y x)) → P x s → P y t → P y (s || t)) where
-  tighter-has : (x : Fraction) (s : Bool) (B : Bound) → P x s → Each P B → Each P (tighter before x s B)
+  pub tighter-has : (x : Fraction) (s : Bool) (B : Bound) → P x s → Each P B → Each P (tighter before x s B)
   unfolding tighter
   tighter-has x s absent h k = h
   tighter-has x s (present y t) h k = by (before x y) (before y x) refl refl
@@ -34,8 +34,12 @@ module _ (before : Fraction → Fraction → Bool) (P : Fraction → Bool → Ty
   tightest-has [] h = tt
   tightest-has (g ∷ gs) h = tighter-has (g .at) (g .strict) (tightest before gs) (h .0) (tightest-has gs (h .1))
 
+-- it is at one of them
+pub tightest-one : (P : Fraction → Type 0) (before : Fraction → Fraction → Bool) (gs : List Gathered) → All (λ g. P (g .at)) gs → Each (λ x s. P x) (tightest before gs)
+tightest-one P before gs h = tightest-has before (λ x s. P x) (λ x y s t e f p q. q) gs h
+
 pub tightest-sound : (before : Fraction → Fraction → Bool) (gs : List Gathered) → Sound gs → Each (λ x s. Positive x) (tightest before gs)
-tightest-sound before gs h = tightest-has before (λ x s. Positive x) (λ x y s t e f p q. q) gs h
+tightest-sound = tightest-one Positive
 
 -- ---- R s x z: the bound x, strict where s, is met by z. `before x y`: x is tighter than y
 module _ (R : Bool → Fraction → Fraction → Type 0) (before : Fraction → Fraction → Bool)

@@ -1,10 +1,14 @@
 -- The value rule: where every lower bound agrees with every upper one, its value meets them all.
 use mathlib.Core.Bool.{Bool, true, false, _||_, or-comm}
 use mathlib.Core.List.{List}
+use Prim.Native.Nat.{_*_}
+use native.Mathlib.Nat.{mul-pos}
 use native.Mathlib.Omega.{arith}
-use Rattle.rules.specs.Values.{Fraction, Bound, absent, present, value, Gathered}
+use lib.IntN.{pos, negsuc, _+ℤ_, _*ℤ_}
+use Rattle.rules.specs.Arithmetic.{gcdWithin, gcd}
+use Rattle.rules.specs.Values.{Fraction, reduce, midpoint, plus, Bound, absent, present, value, Gathered}
 use Rattle.bounds.specs.Below.{Positive, Below, below-refl}
-use Rattle.bounds.specs.Arithmetic.{plus-one-above, minus-one-below, midpoint-positive, midpoint-above, midpoint-below}
+use Rattle.bounds.specs.Arithmetic.{OfReduced, reduce-positive, plus-one-above, minus-one-below, midpoint-above, midpoint-below}
 use Rattle.lists.specs.All.{All, all-map}
 use Rattle.bounds.specs.Tightest.{Each, Sound, Lower, Upper, greatest, least, tightest-sound, greatest-meets, greatest-agrees, least-meets, least-agrees}
 
@@ -26,16 +30,20 @@ value-upper (present l false) (present u t) p h = h
 value-upper (present l true) (present u false) p h = below-refl u p
 value-upper (present l true) (present u true) p h = midpoint-below l u h
 
--- its denominator is positive, whether or not they agree
+-- ---- what every reduced fraction has, the value has too, whether or not they agree
+pub value-has : (P : Fraction → Type 0) → OfReduced P → (L U : Bound) → Each (λ l s. Positive l) L → Each (λ u t. Positive u) U → Each (λ l s. P l) L → Each (λ u t. P u) U → P (value L U)
+unfolding value plus midpoint reduce gcd gcdWithin
+value-has P h absent absent p q i k = h (pos 0) 1 (omega arith)
+value-has P h absent (present u false) p q i k = k
+value-has P h absent (present u true) p q i k = h (u .numerator +ℤ negsuc 0 *ℤ pos (u .denominator)) (u .denominator) q
+value-has P h (present l false) U p q i k = i
+value-has P h (present l true) absent p q i k = h (l .numerator +ℤ pos 1 *ℤ pos (l .denominator)) (l .denominator) p
+value-has P h (present l true) (present u false) p q i k = k
+value-has P h (present l true) (present u true) p q i k =
+    h (l .numerator *ℤ pos (u .denominator) +ℤ u .numerator *ℤ pos (l .denominator)) (2 * (l .denominator * u .denominator)) (mul-pos (omega arith) (mul-pos p q))
+
 pub value-positive : (L U : Bound) → Each (λ l s. Positive l) L → Each (λ u t. Positive u) U → Positive (value L U)
-unfolding value
-value-positive absent absent p q = omega arith
-value-positive absent (present u false) p q = q
-value-positive absent (present u true) p q = minus-one-below u q .left
-value-positive (present l false) U p q = p
-value-positive (present l true) absent p q = plus-one-above l p .right
-value-positive (present l true) (present u false) p q = q
-value-positive (present l true) (present u true) p q = midpoint-positive l u p q
+value-positive L U p q = value-has Positive reduce-positive L U p q p q
 
 -- ---- of several
 -- every lower bound agrees with every upper one: ≤, and < where either is strict

@@ -10,6 +10,7 @@ pub mod Longer
 pub mod Limits
 pub mod Count
 pub mod Closed
+pub mod Narrow
 pub mod Consistent
 pub mod PairBound
 pub mod Taken

@@ -12,6 +12,7 @@ use Rattle.rules.specs.Elimination.{running, limited, order, loadableOf, load, 
 use Rattle.lists.specs.Places.{element-all}
 use Rattle.lists.specs.Tabulated.{element-tabulate}
 use Rattle.soundness.specs.WellFormed.{WellFormed}
+use Rattle.course.specs.Narrow.{NarrowLine, course-narrow}
 use Rattle.lines.specs.Line.{meaning}
 use Rattle.lines.specs.Forms.{coefficient-is}
 use Rattle.line_bytes.specs.Places.{stepAt}
@@ -21,7 +22,6 @@ use Rattle.placing.specs.Steps.{stepFrom, stepsIn, length-stepsIn, Held}
 use Rattle.placing.specs.Point.{stateAt, Leads, leads-trans, pairs-at, Reaches}
 use Rattle.loading.specs.Loading.{origin}
 use Rattle.elimination.specs.declared.Course.{Course}
-use Rattle.elimination.specs.Narrow.{NarrowLine, course-narrow}
 use Rattle.elimination.specs.Ends.{endBy, endOf, end-at}
 use Rattle.elimination.specs.Bytes.{steps-at, held-bytes, held-lines}
 

@@ -1,4 +1,3 @@
 pub mod Ends
 pub mod Bytes
-pub mod Narrow
 pub mod Eliminated

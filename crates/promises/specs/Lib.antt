@@ -7,6 +7,7 @@ pub mod Course
 pub mod Checked
 pub mod Memory
 pub mod Left
+pub mod Denominator
 pub mod Demand1
 pub mod Demand3
 pub mod HandedBack

@@ -1,4 +1,4 @@
--- The bounds that lines give on a rational: facts of all of them are facts of the lines, and their denominators are positive.
+-- The bounds that lines give on a rational: facts of all of them are facts of the lines; they and the value are reduced.
 use mathlib.Core.Bool.{Bool, not, _&&_}
 use mathlib.Core.Logic.{_⊎_, inl, inr, ⊎-elim}
 use mathlib.Core.List.{List, [], _∷_}
@@ -11,12 +11,14 @@ use Rattle.rules.specs.Arithmetic.{isPositive, isNegative}
 use Rattle.rules.specs.Problem.{Constraint}
 use Rattle.rules.specs.Meaning.{Assignment}
 use Rattle.rules.specs.Lines.{Line, Variable, rational, aLiteralHolds, coefficient, positively, negatively}
-use Rattle.rules.specs.Values.{boundOf, Gathered, boundsOf, gather, tightest, rationalValue}
+use Rattle.rules.specs.Values.{Fraction, boundOf, Gathered, boundsOf, gather, tightest, rationalValue}
 use Rattle.lists.specs.All.{All, filter-all, all-filter, every}
+use Rattle.vectors.specs.Sign.{0<abs-positive, 0<abs-negative}
 use Rattle.bounds.specs.Below.{Positive}
-use Rattle.bounds.specs.Arithmetic.{quotient-positive, quotient-negative}
-use Rattle.bounds.specs.Tightest.{Sound, tightest-sound}
-use Rattle.bounds.specs.Value.{value-positive}
+use Rattle.bounds.specs.Arithmetic.{OfReduced, reduce-positive, quotient-has}
+use Rattle.bounds.specs.Reduced.{Coprime, reduce-coprime}
+use Rattle.bounds.specs.Tightest.{Sound, tightest-one, tightest-sound}
+use Rattle.bounds.specs.Value.{value-has}
 use Rattle.bounds.specs.Meets.{rest}
 
 -- what holds of the bound that a constraint gives, if there is one
@@ -55,31 +57,45 @@ module _ (P : Gathered → Type 0) (χ : Assignment) (f : ℕ) where
   unfolding gather
   all-gather side ls h = all-filter (λ l. OfBound P χ f (l .constraint)) (gives side χ f) ls (all-bounds (filter (gives side χ f) ls) h)
 
--- ---- positive denominators
-module _ (χ : Assignment) (z : 1 ≤ χ .denominator) (f : ℕ) (ls : List Line) where
-  bound-sound : (k : Option Constraint) → T (isPositive (coefficient f k)) ⊎ T (isNegative (coefficient f k)) → OfBound (λ g. Positive (g .at)) χ f k
+-- ---- what every reduced fraction has, the bounds have too
+module _ (P : Fraction → Type 0) (reduced : OfReduced P) (χ : Assignment) (z : 1 ≤ χ .denominator) (f : ℕ) (ls : List Line) where
+  bound-has : (k : Option Constraint) → T (isPositive (coefficient f k)) ⊎ T (isNegative (coefficient f k)) → OfBound (λ g. P (g .at)) χ f k
   unfolding boundOf
-  bound-sound none s = tt
-  bound-sound (some c) s =
-      let n = rest f (c .coefficients) (c .bound) (χ .numerators) (χ .denominator) in
+  bound-has none s = tt
+  bound-has (some c) s =
       let a = coefficient f (some c) in
-      ⊎-elim (λ p. quotient-positive n a (χ .denominator) p z .up .right) (λ p. quotient-negative n a (χ .denominator) p z .up .right) s
+      quotient-has P reduced (rest f (c .coefficients) (c .bound) (χ .numerators) (χ .denominator)) a (χ .denominator) (⊎-elim (0<abs-positive a) (0<abs-negative a) s) z
 
-  gathered-sound : (side : Variable → Line → Bool) → ((l : Line) → T (side (rational f) l) → T (isPositive (coefficient f (l .constraint))) ⊎ T (isNegative (coefficient f (l .constraint)))) → Sound (gather side χ f ls)
-  gathered-sound side s =
-      gather-all (λ g. Positive (g .at)) χ f side ls
-      (every (λ l. T (gives side χ f l) → OfBound (λ g. Positive (g .at)) χ f (l .constraint)) ls (λ l h. bound-sound (l .constraint) (s l (and-yes (side (rational f) l) (not (aLiteralHolds χ l)) h .0))))
+  gathered-have : (side : Variable → Line → Bool) → ((l : Line) → T (side (rational f) l) → T (isPositive (coefficient f (l .constraint))) ⊎ T (isNegative (coefficient f (l .constraint)))) → All (λ g. P (g .at)) (gather side χ f ls)
+  gathered-have side s =
+      gather-all (λ g. P (g .at)) χ f side ls
+      (every (λ l. T (gives side χ f l) → OfBound (λ g. P (g .at)) χ f (l .constraint)) ls (λ l h. bound-has (l .constraint) (s l (and-yes (side (rational f) l) (not (aLiteralHolds χ l)) h .0))))
 
-  pub uppers-sound : Sound (gather positively χ f ls)
+  uppers-have : All (λ g. P (g .at)) (gather positively χ f ls)
   unfolding positively
-  uppers-sound = gathered-sound positively (λ l h. inl h)
+  uppers-have = gathered-have positively (λ l h. inl h)
+
+  lowers-have : All (λ g. P (g .at)) (gather negatively χ f ls)
+  unfolding negatively
+  lowers-have = gathered-have negatively (λ l h. inr h)
+
+module _ (χ : Assignment) (z : 1 ≤ χ .denominator) (f : ℕ) (ls : List Line) where
+  pub uppers-sound : Sound (gather positively χ f ls)
+  uppers-sound = uppers-have Positive reduce-positive χ z f ls
 
   pub lowers-sound : Sound (gather negatively χ f ls)
-  unfolding negatively
-  lowers-sound = gathered-sound negatively (λ l h. inr h)
+  lowers-sound = lowers-have Positive reduce-positive χ z f ls
 
-  -- whether or not the bounds agree
-  pub rational-sound : Positive (rationalValue χ f ls)
+  -- and so has the value, whether or not the bounds agree
+  rational-has : (P : Fraction → Type 0) → OfReduced P → P (rationalValue χ f ls)
   unfolding rationalValue
-  rational-sound =
-      value-positive (tightest _ (gather negatively χ f ls)) (tightest _ (gather positively χ f ls)) (tightest-sound _ (gather negatively χ f ls) lowers-sound) (tightest-sound _ (gather positively χ f ls) uppers-sound)
+  rational-has P h =
+      let ns = gather negatively χ f ls in
+      let ps = gather positively χ f ls in
+      value-has P h (tightest _ ns) (tightest _ ps) (tightest-sound _ ns lowers-sound) (tightest-sound _ ps uppers-sound) (tightest-one P _ ns (lowers-have P h χ z f ls)) (tightest-one P _ ps (uppers-have P h χ z f ls))
+
+  pub rational-sound : Positive (rationalValue χ f ls)
+  rational-sound = rational-has Positive reduce-positive
+
+  pub rational-coprime : Coprime (rationalValue χ f ls)
+  rational-coprime = rational-has Coprime reduce-coprime

@@ -2,6 +2,9 @@ pub mod Rule
 pub mod Boolean
 pub mod Gathered
 pub mod Rational
+pub mod Unset
+pub mod Unbounded
+pub mod Least
 pub mod Assign
 pub mod Rounds
 pub mod Covered

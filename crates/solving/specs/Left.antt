@@ -1,6 +1,6 @@
 -- What is left after a course: the used lines and zeros, or zeros alone, and the sheet; for each end.
 use mathlib.Core.Path.{_≡_, refl, sym, ap, subst, _∙_}
-use mathlib.Core.List.{List, [], _∷_, _++_, map}
+use mathlib.Core.List.{List, [], _++_}
 use mathlib.Core.Option.{Option, none, some}
 use Prim.Native.Nat.{ℕ, _+_, _*_, _-_, _≤_}
 use native.Mathlib.Omega.{arith}
@@ -21,24 +21,19 @@ use Rattle.rules.specs.Needs.{stepsOf, pairsOf}
 use Rattle.rules.specs.Values.{walk}
 use Rattle.rules.specs.Model.{written}
 use Rattle.rules.specs.Calls.{stopped, decided, noModel, concluded, said, proofAfter, modelAfter}
-use Rattle.lists.specs.All.{All, all-map}
-use Rattle.lists.specs.Places.{element-all}
-use Rattle.lists.specs.Tabulated.{element-tabulate}
+use Rattle.lists.specs.All.{all-map}
 use Rattle.soundness.specs.WellFormed.{WellFormed}
 use Rattle.course.specs.Held.{limited-held}
 use Rattle.course.specs.Sound.{Sound, course-sound}
 use Rattle.resolution.specs.Formed.{Formed}
 use Rattle.encoding.specs.Steps.{proof-length}
-use Rattle.lines.specs.Line.{meaning}
 use Rattle.line_bytes.specs.Places.{zeroed, zeroed-behind}
-use Rattle.lines.specs.Forms.{coefficient-is}
-use Rattle.proof_lines.specs.Held.{lineAt, linesIn}
+use Rattle.proof_lines.specs.Held.{linesIn}
 use Rattle.walk.specs.Narrow.{Narrow}
 use Rattle.elimination.specs.declared.End.{End}
 use Rattle.elimination.specs.declared.End.the-variants.{Saturated, Empty, Overflow, OutOfSteps}
 use Rattle.elimination.specs.declared.Course.{Course}
 use Rattle.elimination.specs.Eliminated.{Eliminated}
-use Rattle.solving.specs.Absent.{LineWithout, without-coefficient, course-without}
 use Rattle.solving.specs.Ends.{refusedBy, decidedBy, Written, WrittenBy}
 use Rattle.solving.specs.Leaves.{Leaves}
 use Rattle.solving.specs.Concluded.{finished, Concludes, concludes}
@@ -62,21 +57,8 @@ module _ {limits : Limits} {p : Problem} (w : WellFormed p) {before after : List
   used = proof-length steps (all-map (λ s. Sound (s .line)) (λ s. Formed (s .line)) steps (λ s h. h .formed) (course-sound p w (limited limits) order))
 
   -- no line has a variable that the question does not have
-  lines-without : (f : ℕ) → p .rationals ≤ f → All (LineWithout f) (linesIn after (c .steps))
-  lines-without f l = subst (All (LineWithout f)) (sym (e .lines)) (mapped steps (course-without p w f l (limited limits)))
-    where
-      mapped : (ss : List Step) → All (λ s. LineWithout f (s .line)) ss → All (LineWithout f) (map (λ s. s .line) ss)
-      mapped [] h = tt
-      mapped (s ∷ ss) h = (h .0, mapped ss (h .1))
-
   pub narrow : Narrow after (c .steps) (p .rationals)
-  unfolding linesIn
-  narrow =
-      record {
-        zeros = λ i h f l.
-            sym (coefficient-is (lineAt after i) (e .ready i h .shaped) f)
-            ∙ without-coefficient f (meaning (lineAt after i) .constraint) (element-all (LineWithout f) (linesIn after (c .steps)) i (meaning (lineAt after i)) (element-tabulate (c .steps) (λ i. meaning (lineAt after i)) i h) (lines-without f l));
-      }
+  narrow = record { zeros = e .narrow }
 
   -- what lies beyond the limit is as it was
   beyond : drop (limit.proofBytes limits) after ≡ drop (limit.proofBytes limits) before

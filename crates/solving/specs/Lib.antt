@@ -1,4 +1,3 @@
-pub mod Absent
 pub mod Ends
 pub mod Leaves
 pub mod Concluded

@@ -11,7 +11,6 @@ use walk::backwards::walk;
 ghost use mathlib.Core.Path.{_≡_};
 ghost use Prim.Native.Nat.{_*_, _≤_};
 ghost use lib.ListN.{length};
-ghost use Rattle.types.specs.declared.answers.Verdict.the-variants as verdict;
 ghost use Rattle.line_bytes.specs.Places.{zeroed};
 ghost use Rattle.proof_lines.specs.Held.{ReadyLines};
 ghost use Rattle.walk.specs.Narrow.{Narrow};

@@ -14,6 +14,7 @@ use Rattle.rules.specs.Meaning.{Assignment}
 use Rattle.rules.specs.Values.{assign, exceeds, Walked, start, walkFrom, walk}
 use Rattle.rules.specs.Model.{encodeModel, tooLarge, written}
 use Rattle.lists.specs.All.{getD-replicate-same}
+use Rattle.saturation.specs.Unbounded.{Without, walk-zero}
 use Rattle.masks.specs.Mask.{bits}
 use Rattle.evaluation.specs.declared.model.Model.{Model}
 use Rattle.evaluation.specs.Model.{value, assignment}
@@ -23,7 +24,7 @@ use Rattle.walk.specs.Outcome.{Next, Assigned}
 use Rattle.walk.specs.Order.{variableAt, order-from}
 use Rattle.walk.specs.Words.{range-written}
 use Rattle.walk.specs.Growth.{unwritable-end}
-use Rattle.walk.specs.Narrow.{Without, walk-zero, large-narrow}
+use Rattle.walk.specs.Narrow.{large-narrow}
 
 pub record Walking (lines : List Line) (t : ℕ) (m : Model) : Type 0 where
   pub same : walkFrom order lines t (drop t order) .assignment ≡ assignment m
@@ -67,7 +68,7 @@ module _ (lines : List Line) where
       where
         large : exceeds (variableAt t) (own t lines) (assignment m) || tooLarge r (assign (variableAt t) (own t lines) (assignment m)) ≡ true
         large =
-            let k = walk-zero lines r z t (drop t order) in
+            let k : (f : ℕ) → r ≤ f → walkFrom order lines t (drop t order) .assignment .numerators f ≡ pos 0 = λ f i. walk-zero order lines f (z f i) t (drop t order) in
             rw (← large-narrow r (assign (variableAt t) (own t lines) (assignment m)) l (λ f i. subst (λ (w : Walked). w .assignment .numerators f ≡ pos 0) goes (k f i))) e
 
   pub walking-end : (m : Model) → Walking lines 0 m → (r b : ℕ) → written b r (walk order lines) ≡ some (encodeModel b r (assignment m))

@@ -11,21 +11,20 @@ use lib.ListN.{drop}
 use borrow.Author.Tests.{ltb-true, lt-ltb, eqb-true, eqb-false}
 use Rattle.types.specs.Limits.{amount}
 use Rattle.integers.specs.Size.{abs-*}
-use Rattle.integers.specs.Ring.{*-zeroˡ}
 use Rattle.rules.specs.Lists.{any, tabulate, put}
 use Rattle.rules.specs.Arithmetic.{lcm}
 use Rattle.rules.specs.Meaning.{Assignment}
 use Rattle.rules.specs.Lines.{Line, Variable, rational, boolean}
 use Rattle.rules.specs.Elimination.{order}
-use Rattle.rules.specs.Values.{Fraction, rationalValue, withRational, withBoolean, assign, exceeds, Walked, start, walkFrom}
+use Rattle.rules.specs.Values.{Fraction, rationalValue, withRational, withBoolean, assign, exceeds, Walked, walkFrom}
 use Rattle.rules.specs.Model.{tooLarge}
 use Rattle.vectors.specs.Put.{put-other}
 use Rattle.vectors.specs.Lcm.{lcm-dvdˡ, lcm-positive}
 use Rattle.bounds.specs.Below.{Positive}
-use Rattle.bounds.specs.Meets.{with-denominator}
 use Rattle.saturation.specs.Gathered.{rational-sound}
+use Rattle.saturation.specs.Unset.{Aligned, aligned-cons, Unset, walk-unset}
 use Rattle.gathering.specs.Round.{own}
-use Rattle.walk.specs.Order.{variableAt, order-from, Aligned, order-aligned}
+use Rattle.walk.specs.Order.{variableAt, order-from, rest-aligned}
 
 -- of functions, place by place
 any-grows : (p : ℤ → Bool) (n : ℕ) (g h : ℕ → ℤ) → ((i : ℕ) → p (g i) ≡ true → p (h i) ≡ true) → any p (tabulate n g) ≡ true → any p (tabulate n h) ≡ true
@@ -75,42 +74,13 @@ module _ (f : ℕ) (x : Fraction) (χ : Assignment) (z : 0 < χ .denominator) (q
           rw (any-grows (λ z. ltb amount (natAbs z)) r (χ .numerators) scaled numerator-grows w)
           (or-true (ltb amount D))
 
--- the first variable, and the rest
-split : (t : ℕ) (v : Variable) (vs : List Variable) → Aligned t (v ∷ vs) → Aligned t (v ∷ []) × Aligned (suc t) vs
-split t (rational f) vs h = ((h .0, tt), h .1)
-split t (boolean i) vs h = (tt, h)
-
--- ---- what holds at the end of round t: a rational variable of an earlier round is still 0
-pub record Sound (t : ℕ) (χ : Assignment) : Type 0 where
-  pub positive : 0 < χ .denominator
-  pub free : (f : ℕ) → f < t → χ .numerators f ≡ pos 0
-
-module _ (t : ℕ) (ls : List Line) (χ : Assignment) (s : Sound (suc t) χ) where
-  pub assign-sound : (v : Variable) → Aligned t (v ∷ []) → Sound t (assign v ls χ)
-  unfolding assign withBoolean withRational
-  assign-sound (boolean i) h = record { positive = s .positive; free = λ f l. s .free f (omega arith) }
-  assign-sound (rational g) h =
-      let x = rationalValue χ g ls in
-      let D = lcm (χ .denominator) (x .denominator) in
-      record {
-        positive = with-denominator g x χ (s .positive) (rational-sound χ (s .positive) g ls);
-        free = λ f l.
-            put-other g (x .numerator *ℤ pos (D / x .denominator)) (λ j. χ .numerators j *ℤ pos (D / χ .denominator)) f (λ e. omega (arith, h .0))
-            ∙ rw (s .free f (omega arith)) (*-zeroˡ (pos (D / χ .denominator)));
-      }
-
-  pub assign-grows : (v : Variable) (r : ℕ) → Aligned t (v ∷ []) → tooLarge r χ ≡ true → tooLarge r (assign v ls χ) ≡ true
-  unfolding assign withBoolean tooLarge
-  assign-grows (boolean i) r h e = e
-  assign-grows (rational g) r h e = rational-grows g (rationalValue χ g ls) χ (s .positive) (rational-sound χ (s .positive) g ls) (s .free g (omega (arith, h .0))) r e
+pub assign-grows : (t : ℕ) (ls : List Line) (χ : Assignment) → Unset (suc t) χ → (v : Variable) (r : ℕ) → Aligned t (v ∷ []) → tooLarge r χ ≡ true → tooLarge r (assign v ls χ) ≡ true
+unfolding assign withBoolean tooLarge
+assign-grows t ls χ s (boolean i) r h e = e
+assign-grows t ls χ s (rational g) r h e = rational-grows g (rationalValue χ g ls) χ (s .positive) (rational-sound χ (s .positive) g ls) (s .free g (omega (arith, h .0))) r e
 
 -- ---- the walk
 module _ (lines : List Line) where
-  pub walk-sound : (t : ℕ) (vs : List Variable) → Aligned t vs → Sound t (walkFrom order lines t vs .assignment)
-  unfolding walkFrom start
-  walk-sound t [] h = record { positive = omega arith; free = λ f l. refl }
-  walk-sound t (v ∷ vs) h = let a = split t v vs h in assign-sound t (own t lines) (walkFrom order lines (suc t) vs .assignment) (walk-sound (suc t) vs (a .1)) v (a .0)
-
   -- it cannot be written, and so not at the end
   abbrev pub unwritable : ℕ → Walked → Bool
   unwritable r w = w .exceeded || tooLarge r (w .assignment)
@@ -124,10 +94,10 @@ module _ (lines : List Line) where
 
       by : (x l : Bool) → tooLarge r (w .assignment) ≡ l → (y : Bool) → x || l ≡ true → (x || y) || tooLarge r (assign v (own t lines) (w .assignment)) ≡ true
       by true l i y k = refl
-      by false l i y k = let a = split t v vs h in rw (assign-grows t (own t lines) (w .assignment) (walk-sound (suc t) vs (a .1)) v r (a .0) (i ∙ k)) (or-true y)
+      by false l i y k = let a = aligned-cons t v vs h in rw (assign-grows t (own t lines) (w .assignment) (walk-unset order lines (suc t) vs (a .1)) v r (a .0) (i ∙ k)) (or-true y)
 
   pub unwritable-end : (r t : ℕ) → t ≤ 40 → unwritable r (walkFrom order lines t (drop t order)) ≡ true → unwritable r (walkFrom order lines 0 order) ≡ true
   unwritable-end r zero h e = e
   unwritable-end r (suc t) h e =
       let o = order-from t (omega arith) in
-      unwritable-end r t (omega arith) (rw o (unwritable-next r t (variableAt t) (drop (suc t) order) (rw o at (order-aligned t)) e))
+      unwritable-end r t (omega arith) (rw o (unwritable-next r t (variableAt t) (drop (suc t) order) (rw o at (rest-aligned t)) e))

@@ -9,6 +9,7 @@ use Rattle.rules.specs.Lists.{tabulate}
 use Rattle.rules.specs.Lines.{Variable, rational, boolean}
 use Rattle.rules.specs.Elimination.{order}
 use Rattle.lists.specs.Tabulated.{getD-tabulate}
+use Rattle.saturation.specs.Unset.{Aligned, aligned-cons, order-aligned}
 
 unfoldable pub variableAt : ℕ → Variable
 variableAt t = getD order t (rational 0)
@@ -40,24 +41,11 @@ pub boolean-at : (i : ℕ) → i < 32 → variableAt (8 + i) ≡ boolean i
 unfolding variableAt order
 boolean-at i h = getD-back 8 rational (tabulate 32 boolean) i (rational 0) ∙ getD-tabulate 32 boolean i (rational 0) h
 
--- ---- a rational variable's number is its round's
-abbrev pub Aligned : ℕ → List Variable → Type 0
-Aligned t [] = Unit {0}
-Aligned t (rational f ∷ vs) = (f ≡ t) × Aligned (suc t) vs
-Aligned t (boolean i ∷ vs) = Aligned (suc t) vs
-
-aligned-from : (t : ℕ) (v : Variable) (vs : List Variable) → Aligned t (v ∷ vs) → Aligned (suc t) vs
-aligned-from t (rational f) vs h = h .1
-aligned-from t (boolean i) vs h = h
-
+-- ---- a rational variable's number is its round's, from every round on
 aligned-drop : (k t s : ℕ) (vs : List Variable) → k + t ≡ s → Aligned t vs → Aligned s (drop k vs)
 aligned-drop zero t s vs e h = let z : t ≡ s = omega arith in subst (λ (i : ℕ). Aligned i vs) z h
 aligned-drop (suc k) t s [] e h = tt
-aligned-drop (suc k) t s (v ∷ vs) e h = aligned-drop k (suc t) s vs (omega arith) (aligned-from t v vs h)
+aligned-drop (suc k) t s (v ∷ vs) e h = aligned-drop k (suc t) s vs (omega arith) (aligned-cons t v vs h .1)
 
-all-aligned : Aligned 0 order
-unfolding order tabulate
-all-aligned = (refl, (refl, (refl, (refl, (refl, (refl, (refl, (refl, tt))))))))
-
-pub order-aligned : (t : ℕ) → Aligned t (drop t order)
-order-aligned t = aligned-drop t 0 t order (omega arith) all-aligned
+pub rest-aligned : (t : ℕ) → Aligned t (drop t order)
+rest-aligned t = aligned-drop t 0 t order (omega arith) order-aligned

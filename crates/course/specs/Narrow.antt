@@ -1,22 +1,19 @@
 -- No line of a question's course has a coefficient from rational variable r on.
-use mathlib.Core.Path.{_≡_, refl, sym, ap, subst, _∙_}
-use mathlib.Core.Bool.{not}
+use mathlib.Core.Path.{_≡_, refl, _∙_}
 use mathlib.Core.Logic.{_⊎_, ⊎-elim}
 use mathlib.Core.List.{List, [], _∷_}
 use mathlib.Core.Option.{Option, none, some}
 use Prim.Native.Nat.{ℕ, suc, _+_, _≤_}
-use lib.IntN.{ℤ, pos}
+use lib.IntN.{pos}
 use lib.Dec.{T}
-use lib.ListN.{getD}
 use Rattle.rules.specs.Arithmetic.{gcdAll, isZero}
 use Rattle.rules.specs.Problem.{Constraint, Clause, Problem}
 use Rattle.rules.specs.Lines.{Booleans, noBooleans, including, Line, Variable, rational, coefficient, positively, negatively, contains}
 use Rattle.rules.specs.Normalize.{Settled, always, never, kept, settled, settledAll, reduced, Normal, normalClause}
 use Rattle.rules.specs.Split.{chain, parts, partsOf, splitsOf}
 use Rattle.rules.specs.Resolve.{resolve}
-use Rattle.rules.specs.Steps.{Step}
 use Rattle.rules.specs.Needs.{stepsOf}
-use Rattle.rules.specs.Elimination.{Stops, order, partSteps, loadable, loadableOf, course, eliminate}
+use Rattle.rules.specs.Elimination.{Stops, order, partSteps, loadable, loadableOf, course}
 use Rattle.integers.specs.Quotient.{quot-zero}
 use Rattle.lists.specs.Tests.{split}
 use Rattle.lists.specs.All.{All, all-map, all-append}
