@@ -2,11 +2,12 @@
 use types::answers::Answer;
 use types::answers::Checked;
 use types::answers::Evidence;
+use types::answers::Refusal;
 use types::answers::Solved;
 use types::answers::Verdict;
 ghost use mathlib.Core.Path.{_≡_};
 ghost use Rattle.types.specs.Answers.{verdictNumber};
-ghost use Rattle.jemuling.specs.Told.{answerTold, checkedTold, evidenceTold, solvedTold};
+ghost use Rattle.jemuling.specs.Told.{refusedTold, answerTold, checkedTold, evidenceTold, solvedTold};
 
 // An answer's number and value.
 #[repr(C)]
@@ -33,6 +34,15 @@ pub fn verdict_number(v: Verdict) -> u64
     }
 }
 
+fn refused_told(f: Refusal, place: usize) -> Told
+    ensures { λ t. ⌜ t ≡ refusedTold f place ⌝ }
+{
+    Told {
+        number: f.number() as u64,
+        value: place,
+    }
+}
+
 fn answer_told(a: Answer) -> Told
     ensures { λ t. ⌜ t ≡ answerTold a ⌝ }
 {
@@ -41,10 +51,7 @@ fn answer_told(a: Answer) -> Told
             number: verdict_number(v),
             value: steps,
         },
-        Answer::Refused(f, place) => Told {
-            number: f.number() as u64,
-            value: place,
-        },
+        Answer::Refused(f, place) => refused_told(f, place),
     }
 }
 
@@ -72,10 +79,7 @@ pub fn checked_told(c: Checked) -> Told
             number: 68,
             value: n,
         },
-        Checked::Refused(f, place) => Told {
-            number: f.number() as u64,
-            value: place,
-        },
+        Checked::Refused(f, place) => refused_told(f, place),
     }
 }
 

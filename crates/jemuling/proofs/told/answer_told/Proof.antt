@@ -1,5 +1,5 @@
 -- `told::answer_told` meets its contract: by the case that it is. Assumes nothing.
-use mathlib.Core.Path.{sym, ap}
+use mathlib.Core.Path.{sym, ap, _∙_}
 use Rattle.types.specs.Answers.{answerNumber, answerValue}
 use Rattle.jemuling.specs.Told.{answerTold}
 use borrow.Author.Needs.{needs}
@@ -15,11 +15,8 @@ verdict-number-requires c κs = search needs
 enum-known-a-2 : tie.Need-enum-known-a-2
 enum-known-a-2 c = search needs
 
-number-requires : tie.Need-number-requires
-number-requires c κs = search needs
-
-cast-t9 : tie.Need-cast-t9
-cast-t9 c = search needs
+refused-told-requires : tie.Need-refused-told-requires
+refused-told-requires c κs = search needs
 
 returns : tie.Need-returns
 unfolding answerTold answerNumber answerValue
@@ -27,7 +24,7 @@ returns c = let e = sym (ap answerTold (c .before .before .a .given .1)) in rw (
 
 returns-2 : tie.Need-returns-2
 unfolding answerTold answerNumber answerValue
-returns-2 c = let e = sym (ap answerTold (c .before .before .a2 .given .1)) in rw (c .number .ensures) e
+returns-2 c = c .refused-told .ensures ∙ sym (ap answerTold (c .before .before .a2 .given .1))
 
 pub answer-told-spec : {M : Type 1} → statement M
 answer-told-spec =
@@ -36,7 +33,6 @@ answer-told-spec =
     enum-known-a
     verdict-number-requires
     enum-known-a-2
-    number-requires
-    cast-t9
+    refused-told-requires
     returns
     returns-2)

@@ -1,5 +1,5 @@
 -- `told::checked_told` meets its contract: by the case that it is. Assumes nothing.
-use mathlib.Core.Path.{sym, ap}
+use mathlib.Core.Path.{sym, ap, _∙_}
 use Rattle.types.specs.Answers.{checkedNumber, checkedValue}
 use Rattle.jemuling.specs.Told.{checkedTold}
 use borrow.Author.Needs.{needs}
@@ -15,11 +15,8 @@ enum-known-c c = search needs
 enum-known-c-2 : tie.Need-enum-known-c-2
 enum-known-c-2 c = search needs
 
-number-requires : tie.Need-number-requires
-number-requires c κs = search needs
-
-cast-t7 : tie.Need-cast-t7
-cast-t7 c = search needs
+refused-told-requires : tie.Need-refused-told-requires
+refused-told-requires c κs = search needs
 
 returns : tie.Need-returns
 unfolding checkedTold checkedNumber checkedValue
@@ -31,7 +28,7 @@ returns-2 c = sym (ap checkedTold (c .before .c .given .1))
 
 returns-3 : tie.Need-returns-3
 unfolding checkedTold checkedNumber checkedValue
-returns-3 c = let e = sym (ap checkedTold (c .before .before .c2 .given .1)) in rw (c .number .ensures) e
+returns-3 c = c .refused-told .ensures ∙ sym (ap checkedTold (c .before .before .c2 .given .1))
 
 pub checked-told-spec : {M : Type 1} → statement M
 checked-told-spec =
@@ -40,8 +37,7 @@ checked-told-spec =
     enum-told
     enum-known-c
     enum-known-c-2
-    number-requires
-    cast-t7
+    refused-told-requires
     returns
     returns-2
     returns-3)
