@@ -1,13 +1,10 @@
--- The constraint of a line in machine words, and whether it holds.
+-- The constraint of a line in machine words: whether it holds, and what it bounds a variable by.
 use mathlib.Core.Path.{_≡_, refl, sym, ap}
 use mathlib.Core.Bool.{Bool, false}
-use mathlib.Core.Option.{some}
-use Prim.Native.Nat.{ℕ, zero, suc, _≤_, _<_}
-use native.Mathlib.Omega.{arith}
+use Prim.Native.Nat.{ℕ, _≤_, _<_}
 use lib.IntN.{ℤ, pos, natAbs, _*ℤ_}
-use lib.Dec.{eqb, eqb·suc-suc}
+use lib.Dec.{eqb}
 use lib.ListN.{length, getD}
-use Rattle.rules.specs.Problem.{Constraint}
 use Rattle.rules.specs.Arithmetic.{sum, related}
 use Rattle.rules.specs.Meaning.{constraintHolds}
 use Rattle.rules.specs.Lines.{coefficient, theConstraintHolds}
@@ -17,21 +14,11 @@ use Rattle.fractions.specs.Range.{Small, Scaled}
 use Rattle.fractions.specs.Enough.{gathered-≤}
 use Rattle.fractions.specs.Kept.{quotient-small}
 use Rattle.lines.specs.declared.line.Line.{Line}
-use Rattle.lines.specs.Line.{constraintOf, meaning, Ready}
+use Rattle.lines.specs.Line.{constraintOf, constraintIn, meaning, Ready}
+use Rattle.lines.specs.Forms.{constraint-is}
 use Rattle.evaluation.specs.declared.model.Model.{Model}
 use Rattle.evaluation.specs.Model.{value, assignment}
 use Rattle.gathering.specs.Range.{InRange}
-
-abbrev pub constraintIn : Line → Constraint
-constraintIn l = record { strict = eqb (l .relation) 2; coefficients = l .coefficients; bound = l .bound }
-
-pub constraint-is : (l : Line) → 0 < l .relation → meaning l .constraint ≡ some (constraintIn l)
-unfolding meaning constraintOf
-constraint-is l h = by (l .relation) h
-  where
-    by : (r : ℕ) → 0 < r → constraintOf r (l .coefficients) (l .bound) ≡ some (record { strict = eqb r 2; coefficients = l .coefficients; bound = l .bound })
-    by zero h = absurd (omega arith)
-    by (suc r) h = ap (λ (s : Bool). some (record { strict = s; coefficients = l .coefficients; bound = l .bound })) (sym (eqb·suc-suc r 1))
 
 module _ (l : Line) (m : Model) where
   pub none-holds : l .relation ≡ 0 → theConstraintHolds (assignment m) (meaning l .constraint) ≡ false

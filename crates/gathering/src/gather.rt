@@ -19,11 +19,10 @@ ghost use Rattle.rules.specs.Values.{boundOf};
 ghost use Rattle.bounds.specs.Meets.{rest};
 ghost use Rattle.fractions.specs.Meaning.{meaning as fractionMeaning, boundMeaning};
 ghost use Rattle.fractions.specs.Range.{Within};
-ghost use Rattle.lines.specs.Line.{meaning, Ready};
+ghost use Rattle.lines.specs.Line.{constraintIn, meaning, Ready};
 ghost use Rattle.proof_lines.specs.Held.{linesIn, ReadyLines};
 ghost use Rattle.evaluation.specs.Model.{value, assignment};
 ghost use Rattle.gathering.specs.Range.{InRange};
-ghost use Rattle.gathering.specs.Constraint.{constraintIn};
 ghost use Rattle.gathering.specs.Gather.{Collected, Gathering};
 
 pub struct Bounds {

@@ -2,6 +2,7 @@
 use mathlib.Core.Path.{_≡_, refl, sym, ap, _∙_}
 use mathlib.Core.Bool.{Bool, true, false, not, _&&_, _||_, and-assoc, and-false, or-assoc, or-false}
 use mathlib.Core.List.{List, [], _∷_, _++_}
+use mathlib.Core.Option.{some}
 use Prim.Native.Nat.{ℕ, zero, suc, _+_, _/_, _%_, _^_, _≤_, _<_}
 use native.Mathlib.Nat.{mod-lt, div-one}
 use native.Mathlib.Omega.{arith}
@@ -25,7 +26,7 @@ use Rattle.resolution.specs.Variables.{contains-rational, contains-boolean}
 use Rattle.lists.specs.All.{getD-replicate-same}
 use Rattle.lines.specs.declared.line.Line.{Line}
 use Rattle.masks.specs.Mask.{bits, has-bits, union-bits, shifted, none-bits, same-digit, same-bits}
-use Rattle.lines.specs.Line.{constraintOf, meaning, Shaped}
+use Rattle.lines.specs.Line.{constraintOf, constraintIn, meaning, Shaped}
 
 -- a relation, by its three numbers
 pub relations : (P : ℕ → Type 0) (r : ℕ) → r ≤ 2 → P 0 → P 1 → P 2 → P r
@@ -33,6 +34,16 @@ relations P zero h a b c = a
 relations P (suc zero) h a b c = b
 relations P (suc (suc zero)) h a b c = c
 relations P (suc (suc (suc r))) h a b c = absurd (omega arith)
+
+-- ---- its constraint
+pub constraint-at : (r : ℕ) (cs : List ℤ) (b : ℤ) → 0 < r → constraintOf r cs b ≡ some (record { strict = eqb r 2; coefficients = cs; bound = b })
+unfolding constraintOf
+constraint-at zero cs b h = absurd (omega arith)
+constraint-at (suc r) cs b h = λ i. some (record { strict = sym (eqb·suc-suc r 1) i; coefficients = cs; bound = b })
+
+pub constraint-is : (l : Line) → 0 < l .relation → meaning l .constraint ≡ some (constraintIn l)
+unfolding meaning
+constraint-is l h = constraint-at (l .relation) (l .coefficients) (l .bound) h
 
 coefficient-at : (r : ℕ) (cs : List ℤ) (b : ℤ) (f : ℕ) → (r ≡ 0 → cs ≡ replicate 8 (pos 0)) → coefficient f (constraintOf r cs b) ≡ getD cs f (pos 0)
 unfolding coefficient constraintOf

@@ -17,6 +17,10 @@ unfoldable pub constraintOf : ℕ → List ℤ → ℤ → Option Constraint
 constraintOf zero cs b = none
 constraintOf (suc r) cs b = some (record { strict = eqb r 1; coefficients = cs; bound = b })
 
+-- the constraint of a line that has one
+abbrev pub constraintIn : Line → Constraint
+constraintIn l = record { strict = eqb (l .relation) 2; coefficients = l .coefficients; bound = l .bound }
+
 unfoldable pub meaning : Line → rules.Line
 meaning l = record { positive = bits 32 (l .positive); negative = bits 32 (l .negative); constraint = constraintOf (l .relation) (l .coefficients) (l .bound) }
 

@@ -3,21 +3,19 @@ use mathlib.Core.Path.{_≡_, refl, sym, ap, _∙_}
 use mathlib.Core.Bool.{Bool, true, false, not, cond, _&&_}
 use mathlib.Core.List.{List, [], _∷_}
 use mathlib.Core.Option.{Option, none, some}
-use Prim.Native.Nat.{ℕ, zero, suc, _<_}
-use native.Mathlib.Omega.{arith}
+use Prim.Native.Nat.{suc, _<_}
 use lib.IntN.{ℤ, pos}
 use lib.Dec.{eqb, eqb·zero-suc, eqb·suc-suc}
 use lib.ListN.{length}
 use Rattle.rules.specs.Lists.{all}
 use Rattle.rules.specs.Arithmetic.{isZero, related}
-use Rattle.rules.specs.Problem.{Constraint}
 use Rattle.rules.specs.Lines as rules
 use Rattle.rules.specs.Lines.{meet}
 use Rattle.rules.specs.Normalize.{settled, settledLine, normalLine}
 use Rattle.resolution.specs.NormalLine.{having}
 use Rattle.lines.specs.declared.line.Line.{Line}
-use Rattle.lines.specs.Line.{constraintOf, meaning}
-use Rattle.lines.specs.Forms.{here, leading}
+use Rattle.lines.specs.Line.{constraintOf, constraintIn, meaning}
+use Rattle.lines.specs.Forms.{here, leading, constraint-is}
 use Rattle.normalization.specs.declared.normalize.Normalized.{Normalized}
 use Rattle.normalization.specs.Reduced.{reducedLine, reduced-line}
 
@@ -43,18 +41,8 @@ zeros-leading (c ∷ cs) = by (isZero c) (zeros-leading cs)
     by true r = eqb·suc-suc (leading cs 0) (length cs) ∙ r
     by false r = eqb·zero-suc (length cs)
 
--- relation 2 is <
-constraint-is : (r : ℕ) (cs : List ℤ) (b : ℤ) → 0 < r → constraintOf r cs b ≡ some (record { strict = eqb r 2; coefficients = cs; bound = b })
-unfolding constraintOf
-constraint-is zero cs b h = absurd (omega arith)
-constraint-is (suc r) cs b h = λ i. some (record { strict = sym (eqb·suc-suc r 1) i; coefficients = cs; bound = b })
-
 -- ---- the ends of a line
 module _ (l : Line) where
-  -- its constraint, where it has one
-  abbrev constraint : Constraint
-  constraint = record { strict = eqb (l .relation) 2; coefficients = l .coefficients; bound = l .bound }
-
   pub normal-clash : meet (meaning l .positive) (meaning l .negative) ≡ true → normalLine (meaning l) ≡ none
   unfolding normalLine
   normal-clash m = rw (m, normalLine)
@@ -67,17 +55,13 @@ module _ (l : Line) where
         rw (m, normalLine, e) (λ i. some (having (meaning l) (e i)))
 
     module _ (r : 0 < l .relation) where
-      constrained : meaning l .constraint ≡ some constraint
-      unfolding meaning
-      constrained = constraint-is (l .relation) (l .coefficients) (l .bound) r
-
-      normal-settled : normalLine (meaning l) ≡ settledLine (meaning l) (settled constraint)
+      normal-settled : normalLine (meaning l) ≡ settledLine (meaning l) (settled (constraintIn l))
       unfolding normalLine
-      normal-settled = rw (m, normalLine, constrained) (λ i. settledLine (having (meaning l) (constrained i)) (settled constraint))
+      normal-settled = rw (m, normalLine, constraint-is l r) (λ i. settledLine (having (meaning l) (constraint-is l r i)) (settled (constraintIn l)))
 
       pub normal-reduced : all isZero (l .coefficients) ≡ false → normalLine (meaning l) ≡ some (reducedLine (meaning l))
       unfolding settled settledLine
-      normal-reduced z = normal-settled ∙ rw (z, settled) (ap some (sym (reduced-line (meaning l) constraint constrained)))
+      normal-reduced z = normal-settled ∙ rw (z, settled) (ap some (sym (reduced-line (meaning l) (constraintIn l) (constraint-is l r))))
 
       module _ (z : all isZero (l .coefficients) ≡ true) where
         pub normal-trivial : related (eqb (l .relation) 2) (pos 0) (l .bound) ≡ true → normalLine (meaning l) ≡ none

@@ -7,7 +7,7 @@ use native.Mathlib.Nat.{suc-mul}
 use native.Mathlib.Numerals.{add-one}
 use native.Mathlib.Omega.{arith}
 use lib.IntN.{ℤ, pos}
-use lib.Dec.{eqb, eqb·suc-suc}
+use lib.Dec.{eqb}
 use lib.ListN.{length, getD, replicate, set}
 use Rattle.rules.specs.Problem.{Constraint}
 use Rattle.rules.specs.Lines as rules
@@ -15,6 +15,7 @@ use Rattle.masks.specs.Mask.{bits}
 use Rattle.reader.specs.Values.{valuesAt, behind, behind-is, amountAt, boundOf, constraintAt}
 use Rattle.lines.specs.declared.line.Line.{Line}
 use Rattle.lines.specs.Line.{constraintOf, meaning}
+use Rattle.lines.specs.Forms.{constraint-at}
 
 abbrev pub lineOf : ℕ → ℕ → Option Constraint → rules.Line
 lineOf positive negative constraint = record { positive = bits 32 positive; negative = bits 32 negative; constraint = constraint }
@@ -73,11 +74,6 @@ module _ (q : List ℕ) (from count : ℕ) (out : List ℤ) (at i : ℕ) (run : 
   row-done h = let e : i ≡ count = omega (arith, run .few) in run .same ∙ ap (readRow q from) e
 
 -- ---- a constraint by its words
-constraint-is : (relation : ℕ) (cs : List ℤ) (b : ℤ) → 0 < relation → constraintOf relation cs b ≡ some (record { strict = eqb relation 2; coefficients = cs; bound = b })
-unfolding constraintOf
-constraint-is zero cs b h = absurd (omega arith)
-constraint-is (suc k) cs b h = λ i. some (record { strict = sym (eqb·suc-suc k 1) i; coefficients = cs; bound = b })
-
 module _ (q : List ℕ) (r at : ℕ) (cs : List ℤ) (b : ℤ) (row-is : cs ≡ readRow q (at + 1) r) (bound-is : b ≡ amountAt q (at + 1 + r * 4)) where
   pub bound-at : b ≡ amountAt q (boundOf q r at)
   unfolding boundOf
@@ -85,7 +81,7 @@ module _ (q : List ℕ) (r at : ℕ) (cs : List ℤ) (b : ℤ) (row-is : cs ≡ 
 
   pub constraint-words : 0 < getD q at 0 → constraintOf (getD q at 0) cs b ≡ some (constraintAt q r at)
   unfolding constraintAt
-  constraint-words h = constraint-is (getD q at 0) cs b h ∙ (λ i. some (record { strict = eqb (getD q at 0) 2; coefficients = row-is i; bound = bound-at i }))
+  constraint-words h = constraint-at (getD q at 0) cs b h ∙ (λ i. some (record { strict = eqb (getD q at 0) 2; coefficients = row-is i; bound = bound-at i }))
 
 -- the coefficients of a line that has a constraint
 rowOf : Option Constraint → List ℤ

@@ -15,9 +15,10 @@ use Rattle.rules.specs.Lines.{aLiteralHolds, rational, positively, negatively}
 use Rattle.rules.specs.Values.{boundOf}
 use Rattle.fractions.specs.Meaning.{meaning as fractionMeaning, boundMeaning}
 use Rattle.fractions.specs.Range.{Small}
-use Rattle.lines.specs.Line.{meaning}
+use Rattle.lines.specs.Line.{constraintIn, meaning}
+use Rattle.lines.specs.Forms.{constraint-is}
 use Rattle.evaluation.specs.Model.{assignment}
-use Rattle.gathering.specs.Constraint.{constraintIn, constraint-is, bound-small}
+use Rattle.gathering.specs.Constraint.{bound-small}
 use Rattle.gathering.specs.Leading.{round-coefficient, round-related, round-sides}
 use Rattle.gathering.specs.Gather.{Collected, withLower, withUpper, collected-other, collected-held, collected-more, exceeding-here}
 use Rattle.gathering.proofs.gather.with_line.Statement.{statement}
