@@ -10,10 +10,10 @@ use lib.Seq.{take-at, drop-at, getD-at}
 use Rattle.rules.specs.Bytes.{toBytes, amountBytes, padded, fromUnsigned, toUnsigned, fieldAt}
 use Rattle.rules.specs.Steps.{Header, headerBytes, lineBytes}
 use Rattle.layout.specs.Bytes.{length-toBytes, fromBytes-toBytes}
-use Rattle.layout.specs.Amounts.{toUnsigned-<, fromUnsigned-toUnsigned}
+use Rattle.layout.specs.Amounts.{toUnsigned-<, fromUnsigned-toUnsigned, length-amountBytes}
 use Rattle.lines.specs.declared.line.Line.{Line}
 use Rattle.lines.specs.Line.{meaning, Shaped, Ready}
-use Rattle.line_bytes.specs.Encoding.{encoded, literalBytes, lineBytes-is, amountBytes-++, length-headerBytes, length-amounts}
+use Rattle.line_bytes.specs.Encoding.{encoded, literalBytes, lineBytes-is, amountBytes-++, length-headerBytes}
 
 -- so many amounts from a place on
 unfoldable pub amountsAt : ℕ → ℕ → List ℕ → List ℤ
@@ -80,7 +80,7 @@ joined-back a r p n cs b rest la lc hp hn hc hb =
     let l₁ : length x₁ ≡ 8 = length-append a (r ∷ 0 ∷ []) ∙ omega arith in
     let l₂ : length x₂ ≡ 12 = length-append x₁ P ∙ omega (arith, length-toBytes 4 p) in
     let l₃ : length x₃ ≡ 16 = length-append x₂ N ∙ omega (arith, length-toBytes 4 n) in
-    let l₄ : length x₄ ≡ 48 = length-append x₃ C ∙ omega (arith, length-amounts cs) in
+    let l₄ : length x₄ ≡ 48 = length-append x₃ C ∙ omega (arith, length-amountBytes cs) in
     let e₁ : whole ≡ x₁ ++ (P ++ (N ++ (C ++ (B ++ rest)))) = sym (append-assoc a (r ∷ 0 ∷ []) (P ++ (N ++ (C ++ (B ++ rest))))) in
     let e₂ : whole ≡ x₂ ++ (N ++ (C ++ (B ++ rest))) = e₁ ∙ sym (append-assoc x₁ P (N ++ (C ++ (B ++ rest)))) in
     let e₃ : whole ≡ x₃ ++ (C ++ (B ++ rest)) = e₂ ∙ sym (append-assoc x₂ N (C ++ (B ++ rest))) in

@@ -9,9 +9,10 @@ use lib.ListN.{length, getD, set, take, drop, replicate, length-append, take-app
 use lib.Seq.{sets-eq, take-suc, length-take-le}
 use Rattle.rules.specs.Bytes.{toBytes, amountBytes, padded, toUnsigned}
 use Rattle.rules.specs.Lines as rules
-use Rattle.rules.specs.Steps.{Header, Step, header, headerBytes, lineBytes, encodeStep, relationByte, row}
+use Rattle.rules.specs.Steps.{Header, Step, header, headerBytes, lineBytes, encodeStep, relationByte}
 use Rattle.fields.specs.Field.{stored, stored-++}
 use Rattle.layout.specs.Bytes.{length-toBytes}
+use Rattle.layout.specs.Amounts.{length-amountBytes}
 use Rattle.lines.specs.declared.line.Line.{Line}
 use Rattle.masks.specs.Mask.{mask-bits}
 use Rattle.lines.specs.Line.{constraintOf, meaning, Shaped}
@@ -48,11 +49,6 @@ unfolding amountBytes
 amountBytes-++ [] ys = refl
 amountBytes-++ (x ∷ xs) ys = rw (amountBytes-++ xs ys) (sym (append-assoc (toBytes 4 (toUnsigned x)) (amountBytes xs) (amountBytes ys)))
 
-pub length-amounts : (zs : List ℤ) → length (amountBytes zs) ≡ 4 * length zs
-unfolding amountBytes
-length-amounts [] = refl
-length-amounts (z ∷ zs) = rw length-append (omega (arith, length-toBytes 4 (toUnsigned z), length-amounts zs))
-
 pub length-headerBytes : (h : Header) → length (headerBytes h) ≡ 6
 unfolding headerBytes
 length-headerBytes h = rw length-append (omega (arith, length-toBytes 2 (h .first), length-toBytes 2 (h .second)))
@@ -73,7 +69,7 @@ pub amount-stored : (at : ℕ) (zs : List ℤ) (i : ℕ) (s : List ℕ) → i < 
     → stored (at + 4 * i) (toBytes 4 (toUnsigned (getD zs i (pos 0)))) (stored at (amountBytes (take i zs)) s) ≡ stored at (amountBytes (take (i + 1) zs)) s
 unfolding amountBytes
 amount-stored at zs i s h l =
-    let n : length (amountBytes (take i zs)) ≡ 4 * i = length-amounts (take i zs) ∙ ap (λ (k : ℕ). 4 * k) (length-take-le i zs (omega arith)) in
+    let n : length (amountBytes (take i zs)) ≡ 4 * i = length-amountBytes (take i zs) ∙ ap (λ (k : ℕ). 4 * k) (length-take-le i zs (omega arith)) in
     let e : toBytes 4 (toUnsigned (getD zs i (pos 0))) ++ [] ≡ toBytes 4 (toUnsigned (getD zs i (pos 0))) = append-nil (toBytes 4 (toUnsigned (getD zs i (pos 0)))) in
     rw (← n, stored-++ at (amountBytes (take i zs)) (toBytes 4 (toUnsigned (getD zs i (pos 0)))) s l, add-one i, take-suc zs i (pos 0), amountBytes-++ (take i zs) (getD zs i (pos 0) ∷ []), e)
 
@@ -85,7 +81,7 @@ pub row-stored : (zs : List ℤ) (b : ℤ) (s : List ℕ) → length zs ≡ 8 �
 unfolding amountBytes
 row-stored zs b s n h =
     let x = toBytes 4 (toUnsigned b) in
-    let k : _≡_ {A = ℕ} 48 (16 + length (amountBytes zs)) = omega (arith, length-amounts zs) in
+    let k : _≡_ {A = ℕ} 48 (16 + length (amountBytes zs)) = omega (arith, length-amountBytes zs) in
     ap (λ (i : ℕ). stored i x (stored 16 (amountBytes zs) s)) k
     ∙ stored-++ 16 (amountBytes zs) x s h
     ∙ ap (λ (y : List ℕ). stored 16 y s) (sym (amountBytes-++ zs (b ∷ []) ∙ ap (λ (y : List ℕ). amountBytes zs ++ y) (append-nil x)))
@@ -104,7 +100,7 @@ encoded-is h l k n p q =
     let la : length a ≡ 6 = length-headerBytes h in
     let lb : length b ≡ 10 = length-literalBytes (l .relation) (l .positive) (l .negative) in
     let lr : length (l .coefficients ++ (l .bound ∷ [])) ≡ 9 = rw length-append (omega arith) in
-    let lc : length c ≡ 36 = length-amounts (l .coefficients ++ (l .bound ∷ [])) ∙ ap (λ (k : ℕ). 4 * k) lr in
+    let lc : length c ≡ 36 = length-amountBytes (l .coefficients ++ (l .bound ∷ [])) ∙ ap (λ (k : ℕ). 4 * k) lr in
     let lab : length (a ++ b) ≡ 16 = rw length-append (omega arith) in
     let lx : length x ≡ 52 = length-append (a ++ b) c ∙ omega arith in
     let i : _≡_ {A = ℕ} 6 (0 + length a) = omega arith in

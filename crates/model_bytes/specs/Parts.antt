@@ -12,8 +12,8 @@ use Rattle.rules.specs.Model.{booleanByte, encodeModel}
 use Rattle.rules.specs.Meaning.{Assignment}
 use Rattle.lists.specs.Tabulated.{length-tabulate, tabulate-snoc}
 use Rattle.layout.specs.Bytes.{length-toBytes}
+use Rattle.layout.specs.Amounts.{length-amountBytes}
 use Rattle.fields.specs.Field.{stored, length-stored, stored-++}
-use Rattle.line_bytes.specs.Encoding.{length-amounts}
 
 -- nothing, and one byte more
 pub stored-nothing : (at : ℕ) (s : List ℕ) → s ≡ stored at [] s
@@ -66,7 +66,7 @@ module _ (b r : ℕ) (χ : Assignment) (hb : b ≤ 16) (hr : r ≤ 8) where
       let l₂ : length two ≡ 1 + b = omega (arith, length-tabulate b (λ i. booleanByte (χ .booleans i))) in
       let l₃ : length three ≡ 1 + b + 1 = length-append two (r ∷ []) ∙ omega arith in
       let l₄ : length four ≡ 1 + b + 5 = length-append three denominator ∙ omega (arith, length-toBytes 4 (χ .denominator)) in
-      let l₅ : length (four ++ numerators) ≤ 64 = rw (length-append four numerators) (omega (arith, length-amounts (tabulate r (χ .numerators)), length-tabulate r (χ .numerators))) in
+      let l₅ : length (four ++ numerators) ≤ 64 = rw (length-append four numerators) (omega (arith, length-amountBytes (tabulate r (χ .numerators)), length-tabulate r (χ .numerators))) in
       let s₃ : set (stored 0 two zeros) (1 + b) r ≡ stored 0 three zeros = byte-stored 0 (1 + b) r two zeros (omega arith) (rw (length-stored 0 two zeros (omega arith)) (omega arith)) (omega arith) in
       let first : stored 1 booleans (set zeros 0 b) ≡ stored 0 two zeros = ap (stored 1 booleans) (sets-eq (b ∷ []) zeros 0 (omega arith)) ∙ front 1 (b ∷ []) booleans refl in
       ap (λ (s : List ℕ). stored (1 + b + 5) numerators (stored (1 + b + 1) denominator (set s (1 + b) r))) first
