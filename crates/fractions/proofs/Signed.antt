@@ -3,13 +3,14 @@ use mathlib.Core.Path.{_≡_, _∙_}
 use Prim.Native.Nat.{ℕ, _*_, _^_, _≤_, _<_}
 use native.Mathlib.Nat.{lt-of-le-of-lt, mul-le-mul}
 use native.Mathlib.Omega.{arith}
-use lib.IntN.{ℤ, pos, negℤ, natAbs, _+ℤ_, _-ℤ_, _*ℤ_, +ℤ-idl}
+use lib.IntN.{ℤ, pos, negℤ, natAbs, _+ℤ_, _*ℤ_}
 use lib.Signed.{mag, quotZ}
 use lib.Dec.{lit<}
 use mir.Syntax.{w64}
 use mir.Val.{Fits, SFits, toZ, ofZ}
 use mir.Facts.{toZ-ofZ, toZ-pos}
 use Rattle.types.specs.Limits.{amount}
+use Rattle.integers.specs.Ring.{zero-minus}
 use Rattle.integers.specs.Size.{abs-neg, abs-+-≤}
 use Rattle.integers.specs.Quotient.{abs-quot-≤}
 use Rattle.machine.specs.Signed.{fits-size}
@@ -28,9 +29,6 @@ quotient-fits n g h = fits-size (quotZ n (pos g)) (omega (arith, abs-quot-≤ g 
 
 pub negation-fits : (n : ℤ) → natAbs n ≤ word → SFits w64 (negℤ n)
 negation-fits n h = fits-size (negℤ n) (omega (arith, abs-neg n))
-
-pub zero-minus : (z : ℤ) → pos 0 -ℤ z ≡ negℤ z
-zero-minus z = +ℤ-idl (negℤ z)
 
 -- ---- what fits an unsigned one
 pub denominators-fit : (d e : ℕ) → d ≤ amount → e ≤ amount → Fits w64 (d * e)
