@@ -48,7 +48,7 @@ module _ (stops : Stops) where
   unfolding pairsOf
   add-pairs w s steps n = add-cases (λ state. pairsOf state ≡ n) s steps n stops w (λ w. refl) (λ k. refl) (λ m. refl) (λ m e. refl) (λ m e. refl)
 
-  tried-pairs : (v : Variable) (p : Pair) (m : Option Line) (steps : List Step) (n : ℕ) → pairsOf (tried stops v p m steps n) ≡ n
+  pub tried-pairs : (v : Variable) (p : Pair) (m : Option Line) (steps : List Step) (n : ℕ) → pairsOf (tried stops v p m steps n) ≡ n
   unfolding tried pairsOf
   tried-pairs v p none steps n = refl
   tried-pairs v p (some l) steps n = add-pairs (stops .atLine l) (resultOf v p l) steps n
@@ -61,7 +61,7 @@ module _ (stops : Stops) where
       let m = resolve v (p .upper .line) (p .lower .line) in
       omega (arith, try-pairs v ps (tried stops v p m steps (suc n)), tried-pairs v p m steps (suc n))
 
-  load-pairs : (ss : List Step) (state : State) → pairsOf (load stops ss state) ≡ pairsOf state
+  pub load-pairs : (ss : List Step) (state : State) → pairsOf (load stops ss state) ≡ pairsOf state
   unfolding load pairsOf
   load-pairs [] state = refl
   load-pairs (s ∷ ss) (ended e steps n) = refl

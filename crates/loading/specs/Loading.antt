@@ -13,6 +13,7 @@ use Rattle.rules.specs.Split.{partsOf, splitsOf}
 use Rattle.rules.specs.Steps.{Step}
 use Rattle.rules.specs.Needs.{pairsOf}
 use Rattle.rules.specs.Elimination.{Stops, State, running, ended, limited, partSteps, loadable, loadableOf, add, load}
+use Rattle.course.specs.PairBound.{load-pairs}
 use Rattle.reader.specs.Values.{clauseAt, clauseEnd}
 use Rattle.reader.specs.Sound.{SoundClause}
 use Rattle.reading.specs.Clauses.{clausesAt, clauses-next}
@@ -21,7 +22,7 @@ use Rattle.reading.specs.Readable.{Readable, Ahead, ahead-start, ahead-sound, a
 use Rattle.placing.specs.declared.place.Progress.the-variants.{Running}
 use Rattle.placing.specs.declared.place.Point.{Point}
 use Rattle.placing.specs.Steps.{stepsIn}
-use Rattle.placing.specs.Point.{stateOf, stateAt, Standing, Leads, leads-none, leads-trans, add-pairs, pairs-at, isRunning, running-yes, Reaches}
+use Rattle.placing.specs.Point.{stateOf, stateAt, Standing, Leads, leads-none, leads-trans, pairs-at, isRunning, running-yes, Reaches}
 use Rattle.loading.specs.Parts.{load-stays}
 
 -- before the first
@@ -32,19 +33,12 @@ pub standing-origin : (limits : Limits) (proof : List ℕ) → 64 * limits .step
 standing-origin limits proof h = record { held = record { room = omega arith; steps = λ i k. absurd (omega arith) }; few = omega arith; room = h }
 
 -- ---- loading part by part, and its count of pairs
-module _ (stops : Stops) where
-  load-append : (xs ys : List Step) (state : State) → load stops (xs ++ ys) state ≡ load stops ys (load stops xs state)
-  unfolding load
-  load-append [] ys state = refl
-  load-append (x ∷ xs) [] (ended e steps n) = refl
-  load-append (x ∷ xs) (y ∷ ys) (ended e steps n) = refl
-  load-append (x ∷ xs) ys (running steps n) = load-append xs ys (add stops false x steps n)
-
-  load-pairs : (xs : List Step) (state : State) → pairsOf (load stops xs state) ≡ pairsOf state
-  unfolding load pairsOf
-  load-pairs [] state = refl
-  load-pairs (x ∷ xs) (ended e steps n) = refl
-  load-pairs (x ∷ xs) (running steps n) = load-pairs xs (add stops false x steps n) ∙ add-pairs stops false x steps n
+load-append : (stops : Stops) (xs ys : List Step) (state : State) → load stops (xs ++ ys) state ≡ load stops ys (load stops xs state)
+unfolding load
+load-append stops [] ys state = refl
+load-append stops (x ∷ xs) [] (ended e steps n) = refl
+load-append stops (x ∷ xs) (y ∷ ys) (ended e steps n) = refl
+load-append stops (x ∷ xs) ys (running steps n) = load-append stops xs ys (add stops false x steps n)
 
 pub no-pairs : {limits : Limits} {start : List ℕ} {from : Point} {proof : List ℕ} {p : Point} (xs : List Step) → Reaches limits start from proof p (load (limited limits) xs (running [] 0)) → p .pairs ≡ 0
 unfolding pairsOf

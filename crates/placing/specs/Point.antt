@@ -10,7 +10,7 @@ use lib.Seq.{take-take, drop-drop}
 use Rattle.types.specs.declared.limits.Limits.{Limits}
 use Rattle.rules.specs.Steps.{Step}
 use Rattle.rules.specs.Lines.{isEmpty}
-use Rattle.rules.specs.Elimination.{Stops, State, running, ended, empty, overflow, outOfSteps, limited, covered, placed, add}
+use Rattle.rules.specs.Elimination.{State, running, ended, empty, overflow, outOfSteps, limited, covered, placed, add}
 use Rattle.rules.specs.Needs.{pairsOf}
 use Rattle.line_bytes.specs.Places.{stepAt}
 use Rattle.fields.specs.Field.{stored}
@@ -78,19 +78,6 @@ pairs-at proof p = by (p .progress)
     by Empty = refl
     by Overflow = refl
     by OutOfSteps = refl
-
--- a line put to the tests leaves them
-placed-pairs : (w known many blank : Bool) (s : Step) (steps : List Step) (n : ℕ) → pairsOf (placed w known many blank s steps n) ≡ n
-unfolding placed pairsOf
-placed-pairs true known many blank s steps n = refl
-placed-pairs false true many blank s steps n = refl
-placed-pairs false false true blank s steps n = refl
-placed-pairs false false false true s steps n = refl
-placed-pairs false false false false s steps n = refl
-
-pub add-pairs : (stops : Stops) (w : Bool) (s : Step) (steps : List Step) (n : ℕ) → pairsOf (add stops w s steps n) ≡ n
-unfolding add
-add-pairs stops w s steps n = placed-pairs w (covered (s .line) steps) (stops .atSteps (length steps)) (isEmpty (s .line)) s steps n
 
 -- the course goes on, or it has ended
 abbrev pub isRunning : Progress → Bool

@@ -2,34 +2,28 @@
 use mathlib.Core.Path.{_≡_, refl, sym, ap, _∙_}
 use mathlib.Core.Bool.{Bool, true, false, _&&_}
 use mathlib.Core.List.{List, [], _∷_}
-use mathlib.Core.Option.{Option, none, some}
 use Prim.Native.Nat.{ℕ, suc, _+_, _*_, _≤_, _<_}
 use native.Mathlib.Omega.{arith}
 use lib.Dec.{eqb}
 use mir.Facts.{and-yes}
 use Rattle.types.specs.declared.limits.Limits.{Limits}
 use Rattle.rules.specs.Lines as rules
-use Rattle.rules.specs.Steps.{Step, resolved}
 use Rattle.rules.specs.Needs.{pairsOf}
 use Rattle.rules.specs.Resolve.{resolve}
-use Rattle.rules.specs.Elimination.{Stops, State, running, limited, order, roundOf, Pair, roundPairs, tried, tryAll}
+use Rattle.rules.specs.Elimination.{State, running, limited, order, roundOf, Pair, roundPairs, tried, tryAll}
 use Rattle.lines.specs.Line.{meaning}
 use Rattle.lists.specs.Tests.{is-true, of-true}
+use Rattle.course.specs.PairBound.{tried-pairs}
 use Rattle.proof_lines.specs.Held.{lineAt}
 use Rattle.placing.specs.declared.place.Progress.{Progress}
 use Rattle.placing.specs.declared.place.Progress.the-variants.{Running, Empty, Overflow, OutOfSteps}
 use Rattle.placing.specs.declared.place.Point.{Point}
 use Rattle.placing.specs.Steps.{stepsIn}
-use Rattle.placing.specs.Point.{stateOf, stateAt, Standing, Leads, leads-none, leads-trans, pairs-at, add-pairs, isRunning, running-yes, Reaches}
+use Rattle.placing.specs.Point.{stateOf, stateAt, Standing, Leads, leads-none, leads-trans, pairs-at, isRunning, running-yes, Reaches}
 use Rattle.turns.specs.declared.side.Variable.{Variable}
 use Rattle.turns.specs.Sides.{variableOf, Ranged, onSide, chosen, Next}
 use Rattle.turns.specs.Pairs.{pairOf, settled, resultOf, Pairable}
 use Rattle.turns.specs.Left.{later, within, later-all, later-upper, later-end, within-lower, within-end, later-next, within-next, line-same, next-same}
-
-tried-pairs : (stops : Stops) (v : rules.Variable) (p : Pair) (o : Option rules.Line) (steps : List Step) (n : ℕ) → pairsOf (tried stops v p o steps n) ≡ n
-unfolding tried pairsOf
-tried-pairs stops v p none steps n = refl
-tried-pairs stops v p (some l) steps n = add-pairs stops (stops .atLine l) (record { origin = resolved v (p .upper .number) (p .lower .number); line = l }) steps n
 
 chosen-side : (upper : Bool) (v : rules.Variable) (t : ℕ) (l : rules.Line) → chosen upper v t l ≡ true → onSide upper v l ≡ true
 unfolding chosen
