@@ -1,20 +1,17 @@
--- Sums of coefficient × numerator over bytes, from the front; and the widths of what is computed.
+-- Sums of coefficient × numerator over bytes, from the front; and the constraint that they decide.
 use mathlib.Core.Path.{_≡_, refl, sym, ap, _∙_}
 use mathlib.Core.Bool.{Bool}
 use mathlib.Core.List.{List, [], _∷_, _++_}
-use Prim.Native.Nat.{ℕ, zero, suc, _+_, _*_, _-_, _^_, _≤_, _<_}
+use Prim.Native.Nat.{ℕ, zero, suc, _+_, _*_, _-_, _≤_, _<_}
 use native.Mathlib.Omega.{arith}
 use lib.IntN.{ℤ, pos, natAbs, _+ℤ_, _*ℤ_}
 use lib.Dec.{eqb}
 use lib.ListN.{getD, replicate}
-use mir.Syntax.{w64}
-use mir.Val.{SFits}
 use Rattle.integers.specs.Ring.{+-identityʳ, +-identityˡ, +-assoc}
-use Rattle.integers.specs.Size.{abs-+-≤, abs-*-≤}
+use Rattle.integers.specs.Size.{abs-+-≤}
 use Rattle.rules.specs.Arithmetic.{sum, related}
 use Rattle.rules.specs.Meaning.{constraintHolds}
 use Rattle.vectors.specs.Dot.{sum-values, sum-coefficients}
-use Rattle.machine.specs.Signed.{fits-size}
 use Rattle.rows.specs.Amount.{product-≤}
 use Rattle.reader.specs.Values.{valuesAt, behind, behind-is, amountAt, boundOf, constraintAt}
 use Rattle.reader.specs.Sound.{Each, Amount, each-first, each-rest}
@@ -22,16 +19,6 @@ use Rattle.clauses.specs.Turns.{values-next, behind-next}
 use Rattle.evaluation.specs.declared.model.Model.{Model}
 use Rattle.evaluation.specs.Model.{value, assignment}
 use Rattle.evaluation.specs.Scan.{step-within}
-
--- ---- widths
-module _ (t z x : ℤ) (ht : natAbs t ≤ 7000000000000000000) (hz : natAbs z ≤ 1000000000) (hx : natAbs x ≤ 1000000000) where
-  pub plus-product-fits : SFits w64 (t +ℤ z *ℤ x)
-  plus-product-fits = fits-size (t +ℤ z *ℤ x) (omega (arith, abs-+-≤ t (z *ℤ x) ht (product-≤ z x hz hx)))
-
-pub scaled-fits : (z : ℤ) (n : ℕ) → natAbs z ≤ 1000000000 → n < 2 ^ 32 → SFits w64 (z *ℤ pos n)
-scaled-fits z n hz hn =
-    let hx : natAbs (pos n) ≤ 4294967296 = omega arith in
-    fits-size (z *ℤ pos n) (omega (arith, abs-*-≤ z (pos n) hz hx))
 
 -- ---- zeros behind the coefficients add 0
 pub sum-padded : (cs : List ℤ) (n : ℕ) (x : ℕ → ℤ) → sum (cs ++ replicate n (pos 0)) x ≡ sum cs x

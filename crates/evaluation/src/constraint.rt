@@ -1,10 +1,10 @@
-// Whether a constraint holds: "compares the sum of coefficient × numerator with bound × denominator". 64 bits hold a sum of eight
-// products of amounts, and a product of an amount and 32 bits.
+// Whether a constraint holds: "compares the sum of coefficient × numerator with bound × denominator".
 use crate::model::Model;
 use fields::amount_at;
+use rows::product::plus_product;
+use rows::product::scaled;
 ghost use mathlib.Core.Path.{_≡_};
 ghost use Prim.Native.Nat.{_+_, _≤_};
-ghost use lib.IntN.{pos, natAbs, _+ℤ_, _*ℤ_};
 ghost use lib.ListN.{length};
 ghost use Rattle.rules.specs.Arithmetic.{sum};
 ghost use Rattle.rules.specs.Meaning.{constraintHolds};
@@ -12,15 +12,6 @@ ghost use Rattle.rows.specs.Amount.{Amounts};
 ghost use Rattle.reader.specs.Values.{valuesAt, behind, amountAt, constraintAt};
 ghost use Rattle.reader.specs.Sound.{Each, Amount, SoundConstraint};
 ghost use Rattle.evaluation.specs.Model.{assignment, value};
-
-fn plus_product(total: i64, z: i64, x: i64) -> i64
-    requires { ⌜ natAbs total ≤ 7000000000000000000 ⌝ }
-    requires { ⌜ natAbs z ≤ 1000000000 ⌝ }
-    requires { ⌜ natAbs x ≤ 1000000000 ⌝ }
-    ensures { λ s. ⌜ s ≡ total +ℤ z *ℤ x ⌝ }
-{
-    total + z * x
-}
 
 // Of so many coefficients.
 fn sum(q: &[u8], from: usize, count: u8, numerators: [i64; 8]) -> i64
@@ -43,13 +34,6 @@ fn sum(q: &[u8], from: usize, count: u8, numerators: [i64; 8]) -> i64
         i += 1;
     }
     total
-}
-
-fn scaled(bound: i64, denominator: u32) -> i64
-    requires { ⌜ natAbs bound ≤ 1000000000 ⌝ }
-    ensures { λ z. ⌜ z ≡ bound *ℤ pos denominator ⌝ }
-{
-    bound * (denominator as i64)
 }
 
 pub fn constraint_holds(q: &[u8], at: usize, r: u8, model: Model) -> bool

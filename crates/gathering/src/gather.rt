@@ -1,13 +1,13 @@
 // "For a figure, gather the bounds of its turn's lines in which nothing else holds": the tightest on either side, up to the first
 // that is beyond the range of amounts.
 use crate::holds::literal_holds;
-use crate::sum::scaled;
 use crate::sum::sum;
 use evaluation::model::Model;
 use fractions::bound::Bound;
 use fractions::fraction::Fraction;
 use lines::line::Line;
 use proof_lines::line_at;
+use rows::product::scaled;
 ghost use mathlib.Core.Path.{_≡_};
 ghost use mathlib.Core.Bool.{false};
 ghost use mathlib.Core.List.{List, _∷_};

@@ -1,9 +1,9 @@
 // Whether a line holds under an assignment: one of its literals, or its constraint.
-use crate::sum::scaled;
 use crate::sum::sum;
 use evaluation::model::Model;
 use lines::line::Line;
 use masks::meets;
+use rows::product::scaled;
 ghost use mathlib.Core.Path.{_≡_};
 ghost use Rattle.rules.specs.Lines.{aLiteralHolds, theConstraintHolds, lineHolds};
 ghost use Rattle.lines.specs.Line.{meaning, Ready};

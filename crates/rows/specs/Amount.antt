@@ -1,7 +1,7 @@
 -- Amounts, at most 1,000,000,000 in size: 64 bits hold a sum of two of their products.
 use mathlib.Core.Path.{_≡_}
 use mathlib.Core.List.{List, [], _∷_}
-use Prim.Native.Nat.{ℕ, zero, suc, _≤_}
+use Prim.Native.Nat.{ℕ, zero, suc, _^_, _≤_, _<_}
 use native.Mathlib.Omega.{arith}
 use lib.IntN.{ℤ, pos, natAbs, _+ℤ_, _*ℤ_}
 use lib.Dec.{T, leb→le}
@@ -39,6 +39,15 @@ module _ (c x : ℤ) (hc : natAbs c ≤ 1000000000) (hx : natAbs x ≤ 100000000
 
   pub product-fits : SFits w64 (c *ℤ x)
   product-fits = fits-size (c *ℤ x) (omega (arith, product-≤))
+
+module _ (t z x : ℤ) (ht : natAbs t ≤ 7000000000000000000) (hz : natAbs z ≤ 1000000000) (hx : natAbs x ≤ 1000000000) where
+  pub plus-product-fits : SFits w64 (t +ℤ z *ℤ x)
+  plus-product-fits = fits-size (t +ℤ z *ℤ x) (omega (arith, abs-+-≤ t (z *ℤ x) ht (product-≤ z x hz hx)))
+
+pub scaled-fits : (z : ℤ) (n : ℕ) → natAbs z ≤ 1000000000 → n < 2 ^ 32 → SFits w64 (z *ℤ pos n)
+scaled-fits z n hz hn =
+    let hx : natAbs (pos n) ≤ 4294967296 = omega arith in
+    fits-size (z *ℤ pos n) (omega (arith, abs-*-≤ z (pos n) hz hx))
 
 module _ (c x a y : ℤ) (hc : natAbs c ≤ 1000000000) (hx : natAbs x ≤ 1000000000) (ha : natAbs a ≤ 1000000000) (hy : natAbs y ≤ 1000000000) where
   pub combination-≤ : natAbs (c *ℤ x +ℤ a *ℤ y) ≤ 2000000000000000000

@@ -8,6 +8,7 @@ use lib.ListN.{length, getD}
 use mir.Syntax.{w64}
 use mir.Val.{toZ, ofZ}
 use mir.Facts.{toZ-ofZ}
+use Rattle.integers.specs.Ring.{+-comm}
 use Rattle.rows.specs.Amount.{amount-bits}
 use Rattle.evaluation.specs.Model.{value}
 use Rattle.gathering.specs.Terms.{termsFrom, terms-none, terms-all, terms-more, terms-≤}
@@ -61,10 +62,10 @@ loop-again c =
     let x = s .pre .1 .small i in
     let h : i < length (s .args .t1) = omega (arith, l .inv .1, l .inv .0, t .loop-test .taken) in
     let n : l .i ≡ suc i = omega (arith, t .loop-test .taken) in
-    let e : toZ w64 (ofZ w64 (c .plus-product .result)) ≡ getD (s .args .t1) i (pos 0) *ℤ getD (s .args .t2) i (pos 0) +ℤ toZ w64 (l .total) =
+    let e : toZ w64 (ofZ w64 (c .plus-product .result)) ≡ toZ w64 (l .total) +ℤ getD (s .args .t1) i (pos 0) *ℤ getD (s .args .t2) i (pos 0) =
     toZ-ofZ {w = w64} (sfits-of (c .plus-product .ok)) ∙ (rw (amount-bits (getD (s .args .t1) i (pos 0)) z, amount-bits (getD (s .args .t2) i (pos 0)) x) at (c .plus-product .ensures)) in
     let f : toZ w64 (ofZ w64 (c .plus-product .result)) ≡ termsFrom (s .args .t1) (s .args .t2) i =
-    e ∙ ap (λ (u : ℤ). getD (s .args .t1) i (pos 0) *ℤ getD (s .args .t2) i (pos 0) +ℤ u) (l .inv .3 ∙ ap (λ (k : ℕ). termsFrom (s .args .t1) (s .args .t2) k) n) ∙ sym (terms-more (s .args .t1) (s .args .t2) i h) in
+    e ∙ +-comm (toZ w64 (l .total)) (getD (s .args .t1) i (pos 0) *ℤ getD (s .args .t2) i (pos 0)) ∙ ap (λ (u : ℤ). getD (s .args .t1) i (pos 0) *ℤ getD (s .args .t2) i (pos 0) +ℤ u) (l .inv .3 ∙ ap (λ (k : ℕ). termsFrom (s .args .t1) (s .args .t2) k) n) ∙ sym (terms-more (s .args .t1) (s .args .t2) i h) in
     let b : natAbs (termsFrom (s .args .t1) (s .args .t2) (suc i)) ≤ (8 - l .i) * 1000000000000000000 = rw (← n, ← l .inv .3) (l .inv .4) in (
       omega (arith, l .inv .0),
       l .inv .1,

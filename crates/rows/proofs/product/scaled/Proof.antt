@@ -1,4 +1,4 @@
--- `constraint::scaled` meets its contract. Assumes nothing.
+-- `product::scaled` meets its contract. Assumes nothing.
 use mathlib.Core.Path.{_≡_}
 use native.Mathlib.Omega.{arith}
 use borrow.Author.Needs.{needs}
@@ -6,9 +6,9 @@ use lib.IntN.{pos}
 use mir.Syntax.{w64}
 use mir.Val.{toZ}
 use mir.Facts.{toZ-ofZ, toZ-pos}
-use Rattle.evaluation.specs.Sum.{scaled-fits}
-use Rattle.evaluation.proofs.constraint.scaled.Statement.{statement}
-use Rattle.evaluation.proofs.constraint.scaled.Tie as tie
+use Rattle.rows.specs.Amount.{scaled-fits}
+use Rattle.rows.proofs.product.scaled.Statement.{statement}
+use Rattle.rows.proofs.product.scaled.Tie as tie
 
 -- the denominator as an i64
 wide : (s : tie.Start) → toZ w64 (s .args .denominator) ≡ pos (s .args .denominator)

@@ -1,14 +1,13 @@
--- `constraint::plus_product` meets its contract. Assumes nothing.
+-- `product::plus_product` meets its contract. Assumes nothing.
 use mathlib.Core.Path.{_≡_}
 use borrow.Author.Needs.{needs}
 use lib.IntN.{_+ℤ_, _*ℤ_}
 use mir.Syntax.{w64}
 use mir.Val.{SFits, toZ, ofZ}
 use mir.Facts.{toZ-ofZ}
-use Rattle.rows.specs.Amount.{product-fits}
-use Rattle.evaluation.specs.Sum.{plus-product-fits}
-use Rattle.evaluation.proofs.constraint.plus_product.Statement.{statement}
-use Rattle.evaluation.proofs.constraint.plus_product.Tie as tie
+use Rattle.rows.specs.Amount.{product-fits, plus-product-fits}
+use Rattle.rows.proofs.product.plus_product.Statement.{statement}
+use Rattle.rows.proofs.product.plus_product.Tie as tie
 
 mul-result : tie.Need-mul-result
 mul-result c = search (needs, product-fits)
