@@ -1,32 +1,25 @@
 -- In a mark's turn no line has a condition: the figures' turns come first. So a course never pairs two conditions by a mark.
-use mathlib.Core.Path.{_≡_, refl}
+use mathlib.Core.Path.{_≡_}
 use mathlib.Core.Bool.{not}
 use mathlib.Core.Logic.{⊎-elim}
-use mathlib.Core.List.{List, _++_}
-use Prim.Native.Nat.{ℕ, zero, suc, _≤_, _<_}
+use Prim.Native.Nat.{ℕ, suc, _≤_, _<_}
 use native.Mathlib.Omega.{arith}
 use lib.Dec.{T, leb, leb→le, nleb→lt}
-use Rattle.rules.specs.Lists.{tabulate}
+use lib.ListN.{drop}
 use Rattle.rules.specs.Lines.{Line, Variable, rational, boolean, positively, negatively, contains, noConstraint}
 use Rattle.rules.specs.Elimination.{order, roundOf}
 use Rattle.rules.specs.Checker.{pairable}
 use Rattle.lists.specs.Tests.{split, clash, or-l}
-use Rattle.saturation.specs.Rounds.{At, at-unique, round-before}
+use Rattle.saturation.specs.Rounds.{At, at-unique, drop-at, round-before}
+use Rattle.saturation.specs.Order.{order-rational}
 use Rattle.saturation.specs.Formed.{constraint-place}
 use Rattle.resolution.specs.Variables.{contains-rational}
 use Rattle.resolution.specs.Resolution.{Resolvable}
 use Rattle.course.specs.Sound.{Sound}
 
--- the figures stand at the places 0 to 7 of the order, the marks after them
-at-made : (n : ℕ) (f : ℕ → Variable) (rest : List Variable) (j : ℕ) → j < n → At (tabulate n f ++ rest) j (f j)
-unfolding tabulate
-at-made zero f rest j h = absurd (omega arith)
-at-made (suc n) f rest zero h = refl
-at-made (suc n) f rest (suc j) h = at-made n (λ i. f (suc i)) rest j (omega arith)
-
+-- the rational variables stand at the places 0 to 7 of the order, the Boolean ones after them
 rational-at : (j : ℕ) → j < 8 → At order j (rational j)
-unfolding order
-rational-at j h = at-made 8 rational (tabulate 32 boolean) j h
+rational-at j h = drop-at order j (rational j) (drop (suc j) order) (order-rational j h)
 
 boolean-late : (t i : ℕ) → At order t (boolean i) → 8 ≤ t
 boolean-late t i a = ⊎-elim (λ h. leb→le 8 t h) (λ h. absurd (no (at-unique order t (rational t) (boolean i) (rational-at t (nleb→lt 8 t h)) a))) (split (leb 8 t))

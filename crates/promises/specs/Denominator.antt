@@ -19,7 +19,8 @@ use Rattle.rules.specs.Calls.{sound, read, Solving}
 use Rattle.lists.specs.All.{all-map, all-mapped}
 use Rattle.soundness.specs.WellFormed.{WellFormed}
 use Rattle.soundness.specs.Reading.{read-well-formed}
-use Rattle.saturation.specs.Unset.{order-aligned, walk-unset}
+use Rattle.saturation.specs.Aligned.{order-aligned}
+use Rattle.saturation.specs.Unset.{walk-unset}
 use Rattle.saturation.specs.Unbounded.{walk-zero}
 use Rattle.saturation.specs.Least.{Over, over-zero, walk-least}
 use Rattle.course.specs.Taken.{lines}

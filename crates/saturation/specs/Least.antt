@@ -22,7 +22,8 @@ use Rattle.bounds.specs.Below.{Positive}
 use Rattle.bounds.specs.Reduced.{Coprime}
 use Rattle.bounds.specs.Meets.{with-same, with-other, exactˡ, exactʳ}
 use Rattle.saturation.specs.Gathered.{rational-sound, rational-coprime}
-use Rattle.saturation.specs.Unset.{Aligned, aligned-cons, order-aligned, Unset, walk-unset}
+use Rattle.saturation.specs.Aligned.{Aligned, aligned-cons, order-aligned}
+use Rattle.saturation.specs.Unset.{Unset, walk-unset}
 
 -- figure f can be written over m: m times it is whole
 abbrev pub Over : Assignment → ℕ → ℕ → Type 0

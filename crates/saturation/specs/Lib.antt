@@ -2,11 +2,13 @@ pub mod Rule
 pub mod Boolean
 pub mod Gathered
 pub mod Rational
+pub mod Aligned
 pub mod Unset
 pub mod Unbounded
 pub mod Least
 pub mod Assign
 pub mod Rounds
+pub mod Order
 pub mod Covered
 pub mod Saturation
 pub mod Equal

@@ -5,30 +5,16 @@ use Prim.Native.Nat.{ℕ, suc, _<_}
 use native.Mathlib.Omega.{arith}
 use lib.IntN.{pos}
 use lib.Dec.{eqb}
-use Rattle.rules.specs.Lists.{tabulate, filter}
+use Rattle.rules.specs.Lists.{filter}
 use Rattle.rules.specs.Meaning.{Assignment}
 use Rattle.rules.specs.Lines.{Line, Variable, rational, boolean}
-use Rattle.rules.specs.Elimination.{order, roundOf}
+use Rattle.rules.specs.Elimination.{roundOf}
 use Rattle.rules.specs.Values.{rationalValue, withBoolean, assign, start, walkFrom}
 use Rattle.bounds.specs.Meets.{with-zero, with-denominator}
 use Rattle.saturation.specs.Gathered.{rational-sound}
+use Rattle.saturation.specs.Aligned.{Aligned, aligned-cons}
 
--- ---- a rational variable's number is its round's
-abbrev pub Aligned : ℕ → List Variable → Type 0
-Aligned t [] = Unit {0}
-Aligned t (rational f ∷ vs) = (f ≡ t) × Aligned (suc t) vs
-Aligned t (boolean i ∷ vs) = Aligned (suc t) vs
-
--- the first variable, and the rest
-pub aligned-cons : (t : ℕ) (v : Variable) (vs : List Variable) → Aligned t (v ∷ vs) → Aligned t (v ∷ []) × Aligned (suc t) vs
-aligned-cons t (rational f) vs h = ((h .0, tt), h .1)
-aligned-cons t (boolean i) vs h = (tt, h)
-
-pub order-aligned : Aligned 0 order
-unfolding order tabulate
-order-aligned = (refl, (refl, (refl, (refl, (refl, (refl, (refl, (refl, tt))))))))
-
--- ---- the rounds from t on are walked
+-- the rounds from t on are walked
 pub record Unset (t : ℕ) (χ : Assignment) : Type 0 where
   pub positive : 0 < χ .denominator
   pub free : (f : ℕ) → f < t → χ .numerators f ≡ pos 0

@@ -5,14 +5,11 @@ use mathlib.Core.List.{List, [], _∷_}
 use Prim.Native.Nat.{ℕ, suc, _+_, _*_, _-_, _≤_, _<_}
 use native.Mathlib.Numerals.{add-one}
 use native.Mathlib.Omega.{arith}
-use lib.ListN.{length, getD, drop, drop-of-length-le, List·getD-append}
-use lib.Seq.{drop-cons, getD-append-add}
+use lib.ListN.{length, drop, drop-of-length-le}
 use Rattle.types.specs.declared.limits.Limits.{Limits}
-use Rattle.rules.specs.Lists.{tabulate}
 use Rattle.rules.specs.Lines as rules
-use Rattle.rules.specs.Lines.{rational, boolean}
 use Rattle.rules.specs.Elimination.{limited, order, rounds}
-use Rattle.lists.specs.Tabulated.{length-tabulate, getD-tabulate}
+use Rattle.saturation.specs.Order.{length-order, order-rational, order-boolean}
 use Rattle.placing.specs.declared.place.Progress.{Progress}
 use Rattle.placing.specs.declared.place.Progress.the-variants.{Running, Empty, Overflow, OutOfSteps}
 use Rattle.placing.specs.declared.place.Point.{Point}
@@ -22,28 +19,6 @@ use Rattle.turns.specs.declared.side.Variable.{Variable}
 use Rattle.turns.specs.declared.side.Variable.the-variants.{Rational, Boolean}
 use Rattle.turns.specs.Sides.{variableOf}
 use Rattle.turns.specs.Rounds.{turned}
-
--- ---- the order by number
-length-order : length order ≡ 40
-unfolding order tabulate
-length-order = refl
-
-order-rational : (t : ℕ) → t < 8 → drop t order ≡ rational t ∷ drop (suc t) order
-unfolding order
-order-rational t h =
-    let us : List rules.Variable = tabulate 8 rational in
-    let is : List rules.Variable = tabulate 32 boolean in
-    drop-cons order t (rational 0) (omega (arith, length-order))
-    ∙ ap (λ (v : rules.Variable). v ∷ drop (suc t) order) (List·getD-append us is (rational 0) t (omega (arith, length-tabulate 8 rational)) ∙ getD-tabulate 8 rational t (rational 0) h)
-
-order-boolean : (i : ℕ) → i < 32 → drop (8 + i) order ≡ boolean i ∷ drop (suc (8 + i)) order
-unfolding order
-order-boolean i h =
-    let us : List rules.Variable = tabulate 8 rational in
-    let is : List rules.Variable = tabulate 32 boolean in
-    let at : 8 + i ≡ length us + i = omega (arith, length-tabulate 8 rational) in
-    drop-cons order (8 + i) (rational 0) (omega (arith, length-order))
-    ∙ ap (λ (v : rules.Variable). v ∷ drop (suc (8 + i)) order) (ap (λ (k : ℕ). getD order k (rational 0)) at ∙ getD-append-add us is i (rational 0) ∙ getD-tabulate 32 boolean i (rational 0) h)
 
 -- ---- one turn
 -- the turns that are left come to the same after it

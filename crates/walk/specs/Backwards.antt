@@ -15,13 +15,13 @@ use Rattle.rules.specs.Values.{assign, exceeds, Walked, start, walkFrom, walk}
 use Rattle.rules.specs.Model.{encodeModel, tooLarge, written}
 use Rattle.lists.specs.All.{getD-replicate-same}
 use Rattle.saturation.specs.Unbounded.{Without, walk-zero}
+use Rattle.saturation.specs.Order.{variableAt, order-from}
 use Rattle.masks.specs.Mask.{bits}
 use Rattle.evaluation.specs.declared.model.Model.{Model}
 use Rattle.evaluation.specs.Model.{value, assignment}
 use Rattle.gathering.specs.Range.{InRange}
 use Rattle.gathering.specs.Round.{own}
 use Rattle.walk.specs.Outcome.{Next, Assigned}
-use Rattle.walk.specs.Order.{variableAt, order-from}
 use Rattle.walk.specs.Words.{range-written}
 use Rattle.walk.specs.Growth.{unwritable-end}
 use Rattle.walk.specs.Narrow.{large-narrow}

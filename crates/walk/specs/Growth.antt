@@ -22,9 +22,10 @@ use Rattle.vectors.specs.Put.{put-other}
 use Rattle.vectors.specs.Lcm.{lcm-dvdˡ, lcm-positive}
 use Rattle.bounds.specs.Below.{Positive}
 use Rattle.saturation.specs.Gathered.{rational-sound}
-use Rattle.saturation.specs.Unset.{Aligned, aligned-cons, Unset, walk-unset}
+use Rattle.saturation.specs.Order.{variableAt, order-from}
+use Rattle.saturation.specs.Aligned.{Aligned, aligned-cons, rest-aligned}
+use Rattle.saturation.specs.Unset.{Unset, walk-unset}
 use Rattle.gathering.specs.Round.{own}
-use Rattle.walk.specs.Order.{variableAt, order-from, rest-aligned}
 
 -- of functions, place by place
 any-grows : (p : ℤ → Bool) (n : ℕ) (g h : ℕ → ℤ) → ((i : ℕ) → p (g i) ≡ true → p (h i) ≡ true) → any p (tabulate n g) ≡ true → any p (tabulate n h) ≡ true

@@ -1,5 +1,4 @@
 pub mod Outcome
-pub mod Order
 pub mod Words
 pub mod Growth
 pub mod Narrow

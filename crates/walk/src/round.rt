@@ -8,12 +8,12 @@ use gathering::rational::rational_value;
 ghost use Prim.Native.Nat.{_+_, _*_, _≤_, _<_};
 ghost use lib.ListN.{length};
 ghost use Rattle.rules.specs.Lines.{rational, boolean};
+ghost use Rattle.saturation.specs.Order.{variableAt};
 ghost use Rattle.proof_lines.specs.Held.{linesIn, ReadyLines};
 ghost use Rattle.evaluation.specs.Model.{assignment};
 ghost use Rattle.gathering.specs.Range.{InRange};
 ghost use Rattle.gathering.specs.Round.{own};
 ghost use Rattle.walk.specs.Outcome.{Assigned};
-ghost use Rattle.walk.specs.Order.{variableAt};
 
 fn assign_rational(proof: &[u8], n: usize, f: usize, model: Model) -> Reached
     requires { ⌜ 64 * n ≤ length (now proof) ⌝ }

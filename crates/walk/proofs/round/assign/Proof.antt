@@ -3,11 +3,11 @@ use mathlib.Core.Path.{_≡_, subst}
 use Prim.Native.Nat.{ℕ, _+_, _-_}
 use native.Mathlib.Omega.{arith}
 use borrow.Author.Needs.{needs}
+use Rattle.saturation.specs.Order.{variableAt, rational-at, boolean-at}
 use Rattle.proof_lines.specs.Held.{linesIn}
 use Rattle.evaluation.specs.Model.{assignment}
 use Rattle.gathering.specs.Round.{own}
 use Rattle.walk.specs.Outcome.{Assigned}
-use Rattle.walk.specs.Order.{variableAt, rational-at, boolean-at}
 use Rattle.walk.proofs.round.assign.Statement.{statement}
 use Rattle.walk.proofs.round.assign.Tie as tie
 
