@@ -15,6 +15,7 @@ use Rattle.rules.specs.Steps.{encodeProof}
 use Rattle.rules.specs.Elimination.{limited, course}
 use Rattle.rules.specs.Needs.{stepsOf}
 use Rattle.rules.specs.Calls.{faulty, sound, Outcome, faulted, read, concluded, said, proofAfter, modelAfter, Solving, solve, lent}
+use Rattle.soundness.specs.Lent.{lent-short-proof, lent-short-model, lent-fault}
 use Rattle.promises.specs.Words.{Comes, WideOrFull, FullSize, OurSheet}
 use Rattle.promises.specs.Reported.{left, solve-is, book-holds}
 use Rattle.promises.specs.Evidence.{our-sheet}
@@ -51,13 +52,13 @@ module _ (limits : Limits) (input book′ sheet : List ℕ) where
   faulted-is f place e = ap (λ (o : Outcome). left limits o book′ sheet) e
 
   pub short-book : length book′ < limit.proofBytes limits → ours ≡ record { solved = record { answer = Refused refusal.ShortProof 0; pairs = 0 }; proof = book′; model = sheet }
-  short-book h = faulted-is refusal.ShortProof 0 (memory.short-book limits input book′ sheet h)
+  short-book h = faulted-is refusal.ShortProof 0 (lent-short-proof limits input book′ sheet h)
 
   pub short-sheet : limit.proofBytes limits ≤ length book′ → length sheet < limit.modelBytes → ours ≡ record { solved = record { answer = Refused refusal.ShortModel 0; pairs = 0 }; proof = book′; model = sheet }
-  short-sheet h k = faulted-is refusal.ShortModel 0 (memory.short-sheet limits input book′ sheet h k)
+  short-sheet h k = faulted-is refusal.ShortModel 0 (lent-short-model limits input book′ sheet h k)
 
   pub faulty-question : FullSize limits book′ sheet → (f : Refusal) (place : ℕ) → read input ≡ faulty f place → ours ≡ record { solved = record { answer = Refused f place; pairs = 0 }; proof = book′; model = sheet }
-  faulty-question full f place e = faulted-is f place (memory.faulty-question limits input book′ sheet full f place e)
+  faulty-question full f place e = faulted-is f place (lent-fault limits input book′ sheet (full .book) (full .sheet) f place e)
 
   pub sizes : (length (ours .proof) ≡ length book′) × (length (ours .model) ≡ length sheet)
   sizes = memory.sizes-kept limits input book′ sheet

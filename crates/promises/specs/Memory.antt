@@ -1,14 +1,12 @@
 -- What solving leaves in the lent buffers, for bytes of every kind and buffers of every length.
 use mathlib.Core.Path.{_≡_, refl, sym}
-use mathlib.Core.Bool.{Bool}
 use mathlib.Core.Logic.{⊎-elim}
 use mathlib.Core.List.{List, [], _++_, map}
 use mathlib.Core.Option.{Option, none, some}
-use Prim.Native.Nat.{ℕ, _≤_, _<_}
+use Prim.Native.Nat.{ℕ, _≤_}
 use native.Mathlib.Omega.{arith}
-use lib.Dec.{ltb, ltb→lt, nltb→le, lt→ltb}
+use lib.Dec.{ltb, ltb→lt, nltb→le}
 use lib.ListN.{length, replicate, drop, length-append, length-replicate, length-drop}
-use mir.Facts.{no-ltb}
 use Rattle.types.specs.declared.answers.Refusal.{Refusal}
 use Rattle.types.specs.declared.answers.Refusal.the-variants as refusal
 use Rattle.types.specs.declared.answers.Verdict.{Verdict}
@@ -20,39 +18,19 @@ use Rattle.rules.specs.Steps.{Step}
 use Rattle.rules.specs.Elimination.{limited, State, running, ended, empty, overflow, outOfSteps, order, loadableOf, course}
 use Rattle.rules.specs.Needs.{stepsOf}
 use Rattle.rules.specs.Values.{walk}
-use Rattle.rules.specs.Calls.{Reading, faulty, sound, Outcome, faulted, stopped, decided, read, noModel, concluded, outcome, lent, said, proofAfter, modelAfter, solve}
-use Rattle.lists.specs.Tests.{split, is-true, is-false}
+use Rattle.rules.specs.Calls.{Reading, faulty, sound, Outcome, faulted, stopped, decided, read, noModel, concluded, lent, said, proofAfter, modelAfter, solve}
+use Rattle.lists.specs.Tests.{split}
 use Rattle.lists.specs.All.{All, all-map}
 use Rattle.resolution.specs.Formed.{Formed}
 use Rattle.soundness.specs.Reading.{read-well-formed}
+use Rattle.soundness.specs.Lent.{lent-short-proof, lent-short-model, lent-fault, lent-sound}
 use Rattle.course.specs.Held.{limited-held}
 use Rattle.course.specs.Sound.{Sound, course-sound}
 use Rattle.encoding.specs.Steps.{proof-length}
 use Rattle.encoding.specs.ModelAccepted.{written-accepted}
 use Rattle.verdicts.specs.Decided.{running-satisfies}
 use Rattle.promises.specs.Words.{FullSize, Comes, WideOrFull}
-use Rattle.promises.specs.Outcomes.{finished, walkSheet, concluded-running, answerOf, lent-is, finished-not-stopped}
-
-module _ (limits : Limits) (input book sheet : List ℕ) where
-  abbrev shortBook : Bool
-  shortBook = ltb (length book) (limit.proofBytes limits)
-
-  abbrev shortSheet : Bool
-  shortSheet = ltb (length sheet) limit.modelBytes
-
-  -- ---- faults 1 to 13, in their order
-  pub short-book : length book < limit.proofBytes limits → lent limits input book sheet ≡ faulted refusal.ShortProof 0
-  unfolding lent
-  short-book h = rw (is-true shortBook (lt→ltb (length book) (limit.proofBytes limits) h), lent)
-
-  pub short-sheet : limit.proofBytes limits ≤ length book → length sheet < limit.modelBytes → lent limits input book sheet ≡ faulted refusal.ShortModel 0
-  unfolding lent
-  short-sheet h k = rw (is-false shortBook (no-ltb {a = length book} {b = limit.proofBytes limits} h), lent, is-true shortSheet (lt→ltb (length sheet) limit.modelBytes k))
-
-  pub faulty-question : FullSize limits book sheet → (f : Refusal) (place : ℕ) → read input ≡ faulty f place → lent limits input book sheet ≡ faulted f place
-  unfolding lent outcome
-  faulty-question full f place e =
-      rw (is-false shortBook (no-ltb {a = length book} {b = limit.proofBytes limits} (full .book)), lent, is-false shortSheet (no-ltb {a = length sheet} {b = limit.modelBytes} (full .sheet)), e, outcome)
+use Rattle.promises.specs.Outcomes.{finished, walkSheet, concluded-running, answerOf, finished-not-stopped}
 
 -- ---- a refused course, and a verdict
 module _ (limits : Limits) (p : Problem) (book sheet : List ℕ) where
@@ -128,11 +106,11 @@ unfolding solve
 sizes-kept limits input book sheet =
     let B = ltb (length book) (limit.proofBytes limits) in
     let S = ltb (length sheet) limit.modelBytes in
-    ⊎-elim (λ t. rw (short-book limits input book sheet (ltb→lt (length book) (limit.proofBytes limits) t)) (kept-faulted limits book sheet refusal.ShortProof 0))
+    ⊎-elim (λ t. rw (lent-short-proof limits input book sheet (ltb→lt (length book) (limit.proofBytes limits) t)) (kept-faulted limits book sheet refusal.ShortProof 0))
     (λ t. let z = nltb→le (length book) (limit.proofBytes limits) t in
-    ⊎-elim (λ u. rw (short-sheet limits input book sheet z (ltb→lt (length sheet) limit.modelBytes u)) (kept-faulted limits book sheet refusal.ShortModel 0))
+    ⊎-elim (λ u. rw (lent-short-model limits input book sheet z (ltb→lt (length sheet) limit.modelBytes u)) (kept-faulted limits book sheet refusal.ShortModel 0))
     (λ u. by (record { book = z; sheet = nltb→le (length sheet) limit.modelBytes u }) (read input) refl) (split S)) (split B)
   where
     by : FullSize limits book sheet → (r : Reading) → read input ≡ r → Kept limits book sheet (lent limits input book sheet)
-    by full (faulty f place) e = rw (faulty-question limits input book sheet full f place e) (kept-faulted limits book sheet f place)
-    by full (sound p) e = rw (lent-is limits input book sheet p e full) (kept-course limits book sheet full input p e)
+    by full (faulty f place) e = rw (lent-fault limits input book sheet (full .book) (full .sheet) f place e) (kept-faulted limits book sheet f place)
+    by full (sound p) e = rw (lent-sound limits input book sheet (full .book) (full .sheet) p e) (kept-course limits book sheet full input p e)

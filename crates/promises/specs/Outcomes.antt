@@ -5,32 +5,21 @@ use mathlib.Core.List.{List, map}
 use mathlib.Core.Option.{Option, none, some}
 use Prim.Native.Nat.{ℕ}
 use native.Mathlib.Omega.{arith}
-use lib.Dec.{ltb}
-use lib.ListN.{length}
-use mir.Facts.{no-ltb}
 use Rattle.types.specs.declared.answers.Answer.{Answer}
 use Rattle.types.specs.declared.answers.Verdict.the-variants.{Satisfiable, Unsatisfiable, Unwritten}
 use Rattle.types.specs.declared.limits.Limits.{Limits}
-use Rattle.types.specs.Limits as limit
 use Rattle.rules.specs.Problem.{Problem}
 use Rattle.rules.specs.Steps.{Step}
 use Rattle.rules.specs.Elimination.{limited, State, running, ended, empty, overflow, outOfSteps, order, course}
 use Rattle.rules.specs.Needs.{stepsOf, Fits}
 use Rattle.rules.specs.Values.{walk}
 use Rattle.rules.specs.Model.{written}
-use Rattle.rules.specs.Calls.{sound, Outcome, decided, read, noModel, concluded, outcome, lent, said}
-use Rattle.lists.specs.Tests.{is-false}
+use Rattle.rules.specs.Calls.{Outcome, decided, noModel, concluded, said}
 use Rattle.soundness.specs.WellFormed.{WellFormed}
 use Rattle.course.specs.Limits.{Stopped, fits-same, fits-or-stopped, fits-unstopped}
 use Rattle.verdicts.specs.Satisfied.{chosen}
 use Rattle.verdicts.specs.Decided.{NoChoice, running-satisfies, empty-none}
-use Rattle.promises.specs.Words.{SomeChoice, sheetOf, GivesSheet, Comes, WideOrFull, FullSize}
-
--- ---- the call reaches the course
-pub lent-is : (limits : Limits) (input proof model : List ℕ) (p : Problem) → read input ≡ sound p → FullSize limits proof model → lent limits input proof model ≡ concluded p (course (limited limits) p)
-unfolding lent outcome
-lent-is limits input proof model p e full =
-    rw (is-false (ltb (length proof) (limit.proofBytes limits)) (no-ltb {a = length proof} {b = limit.proofBytes limits} (full .book)), lent, is-false (ltb (length model) limit.modelBytes) (no-ltb {a = length model} {b = limit.modelBytes} (full .sheet)), e, outcome)
+use Rattle.promises.specs.Words.{SomeChoice, sheetOf, GivesSheet, Comes, WideOrFull}
 
 -- ---- where the course runs to its end, by the sheet of its walk
 abbrev pub finished : List Step → ℕ → Option (List ℕ) → Outcome

@@ -15,13 +15,14 @@ use Rattle.rules.specs.Needs.{stepsOf, pairsOf}
 use Rattle.rules.specs.Calls.{sound, Outcome, read, concluded, said, proofAfter, modelAfter, Solving, solve}
 use Rattle.lists.specs.All.{all-map}
 use Rattle.soundness.specs.WellFormed.{WellFormed}
+use Rattle.soundness.specs.Lent.{lent-sound}
 use Rattle.course.specs.Events.{events}
 use Rattle.course.specs.Cut.{cut, eliminate-cut}
 use Rattle.course.specs.Sound.{Sound, loadable-sound}
 use Rattle.course.specs.PairBound.{pairs-bound}
 use Rattle.resolution.specs.Holds.{Consistent}
 use Rattle.promises.specs.Words.{Comes, FullSize}
-use Rattle.promises.specs.Outcomes.{finished, walkSheet, concluded-running, answerOf, lent-is}
+use Rattle.promises.specs.Outcomes.{finished, walkSheet, concluded-running, answerOf}
 
 -- what an outcome makes of the lent buffers
 abbrev pub left : Limits → Outcome → List ℕ → List ℕ → Solving
@@ -29,7 +30,7 @@ left limits o book sheet = record { solved = said o; proof = proofAfter limits o
 
 pub solve-is : (limits : Limits) (input : List ℕ) (p : Problem) → read input ≡ sound p → (book sheet : List ℕ) → FullSize limits book sheet → solve limits input book sheet ≡ left limits (concluded p (course (limited limits) p)) book sheet
 unfolding solve
-solve-is limits input p e book sheet full = ap (λ (o : Outcome). left limits o book sheet) (lent-is limits input book sheet p e full)
+solve-is limits input p e book sheet full = ap (λ (o : Outcome). left limits o book sheet) (lent-sound limits input book sheet (full .book) (full .sheet) p e)
 
 -- ---- lines and pairs
 finished-lines : (steps : List Step) (n : ℕ) (o : Option (List ℕ)) → answerValue (answerOf (finished steps n o)) ≡ length steps

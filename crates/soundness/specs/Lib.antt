@@ -12,6 +12,7 @@ pub mod Follows
 pub mod Refutation
 pub mod Readers
 pub mod Reading
+pub mod Lent
 pub mod ProofChecked
 pub mod ModelChecked
 pub mod Named

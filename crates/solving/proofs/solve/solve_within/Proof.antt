@@ -2,8 +2,9 @@
 use mathlib.Core.Path.{sym, _∙_}
 use native.Mathlib.Omega.{arith}
 use Rattle.rules.specs.Calls.{read}
+use Rattle.soundness.specs.Lent.{lent-short-proof, lent-short-model, lent-fault, lent-sound}
 use Rattle.reading.specs.Readable.{readable}
-use Rattle.solving.specs.Leaves.{leaves-faulted, lent-short-proof, lent-short-model, lent-fault, lent-sound, read-fault}
+use Rattle.solving.specs.Leaves.{leaves-faulted, read-fault}
 use borrow.Author.Needs.{needs}
 use Rattle.solving.proofs.solve.solve_within.Statement.{statement}
 use Rattle.solving.proofs.solve.solve_within.Tie as tie
