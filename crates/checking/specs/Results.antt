@@ -2,14 +2,12 @@
 use mathlib.Core.Path.{_≡_, refl, sym, ap, _∙_}
 use mathlib.Core.List.{List}
 use mathlib.Core.Option.{Option, none, some}
-use Prim.Native.Nat.{ℕ, _+_, _<_, _≤_}
-use native.Mathlib.Omega.{arith}
-use lib.ListN.{length, getElem?, getD}
+use Prim.Native.Nat.{ℕ, _<_, _≤_}
+use lib.ListN.{getElem?}
 use Rattle.rules.specs.Bytes.{fieldAt}
 use Rattle.rules.specs.Lines as rules
 use Rattle.rules.specs.Checker.{derived}
 use Rattle.lists.specs.Tabulated.{element-tabulate, element-beyond}
-use Rattle.layout.specs.Fields.{fieldAt-none, fieldAt-next}
 use Rattle.lines.specs.declared.line.Line.{Line}
 use Rattle.lines.specs.Line.{meaning}
 use Rattle.line_bytes.specs.Encoding.{headerOf}
@@ -17,9 +15,6 @@ use Rattle.proof_lines.specs.Held.{lineAt, linesIn}
 use Rattle.checking.specs.declared.compare.Stated.{Stated}
 use Rattle.checking.specs.Stated.{lineFound, Holds, States, matched}
 use Rattle.checking.specs.Derived.{derivedBy, derived-absent, derived-alone, by-neither, resultStated, result-is}
-
-pub byte-field : (at : ℕ) (bytes : List ℕ) → at < length bytes → fieldAt at 1 bytes ≡ getD bytes at 0
-byte-field at bytes h = fieldAt-next at 0 bytes h ∙ rw (fieldAt-none (at + 1) bytes) (omega arith)
 
 pub states-same : {o p : Option rules.Line} {bytes : List ℕ} {s : Stated} → o ≡ p → States p bytes s → States o bytes s
 states-same e h = record { line = h .line ∙ sym e; ready = h .ready; back = h .back }

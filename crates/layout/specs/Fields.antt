@@ -17,6 +17,9 @@ pub fieldAt-next : (at k : ℕ) (s : List ℕ) → at < length s → fieldAt at 
 unfolding fieldAt fromBytes
 fieldAt-next at k s h = rw (add-one at, drop-cons s at 0)
 
+pub fieldAt-1 : (at : ℕ) (s : List ℕ) → at < length s → fieldAt at 1 s ≡ getD s at 0
+fieldAt-1 at s h = omega (arith, fieldAt-next at 0 s h, fieldAt-none (at + 1) s)
+
 pub fieldAt-2 : (at : ℕ) (s : List ℕ) → at + 2 ≤ length s → fieldAt at 2 s ≡ getD s at 0 + 256 * getD s (at + 1) 0
 fieldAt-2 at s h = omega (arith, fieldAt-next at 1 s (omega arith), fieldAt-next (at + 1) 0 s (omega arith), fieldAt-none (at + 1 + 1) s)
 

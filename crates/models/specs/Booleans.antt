@@ -12,8 +12,9 @@ use Rattle.types.specs.declared.answers.Refusal.the-variants as refusal
 use Rattle.rules.specs.Problem.{Reader, repeat, field}
 use Rattle.rules.specs.Lines.{Booleans, including}
 use Rattle.lists.specs.Tests.{clash, of-false}
+use Rattle.layout.specs.Fields.{fieldAt-1}
 use Rattle.masks.specs.Mask.{bits, length-bits}
-use Rattle.reader.specs.Fields.{field-good, field-bad, fieldAt-1}
+use Rattle.reader.specs.Fields.{field-good, field-bad}
 use Rattle.reader.specs.Values.{valuesAt}
 use Rattle.models.specs.declared.booleans.Flags.{Flags}
 use Rattle.models.specs.Fields.{reading, Tested, repeat-good, repeat-bad, Filled, filled-none, filled-more, filled-values}
@@ -38,8 +39,8 @@ flag-tested : (s : List ℕ) → Tested s flag 1 (λ at. leb (getD s at 0) 1) (�
 unfolding flag
 flag-tested s =
     record {
-      good = λ at h t. let e = fieldAt-1 s at (omega arith) in field-good s 1 (λ n. leb n 1) refusal.BadModel at h (rw e t) ∙ rw e;
-      bad = λ at h t. let e = fieldAt-1 s at (omega arith) in field-bad s 1 (λ n. leb n 1) refusal.BadModel at h (rw e t);
+      good = λ at h t. let e = fieldAt-1 at s (omega arith) in field-good s 1 (λ n. leb n 1) refusal.BadModel at h (rw e t) ∙ rw e;
+      bad = λ at h t. let e = fieldAt-1 at s (omega arith) in field-bad s 1 (λ n. leb n 1) refusal.BadModel at h (rw e t);
     }
 
 module _ (i byte : ℕ) (s : Booleans) where

@@ -18,7 +18,8 @@ use Rattle.rules.specs.Meaning.{Assignment}
 use Rattle.rules.specs.Model.{model}
 use Rattle.lists.specs.Tests.{of-true}
 use Rattle.rows.specs.Amount.{Amounts}
-use Rattle.reader.specs.Fields.{field-good, field-bad, fieldAt-1}
+use Rattle.layout.specs.Fields.{fieldAt-1}
+use Rattle.reader.specs.Fields.{field-good, field-bad}
 use Rattle.reader.specs.Values.{valuesAt, amountAt}
 use Rattle.evaluation.specs.Model.{value, assignment}
 use Rattle.models.specs.declared.booleans.Flags.{Flags}
@@ -106,14 +107,14 @@ module _ {s : List ℕ} {b r : ℕ} where
 
   pub booleans-differ : Sized s b r → (getD s 0 0 ≡ b → ⊥) → model b r s 0 ≡ fault refusal.BadModel 0
   unfolding model
-  booleans-differ h n = stops s 1 (eqb b) refusal.BadModel 0 _ (omega (arith, h .long)) (rw (fieldAt-1 s 0 (omega (arith, h .long))) (ne-eqb b (getD s 0 0) (λ e. n (sym e))))
+  booleans-differ h n = stops s 1 (eqb b) refusal.BadModel 0 _ (omega (arith, h .long)) (rw (fieldAt-1 0 s (omega (arith, h .long))) (ne-eqb b (getD s 0 0) (λ e. n (sym e))))
 
   module _ {flags : Flags} where
     booleans-on : BooleansRead s b r flags → model b r s 0 ≡ after (repeat b flag (drop 1 s) 1) (rationalsOn r)
     unfolding model flag rationalsOn denominatorOn numeratorsAfter isDenominator
     booleans-on h =
         let l : 0 + 1 ≤ length s = omega (arith, h .sized .long) in
-        goes s 1 (eqb b) refusal.BadModel 0 _ l (rw (fieldAt-1 s 0 l) (eq-eqb b (getD s 0 0) (sym (h .count))))
+        goes s 1 (eqb b) refusal.BadModel 0 _ l (rw (fieldAt-1 0 s l) (eq-eqb b (getD s 0 0) (sym (h .count))))
 
     pub boolean-bad : BooleansRead s b r flags → flags .sound ≡ false → model b r s 0 ≡ fault refusal.BadModel (flags .place)
     unfolding reading after
@@ -127,13 +128,13 @@ module _ {s : List ℕ} {b r : ℕ} where
     unfolding rationalsOn
     rationals-differ h e n =
         let l = r-there (h .sized) in
-        rationals-on h e ∙ stops s 1 (eqb r) refusal.BadModel (1 + b) _ (omega arith) (rw (fieldAt-1 s (1 + b) l) (ne-eqb r (getD s (1 + b) 0) (λ e. n (sym e))))
+        rationals-on h e ∙ stops s 1 (eqb r) refusal.BadModel (1 + b) _ (omega arith) (rw (fieldAt-1 (1 + b) s l) (ne-eqb r (getD s (1 + b) 0) (λ e. n (sym e))))
 
     denominator-on : RationalsAhead s b r flags → model b r s 0 ≡ denominatorOn r (bytesAt s b 1) (drop (1 + b + 1) s) (1 + b + 1)
     unfolding rationalsOn
     denominator-on h =
         let l = r-there (h .booleans .sized) in
-        rationals-on (h .booleans) (h .sound) ∙ goes s 1 (eqb r) refusal.BadModel (1 + b) _ (omega arith) (rw (fieldAt-1 s (1 + b) l) (eq-eqb r (getD s (1 + b) 0) (sym (h .count))))
+        rationals-on (h .booleans) (h .sound) ∙ goes s 1 (eqb r) refusal.BadModel (1 + b) _ (omega arith) (rw (fieldAt-1 (1 + b) s l) (eq-eqb r (getD s (1 + b) 0) (sym (h .count))))
 
     pub denominator-bad : RationalsAhead s b r flags → isDenominator (fieldAt (1 + b + 1) 4 s) ≡ false → model b r s 0 ≡ fault refusal.BadModel (1 + b + 1)
     unfolding denominatorOn

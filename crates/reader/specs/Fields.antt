@@ -68,6 +68,3 @@ module _ (q : List ℕ) where
       pub then-good : at + k ≤ length q → good (fieldAt at k q) ≡ true → after (field k good f (drop at q) at) next ≡ next (fieldAt at k q) (drop (at + k) q) (at + k)
       unfolding after
       then-good h e = rw (field-good h e)
-
-  pub fieldAt-1 : (at : ℕ) → at < length q → fieldAt at 1 q ≡ getD q at 0
-  fieldAt-1 at h = omega (arith, fieldAt-next at 0 q h, fieldAt-none (at + 1) q)

@@ -16,7 +16,8 @@ use Rattle.reader.specs.declared.cursor.Cursor.{Cursor}
 use Rattle.reader.specs.declared.cursor.Cursor.the-variants.{Next, Fault}
 use Rattle.reader.specs.Seen.{seen, next-within, seen-fault, seen-next, seen-map}
 use Rattle.reader.specs.Steady.{steady-repeat, steady-amount}
-use Rattle.reader.specs.Fields.{then-short, then-bad, then-good, fieldAt-1}
+use Rattle.layout.specs.Fields.{fieldAt-1}
+use Rattle.reader.specs.Fields.{then-short, then-bad, then-good}
 
 -- ---- an amount
 module _ (q : List ℕ) (at : ℕ) where
@@ -40,13 +41,13 @@ module _ {A : Type 0} (q : List ℕ) (good : ℕ → Bool) (f : Refusal) (at : �
 
   pub byte-bad : at < length q → good (getD q at 0) ≡ false → seen (after (field 1 good f (drop at q) at) next) ≡ Fault f at
   unfolding seen
-  byte-bad h e = ap seen (then-bad q 1 good f at next (omega arith) (ap good (fieldAt-1 q at h) ∙ e))
+  byte-bad h e = ap seen (then-bad q 1 good f at next (omega arith) (ap good (fieldAt-1 at q h) ∙ e))
 
   pub byte-good : at < length q → good (getD q at 0) ≡ true
       → seen (after (field 1 good f (drop at q) at) next) ≡ seen (next (getD q at 0) (drop (at + 1) q) (at + 1))
   byte-good h e =
-      ap seen (then-good q 1 good f at next (omega arith) (ap good (fieldAt-1 q at h) ∙ e))
-      ∙ ap (λ (v : ℕ). seen (next v (drop (at + 1) q) (at + 1))) (fieldAt-1 q at h)
+      ap seen (then-good q 1 good f at next (omega arith) (ap good (fieldAt-1 at q h) ∙ e))
+      ∙ ap (λ (v : ℕ). seen (next v (drop (at + 1) q) (at + 1))) (fieldAt-1 at q h)
 
 -- ---- a literal
 module _ (q : List ℕ) (at b : ℕ) where

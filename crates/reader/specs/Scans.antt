@@ -12,14 +12,15 @@ use Rattle.types.specs.declared.answers.Refusal.{Refusal}
 use Rattle.types.specs.declared.answers.Refusal.the-variants as refusal
 use Rattle.types.specs.Limits as limit
 use Rattle.rules.specs.Bytes.{fieldAt}
-use Rattle.rules.specs.Problem.{Clause, Problem, Read, fault, got, Reader, after, _>>=_, return, repeat, field, clause, end, problem}
+use Rattle.rules.specs.Problem.{Clause, Problem, Read, fault, got, Reader, after, return, repeat, field, clause, end, problem}
 use Rattle.reader.specs.declared.cursor.Cursor.{Cursor}
 use Rattle.reader.specs.declared.cursor.Cursor.the-variants as cursor
 use Rattle.reader.specs.declared.cursor.Scan.{Scan}
 use Rattle.reader.specs.declared.cursor.Scan.the-variants.{Sound, Fault}
 use Rattle.reader.specs.Seen.{seen, Kept}
 use Rattle.reader.specs.Steady.{steady-repeat, steady-clause}
-use Rattle.reader.specs.Fields.{then-short, then-bad, then-good, fieldAt-1}
+use Rattle.layout.specs.Fields.{fieldAt-1}
+use Rattle.reader.specs.Fields.{then-short, then-bad, then-good}
 
 unfoldable pub outline : Read Problem → Scan
 outline (fault f place) = Fault f place
@@ -129,24 +130,24 @@ module _ (q : List ℕ) where
 
   pub problem-bad-b : 1 ≤ length q → limit.booleans < getD q 0 0 → outline (problem q 0) ≡ Fault refusal.Booleans 0
   unfolding problem
-  problem-bad-b h l = at-most-bad q 1 limit.booleans refusal.Booleans 0 _ h (omega (arith, fieldAt-1 q 0 h))
+  problem-bad-b h l = at-most-bad q 1 limit.booleans refusal.Booleans 0 _ h (omega (arith, fieldAt-1 0 q h))
 
   module _ (hb : 1 ≤ length q) (lb : getD q 0 0 ≤ limit.booleans) where
     pub problem-short-r : length q < 2 → outline (problem q 0) ≡ Fault refusal.Truncated (length q)
     unfolding problem
     problem-short-r l =
-        ap outline (at-most-good q 1 limit.booleans refusal.Booleans 0 _ hb (omega (arith, fieldAt-1 q 0 hb))) ∙ at-most-short q 1 limit.rationals refusal.Rationals 1 _ hb l
+        ap outline (at-most-good q 1 limit.booleans refusal.Booleans 0 _ hb (omega (arith, fieldAt-1 0 q hb))) ∙ at-most-short q 1 limit.rationals refusal.Rationals 1 _ hb l
 
     pub problem-bad-r : 2 ≤ length q → limit.rationals < getD q 1 0 → outline (problem q 0) ≡ Fault refusal.Rationals 1
     unfolding problem
     problem-bad-r h l =
-        ap outline (at-most-good q 1 limit.booleans refusal.Booleans 0 _ hb (omega (arith, fieldAt-1 q 0 hb))) ∙ at-most-bad q 1 limit.rationals refusal.Rationals 1 _ h (omega (arith, fieldAt-1 q 1 h))
+        ap outline (at-most-good q 1 limit.booleans refusal.Booleans 0 _ hb (omega (arith, fieldAt-1 0 q hb))) ∙ at-most-bad q 1 limit.rationals refusal.Rationals 1 _ h (omega (arith, fieldAt-1 1 q h))
 
     module _ (hr : 2 ≤ length q) (lr : getD q 1 0 ≤ limit.rationals) where
       pub problem-short-n : length q < 4 → outline (problem q 0) ≡ Fault refusal.Truncated (length q)
       unfolding problem
       problem-short-n l =
-          ap outline (at-most-good q 1 limit.booleans refusal.Booleans 0 _ hb (omega (arith, fieldAt-1 q 0 hb)) ∙ at-most-good q 1 limit.rationals refusal.Rationals 1 _ hr (omega (arith, fieldAt-1 q 1 hr)))
+          ap outline (at-most-good q 1 limit.booleans refusal.Booleans 0 _ hb (omega (arith, fieldAt-1 0 q hb)) ∙ at-most-good q 1 limit.rationals refusal.Rationals 1 _ hr (omega (arith, fieldAt-1 1 q hr)))
           ∙ at-most-short q 2 limit.clauses refusal.Clauses 2 _ hr l
 
 -- b and r are there and within their limits, and n is there
@@ -165,13 +166,13 @@ module _ (q : List ℕ) (h : Header q) where
   pub problem-bad-n : limit.clauses < fieldAt 2 2 q → outline (problem q 0) ≡ Fault refusal.Clauses 2
   unfolding problem
   problem-bad-n l =
-      ap outline (at-most-good q 1 limit.booleans refusal.Booleans 0 _ b-there (omega (arith, fieldAt-1 q 0 b-there, h .booleans)) ∙ at-most-good q 1 limit.rationals refusal.Rationals 1 _ r-there (omega (arith, fieldAt-1 q 1 r-there, h .rationals)))
+      ap outline (at-most-good q 1 limit.booleans refusal.Booleans 0 _ b-there (omega (arith, fieldAt-1 0 q b-there, h .booleans)) ∙ at-most-good q 1 limit.rationals refusal.Rationals 1 _ r-there (omega (arith, fieldAt-1 1 q r-there, h .rationals)))
       ∙ at-most-bad q 2 limit.clauses refusal.Clauses 2 _ (h .clauses) l
 
   pub problem-good : fieldAt 2 2 q ≤ limit.clauses → problem q 0 ≡ body (getD q 0 0) (getD q 1 0) (fieldAt 2 2 q) (drop 4 q) 4
   unfolding problem body
   problem-good ln =
-      at-most-good q 1 limit.booleans refusal.Booleans 0 _ b-there (omega (arith, fieldAt-1 q 0 b-there, h .booleans))
-      ∙ at-most-good q 1 limit.rationals refusal.Rationals 1 _ r-there (omega (arith, fieldAt-1 q 1 r-there, h .rationals))
+      at-most-good q 1 limit.booleans refusal.Booleans 0 _ b-there (omega (arith, fieldAt-1 0 q b-there, h .booleans))
+      ∙ at-most-good q 1 limit.rationals refusal.Rationals 1 _ r-there (omega (arith, fieldAt-1 1 q r-there, h .rationals))
       ∙ at-most-good q 2 limit.clauses refusal.Clauses 2 _ (h .clauses) ln
-      ∙ rw (fieldAt-1 q 0 b-there, fieldAt-1 q 1 r-there)
+      ∙ rw (fieldAt-1 0 q b-there, fieldAt-1 1 q r-there)

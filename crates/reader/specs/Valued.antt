@@ -14,7 +14,8 @@ use Rattle.types.specs.declared.answers.Refusal.{Refusal}
 use Rattle.types.specs.declared.answers.Refusal.the-variants as refusal
 use Rattle.rules.specs.Bytes.{fromUnsigned, fieldAt}
 use Rattle.rules.specs.Problem.{Read, fault, got, Reader, after, repeat, field, inRange, amount, literal, constraint, clause}
-use Rattle.reader.specs.Fields.{field-short, field-bad, field-good, fieldAt-1}
+use Rattle.layout.specs.Fields.{fieldAt-1}
+use Rattle.reader.specs.Fields.{field-short, field-bad, field-good}
 use Rattle.reader.specs.Values.{valuesAt, behind, behind-is, constraintBytes, amountAt, literalAt, boundOf, constraintAt, countOf, clauseAt, clauseEnd}
 use Rattle.reader.specs.Sound.{Each, Amount, SoundConstraint, SoundClause}
 
@@ -47,7 +48,7 @@ module _ (q : List ℕ) where
     where
       by : Valued q (fieldAt at 1 q) (good (fieldAt at 1 q) ≡ true) (at + 1) (field 1 good f (drop at q) at) → Valued q (getD q at 0) (good (getD q at 0) ≡ true) (at + 1) (field 1 good f (drop at q) at)
       by (faulty g place e) = faulty g place e
-      by (given e l s) = rw (fieldAt-1 q at (omega arith)) at (given e l s)
+      by (given e l s) = rw (fieldAt-1 at q (omega arith)) at (given e l s)
 
   pub amount-valued : (f : Refusal) (at : ℕ) → at ≤ length q → Valued q (amountAt q at) (Amount q at) (at + 4) (amount f (drop at q) at)
   unfolding amount amountAt inRange

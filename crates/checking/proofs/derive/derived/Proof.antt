@@ -2,9 +2,10 @@
 use mathlib.Core.Path.{_≡_, subst, sym}
 use native.Mathlib.Omega.{arith}
 use lib.ListN.{length}
+use Rattle.layout.specs.Fields.{fieldAt-1}
 use Rattle.lines.specs.Line.{Ready}
 use Rattle.checking.specs.Stated.{states-none}
-use Rattle.checking.specs.Results.{byte-field, states-same, first-beyond, second-beyond, result-found}
+use Rattle.checking.specs.Results.{states-same, first-beyond, second-beyond, result-found}
 use borrow.Author.Needs.{needs}
 use Rattle.checking.proofs.derive.derived.Statement.{statement}
 use Rattle.checking.proofs.derive.derived.Tie as tie
@@ -73,8 +74,8 @@ returns-3 c =
     let s = k .before .before .before .before .before in
     states-same
     (result-found (s .args .proof .now) (s .args .t3) (s .args .i)
-    (byte-field 0 (s .args .t3) (omega (arith, size s)))
-    (byte-field 1 (s .args .t3) (omega (arith, size s)))
+    (fieldAt-1 0 (s .args .t3) (omega (arith, size s)))
+    (fieldAt-1 1 (s .args .t3) (omega (arith, size s)))
     (k .before .before .u16-at .ensures)
     (k .u16-at2 .ensures)
     (e .before .if1 .left)

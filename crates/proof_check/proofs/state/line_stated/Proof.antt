@@ -4,8 +4,9 @@ use native.Mathlib.Omega.{arith}
 use lib.ListN.{length, getD}
 use Rattle.rules.specs.Bytes.{fieldAt}
 use Rattle.rules.specs.Elimination.{loadableOf}
+use Rattle.layout.specs.Fields.{fieldAt-1}
 use Rattle.proof_lines.specs.Held.{linesIn}
-use Rattle.checking.specs.Results.{byte-field, states-same}
+use Rattle.checking.specs.Results.{states-same}
 use Rattle.proof_check.specs.Index.{problemOf}
 use Rattle.proof_check.specs.Loaded.{loaded-other, stated-loaded, stated-derived}
 use borrow.Author.Needs.{needs}
@@ -19,7 +20,7 @@ loaded-requires : tie.Need-loaded-requires
 loaded-requires c κs = search needs
 
 first-byte : (s : tie.Start) → fieldAt 0 1 (s .args .t7) ≡ getD (s .args .t7) 0 0
-first-byte s = let n : length (s .args .t7) ≡ 64 = search (needs, s .good) in byte-field 0 (s .args .t7) (omega arith)
+first-byte s = let n : length (s .args .t7) ≡ 64 = search (needs, s .good) in fieldAt-1 0 (s .args .t7) (omega arith)
 
 returns : tie.Need-returns
 returns c =

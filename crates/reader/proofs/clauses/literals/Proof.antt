@@ -1,6 +1,5 @@
 -- `clauses::literals` meets its contract: a run that counts down.
 use mathlib.Core.Path.{refl, sym}
-use Prim.Native.Nat.{_+_}
 use borrow.Author.Needs.{needs}
 use Rattle.rules.specs.Problem.{literal}
 use Rattle.reader.specs.Run.{Run, run-start, run-done, run-stop, run-next}
