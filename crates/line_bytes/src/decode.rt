@@ -3,13 +3,13 @@ use fields::amount_at;
 use fields::u32_at;
 use lines::line::Line;
 ghost use mathlib.Core.Path.{_≡_};
-ghost use Prim.Native.Nat.{_≤_, _<_};
+ghost use Prim.Native.Nat.{_+_, _≤_};
 ghost use Rattle.rules.specs.Bytes.{fieldAt};
 ghost use Rattle.line_bytes.specs.Decoding.{amountsAt, decoded};
 
-fn mask_at(s: &[u8], at: usize) -> u32
-    requires { do ⌜ at ≤ 60 ⌝ }
-    requires { do ⌜ 64 ≤ (← ⟦s.len()⟧) ⌝ }
+// Four bytes as a set of Boolean variables.
+pub fn mask_at(s: &[u8], at: usize) -> u32
+    requires { do ⌜ at + 4 ≤ (← ⟦s.len()⟧) ⌝ }
     ensures { λ r. ⌜ r ≡ fieldAt at 4 (now (s .entry)) ⌝ }
 {
     u32_at(s, at) as u32

@@ -1,6 +1,6 @@
 // The lines of a turn that have its variable on one side: positive (an upper bound) or negative.
 use fields::amount_at;
-use fields::u32_at;
+use line_bytes::decode::mask_at;
 use machine::sign::is_negative;
 use machine::sign::is_positive;
 use masks::member;
@@ -8,7 +8,6 @@ use proof_lines::line_at;
 ghost use mathlib.Core.Path.{_≡_};
 ghost use Prim.Native.Nat.{_+_, _*_, _≤_, _<_};
 ghost use lib.ListN.{length};
-ghost use Rattle.rules.specs.Bytes.{fieldAt};
 ghost use Rattle.rules.specs.Lines.{rational, boolean, coefficient};
 ghost use Rattle.lines.specs.Line.{meaning, Shaped};
 ghost use Rattle.proof_lines.specs.Held.{lineAt};
@@ -41,13 +40,6 @@ fn rational_side(proof: &[u8], i: usize, f: usize, upper: bool) -> bool
         return is_positive(z);
     }
     is_negative(z)
-}
-
-fn mask_at(proof: &[u8], at: usize) -> u32
-    requires { ⌜ at + 4 ≤ length (now proof) ⌝ }
-    ensures { λ r. ⌜ r ≡ fieldAt at 4 (now (proof .entry)) ⌝ }
-{
-    u32_at(proof, at) as u32
 }
 
 fn boolean_side(proof: &[u8], i: usize, b: usize, upper: bool) -> bool
