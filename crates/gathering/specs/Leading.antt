@@ -11,7 +11,9 @@ use lib.Bits.{bitOr}
 use Rattle.rules.specs.Arithmetic.{isPositive, isNegative, isZero}
 use Rattle.rules.specs.Elimination.{order, roundOf}
 use Rattle.rules.specs.Lines.{rational, positively, negatively}
+use Rattle.lists.specs.Tests.{of-false}
 use Rattle.lists.specs.All.{getD-replicate-same}
+use Rattle.vectors.specs.Sign.{0<abs-nonzero}
 use Rattle.lines.specs.declared.line.Line.{Line}
 use Rattle.lines.specs.Line.{meaning, Shaped}
 use Rattle.lines.specs.Forms.{here, leading, round-is, coefficient-is}
@@ -35,13 +37,7 @@ module _ (l : Line) (k : Shaped l) (n : length (l .coefficients) ≡ 8) (f : ℕ
   leads = leading-nonzero (l .coefficients) (trailingZeros 32 (bitOr (l .positive) (l .negative))) f (omega arith) (sym (round-is l k n) ∙ e)
 
   pub round-coefficient : 0 < natAbs a
-  unfolding isZero
-  round-coefficient = by a leads
-    where
-      by : (z : ℤ) → isZero z ≡ false → 0 < natAbs z
-      by (pos zero) e = let z : _≡_ {A = ℕ} 0 1 = cc in absurd (omega arith)
-      by (pos (suc m)) e = omega arith
-      by (negsuc m) e = omega arith
+  round-coefficient = 0<abs-nonzero a (of-false (isZero a) leads)
 
   pub round-related : 0 < l .relation
   round-related = by (l .relation) refl

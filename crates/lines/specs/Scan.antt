@@ -12,6 +12,7 @@ use mir.Facts.{toZ-ofZ}
 use Rattle.rules.specs.Arithmetic.{equal}
 use Rattle.lists.specs.Tests.{tests-agree}
 use Rattle.vectors.specs.Sign.{equal-yes, yes-equal}
+use Rattle.machine.specs.Signed.{bits-injective}
 
 -- the test has held at no place so far
 pub record Scanned (t : ℕ → Bool) (i : ℕ) : Type 0 where
@@ -33,5 +34,5 @@ told t z f e = ap t (sym (toZ-ofZ f)) ∙ sym e
 pub equal-test : (a b : ℤ) → SFits w64 a → SFits w64 b → eqb (ofZ w64 a) (ofZ w64 b) ≡ equal a b
 equal-test a b f g =
     tests-agree (eqb (ofZ w64 a) (ofZ w64 b)) (equal a b)
-    (λ h. yes-equal (sym (toZ-ofZ f) ∙ ap (toZ w64) (eqb→eq (ofZ w64 a) (ofZ w64 b) h) ∙ toZ-ofZ g))
+    (λ h. yes-equal (bits-injective a b f g (eqb→eq (ofZ w64 a) (ofZ w64 b) h)))
     (λ h. subst (λ (z : ℤ). T (eqb (ofZ w64 a) (ofZ w64 z))) (equal-yes a b h) (eqb-refl (ofZ w64 a)))

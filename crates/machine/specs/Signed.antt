@@ -32,7 +32,7 @@ unfolding isNegative
 negative-test (pos n) = le-ltb n 0 (omega arith)
 negative-test (negsuc n) = refl
 
-bits-injective : (a b : ℤ) → SFits w64 a → SFits w64 b → ofZ w64 a ≡ ofZ w64 b → a ≡ b
+pub bits-injective : (a b : ℤ) → SFits w64 a → SFits w64 b → ofZ w64 a ≡ ofZ w64 b → a ≡ b
 bits-injective a b f g e = sym (toZ-ofZ f) ∙ ap (toZ w64) e ∙ toZ-ofZ g
 
 pub zero-test : (z : ℤ) → SFits w64 z → eqb (ofZ w64 z) 0 ≡ isZero z

@@ -3,18 +3,17 @@ use mathlib.Core.Path.{_≡_}
 use mathlib.Core.Bool.{true, false}
 use mathlib.Core.List.{List}
 use Prim.Native.Nat.{ℕ, _≤_, _<_}
-use native.Mathlib.Omega.{arith}
 use borrow.Author.Tests.{lt-ltb, le-ltb}
 use lib.ListN.{length}
 use Rattle.types.specs.declared.answers.Refusal.{Refusal}
 use Rattle.types.specs.declared.answers.Refusal.the-variants as refusal
 use Rattle.types.specs.declared.answers.Checked.the-variants.{Refused}
 use Rattle.types.specs.Limits as limit
-use Rattle.rules.specs.Calls.{Reading, faulty, sound, read, modelChecked}
+use Rattle.rules.specs.Calls.{sound, read, modelChecked}
 use Rattle.rules.specs.Checker.{checkClauses}
 use Rattle.reader.specs.declared.cursor.Scan.the-variants.{Fault}
 use Rattle.reading.specs.Clauses.{clausesAt}
-use Rattle.reading.specs.Outcome.{outcome}
+use Rattle.reading.specs.Outcome.{outcome, outcome-faulty}
 use Rattle.reading.specs.Readable.{Readable}
 use Rattle.evaluation.specs.Model.{assignment}
 use Rattle.models.specs.declared.sheet.Sheet.{Sheet}
@@ -23,12 +22,8 @@ use Rattle.models.specs.Sheet.{ReadModel}
 
 -- ---- the question's faults
 pub checked-fault : (q s : List ℕ) (f : Refusal) (place : ℕ) → outcome (read q) ≡ Fault f place → modelChecked q s ≡ Refused f place
-unfolding modelChecked outcome
-checked-fault q s f place e = let i : read q ≡ faulty f place = by (read q) e in rw (i, modelChecked)
-  where
-    by : (o : Reading) → outcome o ≡ Fault f place → o ≡ faulty f place
-    by (faulty g p) e = cc
-    by (sound p) e = let z : _≡_ {A = ℕ} 0 1 = cc in absurd (omega arith)
+unfolding modelChecked
+checked-fault q s f place e = rw (outcome-faulty (read q) f place e, modelChecked)
 
 -- ---- the sheet's, and the clauses
 module _ {q : List ℕ} {b r n : ℕ} (given : Readable q b r n) (s : List ℕ) where

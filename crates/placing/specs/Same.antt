@@ -5,7 +5,6 @@ use mathlib.Core.List.{List, _++_, append-assoc}
 use mathlib.Core.Option.{Option, none, some}
 use Prim.Native.Nat.{ℕ, _+_, _-_, _≤_, _<_}
 use native.Mathlib.Omega.{arith}
-use lib.IntN.{ℤ}
 use lib.Dec.{T, eqb, eqb→eq, eqb-refl}
 use lib.ListN.{length, take, drop, replicate, length-append}
 use lib.Seq.{drop-at, drop-drop}
@@ -22,7 +21,7 @@ use Rattle.lists.specs.Tests.{tests-agree}
 use Rattle.lists.specs.Tabulated.{length-tabulate, getD-tabulate}
 use Rattle.lists.specs.Equal.{same-yes, yes-same}
 use Rattle.lists.specs.Scan.{any-next, any-end}
-use Rattle.vectors.specs.Sign.{yes-equal}
+use Rattle.vectors.specs.Sign.{equal-refl}
 use Rattle.saturation.specs.Equal.{sameLine-yes}
 use Rattle.lines.specs.declared.line.Line.{Line}
 use Rattle.lines.specs.Line.{meaning}
@@ -36,14 +35,11 @@ self : (a : Bool) → T (Bool·beq a a)
 self true = tt
 self false = tt
 
-equal-self : (z : ℤ) → T (equal z z)
-equal-self z = yes-equal refl
-
 constraint-self : (c : Option Constraint) → T (sameConstraint c c)
 unfolding sameConstraint
 constraint-self none = tt
 constraint-self (some c) =
-    yes-and (equal (c .bound) (c .bound) && Bool·beq (c .strict) (c .strict)) (same equal (c .coefficients) (c .coefficients)) (yes-and (equal (c .bound) (c .bound)) (Bool·beq (c .strict) (c .strict)) (equal-self (c .bound)) (self (c .strict))) (yes-same equal equal-self (c .coefficients) (c .coefficients) refl)
+    yes-and (equal (c .bound) (c .bound) && Bool·beq (c .strict) (c .strict)) (same equal (c .coefficients) (c .coefficients)) (yes-and (equal (c .bound) (c .bound)) (Bool·beq (c .strict) (c .strict)) (equal-refl (c .bound)) (self (c .strict))) (yes-same equal equal-refl (c .coefficients) (c .coefficients) refl)
 
 line-self : (l : rules.Line) → T (sameLine l l)
 unfolding sameLine

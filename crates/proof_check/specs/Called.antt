@@ -3,23 +3,17 @@ use mathlib.Core.Path.{_≡_, sym}
 use mathlib.Core.Bool.{true, false}
 use mathlib.Core.List.{List}
 use Prim.Native.Nat.{ℕ}
-use native.Mathlib.Omega.{arith}
 use lib.ListN.{length}
 use Rattle.types.specs.declared.answers.Refusal.{Refusal}
 use Rattle.types.specs.declared.answers.Refusal.the-variants as refusal
 use Rattle.types.specs.declared.answers.Checked.the-variants.{Refused}
 use Rattle.types.specs.declared.limits.Limits.{Limits}
-use Rattle.rules.specs.Calls.{Reading, faulty, sound, read, wholeSteps, proofChecked}
+use Rattle.rules.specs.Calls.{read, wholeSteps, proofChecked}
 use Rattle.rules.specs.Checker.{checkProof}
 use Rattle.reader.specs.declared.cursor.Scan.the-variants.{Fault}
 use Rattle.reading.specs.Parsed.{problemAt}
-use Rattle.reading.specs.Outcome.{outcome}
+use Rattle.reading.specs.Outcome.{outcome, outcome-faulty}
 use Rattle.reading.specs.Readable.{Readable}
-
-outcome-faulty : (o : Reading) (f : Refusal) (place : ℕ) → outcome o ≡ Fault f place → o ≡ faulty f place
-unfolding outcome
-outcome-faulty (faulty g p) f place e = let x : g ≡ f = cc in let y : p ≡ place = cc in (λ i. faulty (x i) (y i))
-outcome-faulty (sound p) f place e = let z : _≡_ {A = ℕ} 0 1 = cc in absurd (omega arith)
 
 module _ (limits : Limits) (q proof : List ℕ) where
   pub called-faulty : (f : Refusal) (place : ℕ) → outcome (read q) ≡ Fault f place → Refused f place ≡ proofChecked limits q proof

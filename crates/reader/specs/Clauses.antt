@@ -9,7 +9,7 @@ use lib.ListN.{length, drop, getD}
 use Rattle.types.specs.declared.answers.Refusal.{Refusal}
 use Rattle.types.specs.declared.answers.Refusal.the-variants as refusal
 use Rattle.types.specs.Limits as limit
-use Rattle.rules.specs.Problem.{Literal, Constraint, Read, Reader, repeat, field, literal, constraint, clause}
+use Rattle.rules.specs.Problem.{Literal, Constraint, Read, Reader, _>>=_, repeat, field, literal, constraint, clause}
 use Rattle.reader.specs.declared.cursor.Cursor.{Cursor}
 use Rattle.reader.specs.declared.cursor.Cursor.the-variants.{Next, Fault}
 use Rattle.reader.specs.Seen.{seen, next-within, seen-fault, seen-next, seen-then-map}

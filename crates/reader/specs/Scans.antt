@@ -12,7 +12,7 @@ use Rattle.types.specs.declared.answers.Refusal.{Refusal}
 use Rattle.types.specs.declared.answers.Refusal.the-variants as refusal
 use Rattle.types.specs.Limits as limit
 use Rattle.rules.specs.Bytes.{fieldAt}
-use Rattle.rules.specs.Problem.{Clause, Problem, Read, fault, got, Reader, after, return, repeat, field, clause, end, problem}
+use Rattle.rules.specs.Problem.{Clause, Problem, Read, fault, got, Reader, _>>=_, after, return, repeat, field, clause, end, problem}
 use Rattle.reader.specs.declared.cursor.Cursor.{Cursor}
 use Rattle.reader.specs.declared.cursor.Cursor.the-variants as cursor
 use Rattle.reader.specs.declared.cursor.Scan.{Scan}

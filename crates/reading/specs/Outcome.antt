@@ -3,6 +3,7 @@ use mathlib.Core.Path.{_≡_, sym, ap, _∙_}
 use mathlib.Core.List.{List}
 use mathlib.Core.Option.{none, some}
 use Prim.Native.Nat.{ℕ}
+use native.Mathlib.Omega.{arith}
 use lib.ListN.{length}
 use Rattle.types.specs.declared.answers.Refusal.{Refusal}
 use Rattle.types.specs.declared.answers.Refusal.the-variants as refusal
@@ -21,6 +22,12 @@ use Rattle.reading.specs.Parsed.{problemAt, Parsed}
 unfoldable pub outcome : Reading → Scan
 outcome (faulty f place) = Fault f place
 outcome (sound p) = Sound (p .booleans) (p .rationals) (length (p .clauses))
+
+-- a fault that it says is the question's
+pub outcome-faulty : (r : Reading) (f : Refusal) (place : ℕ) → outcome r ≡ Fault f place → r ≡ faulty f place
+unfolding outcome
+outcome-faulty (faulty g p) f place e = cc
+outcome-faulty (sound p) f place e = let z : _≡_ {A = ℕ} 0 1 = cc in absurd (omega arith)
 
 pub outcome-fault : (q : List ℕ) (f : Refusal) (place : ℕ) → scanned q ≡ Fault f place → outcome (read q) ≡ Fault f place
 unfolding outcome

@@ -2,14 +2,11 @@
 use mathlib.Core.Path.{_≡_, refl}
 use mathlib.Core.List.{List}
 use Prim.Native.Nat.{ℕ}
-use native.Mathlib.Omega.{arith}
 use Rattle.types.specs.declared.answers.Refusal.{Refusal}
 use Rattle.types.specs.declared.answers.Answer.the-variants.{Refused}
 use Rattle.types.specs.declared.answers.Solved.{Solved}
 use Rattle.types.specs.declared.limits.Limits.{Limits}
-use Rattle.rules.specs.Calls.{Reading, Outcome, faulted, faulty, sound, outcome, said, proofAfter, modelAfter}
-use Rattle.reader.specs.declared.cursor.Scan.the-variants.{Fault}
-use Rattle.reading.specs.Outcome as scan
+use Rattle.rules.specs.Calls.{Outcome, faulted, said, proofAfter, modelAfter}
 
 -- of the lent bytes and what they are then
 pub record Leaves (limits : Limits) (o : Outcome) (lentProof lentModel after filled : List ℕ) (s : Solved) : Type 0 where
@@ -24,9 +21,3 @@ faultedBy f place = record { answer = Refused f place; pairs = 0 }
 pub leaves-faulted : (limits : Limits) (f : Refusal) (place : ℕ) (proof model : List ℕ) → Leaves limits (faulted f place) proof model proof model (faultedBy f place)
 unfolding said proofAfter modelAfter
 leaves-faulted limits f place proof model = record { says = refl; proof = refl; model = refl }
-
--- a fault that reading gave is the question's
-pub read-fault : (r : Reading) (f : Refusal) (place : ℕ) → scan.outcome r ≡ Fault f place → r ≡ faulty f place
-unfolding scan.outcome
-read-fault (faulty g p) f place e = cc
-read-fault (sound p) f place e = let z : _≡_ {A = ℕ} 0 1 = cc in absurd (omega arith)

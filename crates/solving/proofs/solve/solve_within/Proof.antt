@@ -3,8 +3,9 @@ use mathlib.Core.Path.{sym, _∙_}
 use native.Mathlib.Omega.{arith}
 use Rattle.rules.specs.Calls.{read}
 use Rattle.soundness.specs.Lent.{lent-short-proof, lent-short-model, lent-fault, lent-sound}
+use Rattle.reading.specs.Outcome.{outcome-faulty}
 use Rattle.reading.specs.Readable.{readable}
-use Rattle.solving.specs.Leaves.{leaves-faulted, read-fault}
+use Rattle.solving.specs.Leaves.{leaves-faulted}
 use borrow.Author.Needs.{needs}
 use Rattle.solving.proofs.solve.solve_within.Statement.{statement}
 use Rattle.solving.proofs.solve.solve_within.Tie as tie
@@ -66,7 +67,7 @@ returns-3 c =
     let b = l .before .before in
     let s = b .before .before .before .before in
     let a = s .args in
-    let e = read-fault (read (a .question .now)) _ _ (sym (d .read .ensures) ∙ m .s .given .1) in
+    let e = outcome-faulty (read (a .question .now)) _ _ (sym (d .read .ensures) ∙ m .s .given .1) in
     rw (lent-fault (a .limits) (a .question .now) (a .proof .now) (a .model .now) (rw (b .proof-bytes .ensures) at (l .before .if1 .left)) (l .if2 .left) _ _ e, c .faulted3 .ensures) (leaves-faulted (a .limits) _ _ (a .proof .now) (a .model .now))
 
 same-length : tie.Need-same-length
