@@ -13,8 +13,8 @@ use Rattle.rules.specs.Lines as rules
 use Rattle.rules.specs.Steps.{Header, Step, header}
 use Rattle.rules.specs.Checker.{lineAmong}
 use Rattle.lists.specs.Tests.{of-true}
-use Rattle.lists.specs.All.{getD-replicate-same}
 use Rattle.lists.specs.Equal.{same-yes}
+use Rattle.vectors.specs.Amounts.{zeros-amounts}
 use Rattle.lines.specs.declared.line.Line.{Line}
 use Rattle.lines.specs.Line.{meaning, Ready}
 use Rattle.line_bytes.specs.Encoding.{encoded, encodeStep-is}
@@ -90,6 +90,6 @@ pub empty-ready : Ready (record { positive = 0; negative = 0; relation = 0; coef
 empty-ready =
     record {
       shaped = record { related = omega arith; coefficients = λ e. refl; bound = λ e. refl };
-      coefficients = record { small = λ i. rw (getD-replicate-same 8 i (pos 0)) (omega arith) };
+      coefficients = zeros-amounts 8;
       bound = omega arith;
     }

@@ -11,8 +11,9 @@ use Rattle.integers.specs.Ring.{+-identityʳ, +-identityˡ, +-assoc}
 use Rattle.integers.specs.Size.{abs-+-≤}
 use Rattle.rules.specs.Arithmetic.{sum, related}
 use Rattle.rules.specs.Meaning.{constraintHolds}
+use Rattle.vectors.specs.Amounts.{Small}
 use Rattle.vectors.specs.Dot.{sum-values, sum-coefficients}
-use Rattle.rows.specs.Amount.{product-≤}
+use Rattle.rows.specs.Products.{product-≤}
 use Rattle.reader.specs.Values.{valuesAt, behind, behind-is, amountAt, boundOf, constraintAt}
 use Rattle.reader.specs.Sound.{Each, Amount, each-first, each-rest}
 use Rattle.clauses.specs.Turns.{values-next, behind-next}
@@ -66,7 +67,7 @@ module _ (q : List ℕ) (numerators : List ℤ) (from count at left i : ℕ) (to
     pub summing-amount : Amount q at
     summing-amount = each-first (Amount q) 4 left at more (run .each)
 
-    pub summing-next : natAbs (value numerators i) ≤ 1000000000 → Summing q numerators from count (at + 4) (left - 1) (i + 1) (total +ℤ amountAt q at *ℤ value numerators i)
+    pub summing-next : Small (value numerators i) → Summing q numerators from count (at + 4) (left - 1) (i + 1) (total +ℤ amountAt q at *ℤ value numerators i)
     unfolding sum
     summing-next h =
         let rest = valuesAt (amountAt q) 4 (left - 1) (at + 4) in

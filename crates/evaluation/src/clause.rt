@@ -8,7 +8,7 @@ ghost use Prim.Native.Nat.{_+_, _*_, _≤_};
 ghost use lib.ListN.{length};
 ghost use Rattle.rules.specs.Lists.{any};
 ghost use Rattle.rules.specs.Meaning.{literalHolds, constraintHolds, clauseHolds};
-ghost use Rattle.rows.specs.Amount.{Amounts};
+ghost use Rattle.vectors.specs.Amounts.{Amounts};
 ghost use Rattle.reader.specs.Values.{valuesAt, behind, literalAt, constraintAt, clauseAt};
 ghost use Rattle.reader.specs.Sound.{Each, SoundConstraint, SoundClause};
 ghost use Rattle.evaluation.specs.Model.{assignment};

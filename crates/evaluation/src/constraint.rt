@@ -8,7 +8,7 @@ ghost use Prim.Native.Nat.{_+_, _≤_};
 ghost use lib.ListN.{length};
 ghost use Rattle.rules.specs.Arithmetic.{sum};
 ghost use Rattle.rules.specs.Meaning.{constraintHolds};
-ghost use Rattle.rows.specs.Amount.{Amounts};
+ghost use Rattle.vectors.specs.Amounts.{Amounts};
 ghost use Rattle.reader.specs.Values.{valuesAt, behind, amountAt, constraintAt};
 ghost use Rattle.reader.specs.Sound.{Each, Amount, SoundConstraint};
 ghost use Rattle.evaluation.specs.Model.{assignment, value};

@@ -1,9 +1,10 @@
 -- The assignments that the walk goes on with: amounts over a denominator that is an amount, at least 1.
 use Prim.Native.Nat.{_≤_, _<_}
-use Rattle.rows.specs.Amount.{Amounts}
+use Rattle.types.specs.Limits.{amount}
+use Rattle.vectors.specs.Amounts.{Amounts}
 use Rattle.evaluation.specs.declared.model.Model.{Model}
 
 pub record InRange (m : Model) : Type 0 where
   pub amounts : Amounts (m .numerators)
   pub positive : 0 < m .denominator
-  pub small : m .denominator ≤ 1000000000
+  pub small : m .denominator ≤ amount

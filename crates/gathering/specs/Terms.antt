@@ -1,15 +1,16 @@
 -- Sums of coefficient × numerator from the last term on, and their widths.
 use mathlib.Core.Path.{_≡_, ap}
-use mathlib.Core.List.{List, [], _∷_}
-use Prim.Native.Nat.{ℕ, zero, suc, _+_, _*_, _-_, _≤_, _<_}
+use mathlib.Core.List.{List}
+use Prim.Native.Nat.{ℕ, suc, _+_, _*_, _-_, _≤_, _<_}
 use native.Mathlib.Omega.{arith}
 use lib.IntN.{ℤ, pos, natAbs, _+ℤ_, _*ℤ_}
-use lib.ListN.{length, getD, set, drop}
+use lib.ListN.{length, getD, drop}
 use lib.Seq.{drop-cons, drop-length}
 use Rattle.integers.specs.Size.{abs-+-≤}
 use Rattle.rules.specs.Arithmetic.{sum}
 use Rattle.vectors.specs.Dot.{sum-values}
-use Rattle.rows.specs.Amount.{Amounts, product-≤}
+use Rattle.vectors.specs.Amounts.{Amounts}
+use Rattle.rows.specs.Products.{product-≤}
 use Rattle.evaluation.specs.Model.{value}
 
 -- the terms from place i on
@@ -44,14 +45,3 @@ module _ (row numerators : List ℤ) where
     terms-≤ k a b t =
         rw terms-more
         (omega (arith, abs-+-≤ (getD row i (pos 0) *ℤ value numerators i) (termsFrom row numerators (suc i)) (product-≤ (getD row i (pos 0)) (value numerators i) (a .small i) (b .small i)) t))
-
--- ---- one amount for another
-pub amounts-set : (cs : List ℤ) (f : ℕ) (z : ℤ) → Amounts cs → natAbs z ≤ 1000000000 → Amounts (set cs f z)
-amounts-set cs f z h k = record { small = other cs f (h .small) }
-  where
-    other : (cs : List ℤ) (f : ℕ) → ((i : ℕ) → natAbs (getD cs i (pos 0)) ≤ 1000000000) → (i : ℕ) → natAbs (getD (set cs f z) i (pos 0)) ≤ 1000000000
-    other [] f h i = h i
-    other (c ∷ cs) zero h zero = k
-    other (c ∷ cs) zero h (suc i) = h (suc i)
-    other (c ∷ cs) (suc f) h zero = h zero
-    other (c ∷ cs) (suc f) h (suc i) = other cs f (λ j. h (suc j)) i

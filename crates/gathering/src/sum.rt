@@ -2,7 +2,7 @@
 use rows::product::plus_product;
 ghost use mathlib.Core.Path.{_≡_};
 ghost use Rattle.rules.specs.Arithmetic.{sum};
-ghost use Rattle.rows.specs.Amount.{Amounts};
+ghost use Rattle.vectors.specs.Amounts.{Amounts};
 ghost use Rattle.evaluation.specs.Model.{value};
 
 // From the last term to the first.

@@ -1,16 +1,16 @@
 -- What a step's 64 bytes say of its line, and that the bytes of a line say that line.
 use mathlib.Core.Path.{_≡_, refl, sym, ap, _∙_}
 use mathlib.Core.List.{List, [], _∷_, _++_, append-assoc, append-nil}
-use Prim.Native.Nat.{ℕ, zero, suc, _+_, _*_, _-_, _^_, _≤_, _<_}
+use Prim.Native.Nat.{ℕ, zero, suc, _+_, _*_, _-_, _^_, _<_}
 use native.Mathlib.Omega.{arith}
-use lib.IntN.{ℤ, pos, negsuc, natAbs}
-use lib.Signed.{mag}
+use lib.IntN.{ℤ, pos}
 use lib.ListN.{length, getD, replicate, length-append}
 use lib.Seq.{take-at, drop-at, getD-at}
 use Rattle.rules.specs.Bytes.{toBytes, amountBytes, padded, fromUnsigned, toUnsigned, fieldAt}
 use Rattle.rules.specs.Steps.{Header, headerBytes, lineBytes}
+use Rattle.vectors.specs.Amounts.{Small}
 use Rattle.layout.specs.Bytes.{length-toBytes, fromBytes-toBytes}
-use Rattle.layout.specs.Amounts.{toUnsigned-<, fromUnsigned-toUnsigned, length-amountBytes}
+use Rattle.layout.specs.Amounts.{toUnsigned-<, fromUnsigned-toUnsigned, small-mag, length-amountBytes}
 use Rattle.lines.specs.declared.line.Line.{Line}
 use Rattle.lines.specs.Line.{meaning, Shaped, Ready}
 use Rattle.line_bytes.specs.Encoding.{encoded, literalBytes, lineBytes-is, amountBytes-++, length-headerBytes}
@@ -39,14 +39,10 @@ pub fieldAt-back : (k n at : ℕ) (xs ys : List ℕ) → length xs ≡ at → n 
 unfolding fieldAt
 fieldAt-back k n at xs ys e h = rw (drop-at xs (toBytes k n ++ ys) at e, take-at (toBytes k n) ys k (length-toBytes k n)) (fromBytes-toBytes k n h)
 
-small : (z : ℤ) → natAbs z ≤ 1000000000 → mag z < 2 ^ 31
-small (pos n) h = omega arith
-small (negsuc n) h = omega arith
+pub amountAt-back : (z : ℤ) (at : ℕ) (xs ys : List ℕ) → length xs ≡ at → Small z → fromUnsigned (fieldAt at 4 (xs ++ (toBytes 4 (toUnsigned z) ++ ys))) ≡ z
+amountAt-back z at xs ys e h = ap fromUnsigned (fieldAt-back 4 (toUnsigned z) at xs ys e (toUnsigned-< z (small-mag z h))) ∙ fromUnsigned-toUnsigned z (small-mag z h)
 
-pub amountAt-back : (z : ℤ) (at : ℕ) (xs ys : List ℕ) → length xs ≡ at → natAbs z ≤ 1000000000 → fromUnsigned (fieldAt at 4 (xs ++ (toBytes 4 (toUnsigned z) ++ ys))) ≡ z
-amountAt-back z at xs ys e h = ap fromUnsigned (fieldAt-back 4 (toUnsigned z) at xs ys e (toUnsigned-< z (small z h))) ∙ fromUnsigned-toUnsigned z (small z h)
-
-pub amountsAt-back : (zs : List ℤ) (n at : ℕ) (xs ys : List ℕ) → length xs ≡ at → length zs ≡ n → ((i : ℕ) → natAbs (getD zs i (pos 0)) ≤ 1000000000) → amountsAt n at (xs ++ (amountBytes zs ++ ys)) ≡ zs
+pub amountsAt-back : (zs : List ℤ) (n at : ℕ) (xs ys : List ℕ) → length xs ≡ at → length zs ≡ n → ((i : ℕ) → Small (getD zs i (pos 0))) → amountsAt n at (xs ++ (amountBytes zs ++ ys)) ≡ zs
 unfolding amountsAt amountBytes
 amountsAt-back [] zero at xs ys e l h = refl
 amountsAt-back [] (suc n) at xs ys e l h = absurd (omega arith)
@@ -64,7 +60,7 @@ abbrev joined : List ℕ → ℕ → ℕ → ℕ → List ℤ → ℤ → List �
 joined a r p n cs b rest = a ++ (r ∷ 0 ∷ (toBytes 4 p ++ (toBytes 4 n ++ (amountBytes cs ++ (toBytes 4 (toUnsigned b) ++ rest)))))
 
 joined-back : (a : List ℕ) (r p n : ℕ) (cs : List ℤ) (b : ℤ) (rest : List ℕ) → length a ≡ 6 → length cs ≡ 8 → p < 4294967296 → n < 4294967296
-    → ((i : ℕ) → natAbs (getD cs i (pos 0)) ≤ 1000000000) → natAbs b ≤ 1000000000
+    → ((i : ℕ) → Small (getD cs i (pos 0))) → Small b
     → decoded (joined a r p n cs b rest) ≡ record { positive = p; negative = n; relation = r; coefficients = cs; bound = b }
 unfolding decoded
 joined-back a r p n cs b rest la lc hp hn hc hb =

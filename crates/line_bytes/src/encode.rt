@@ -6,11 +6,10 @@ use lines::line::Line;
 ghost use mathlib.Core.Path.{_≡_};
 ghost use mathlib.Core.List.{[], _∷_, _++_};
 ghost use Prim.Native.Nat.{_≤_};
-ghost use lib.IntN.{natAbs};
 ghost use Rattle.rules.specs.Bytes.{amountBytes};
 ghost use Rattle.rules.specs.Steps.{headerBytes};
 ghost use Rattle.fields.specs.Field.{stored};
-ghost use Rattle.rows.specs.Amount.{Amounts};
+ghost use Rattle.vectors.specs.Amounts.{Small, Amounts};
 ghost use Rattle.lines.specs.Line.{meaning, Ready};
 ghost use Rattle.line_bytes.specs.Encoding.{headerOf, encoded, literalBytes};
 
@@ -53,7 +52,7 @@ fn put_coefficients(s: &mut [u8], row: [i64; 8])
 fn put_row(s: &mut [u8], row: [i64; 8], bound: i64)
     requires { do ⌜ 52 ≤ (← ⟦s.len()⟧) ⌝ }
     requires { ⌜ Amounts row ⌝ }
-    requires { ⌜ natAbs bound ≤ 1000000000 ⌝ }
+    requires { ⌜ Small bound ⌝ }
     ensures { λ _. ⌜ now (s .exit) ≡ stored 16 (amountBytes (row ++ (bound ∷ []))) (now (s .entry)) ⌝ }
 {
     put_coefficients(s, row);

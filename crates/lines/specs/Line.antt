@@ -3,12 +3,12 @@ use mathlib.Core.Path.{_≡_}
 use mathlib.Core.List.{List}
 use mathlib.Core.Option.{Option, none, some}
 use Prim.Native.Nat.{ℕ, zero, suc, _≤_}
-use lib.IntN.{ℤ, pos, natAbs}
+use lib.IntN.{ℤ, pos}
 use lib.Dec.{eqb}
 use lib.ListN.{replicate}
 use Rattle.rules.specs.Problem.{Constraint}
 use Rattle.rules.specs.Lines as rules
-use Rattle.rows.specs.Amount.{Amounts}
+use Rattle.vectors.specs.Amounts.{Small, Amounts}
 use Rattle.lines.specs.declared.line.Line.{Line}
 use Rattle.masks.specs.Mask.{bits}
 
@@ -34,4 +34,4 @@ pub record Shaped (l : Line) : Type 0 where
 pub record Ready (l : Line) : Type 0 where
   pub shaped : Shaped l
   pub coefficients : Amounts (l .coefficients)
-  pub bound : natAbs (l .bound) ≤ 1000000000
+  pub bound : Small (l .bound)

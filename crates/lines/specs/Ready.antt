@@ -1,26 +1,15 @@
 -- Lines whose numbers are amounts, by the constraint that they stand for.
 use mathlib.Core.Path.{_≡_, subst}
 use mathlib.Core.Bool.{false}
-use mathlib.Core.List.{List, [], _∷_}
+use mathlib.Core.List.{[], _∷_}
 use Prim.Native.Nat.{ℕ, zero, suc}
-use lib.IntN.{ℤ}
-use lib.Dec.{T}
-use Rattle.rules.specs.Problem.{inRange}
 use Rattle.rules.specs.Elimination.{overflows}
 use Rattle.lists.specs.Tests.{of-false}
-use Rattle.lists.specs.All.{All, all-map, yes-all, append-all}
-use Rattle.vectors.specs.Amounts.{Small, SmallAmounts, range-small, row-small, overflows-no}
-use Rattle.rows.specs.Amount.{Amounts, all-amounts}
+use Rattle.lists.specs.All.{All, append-all}
+use Rattle.vectors.specs.Amounts.{Small, SmallAmounts, amounts-small, small-amounts, row-small, overflows-no}
 use Rattle.lines.specs.declared.line.Line.{Line}
 use Rattle.lines.specs.Line.{constraintOf, meaning, Shaped, Ready}
 use Rattle.lines.specs.Forms.{row-is}
-
-small-amounts : (zs : List ℤ) → All Small zs → Amounts zs
-small-amounts zs h = all-amounts zs (yes-all inRange zs (all-map Small (λ z. T (inRange z)) zs (λ z. range-small z .1) h))
-
-amounts-small : (zs : List ℤ) → Amounts zs → All Small zs
-amounts-small [] h = tt
-amounts-small (z ∷ zs) h = (h .small 0, amounts-small zs (record { small = λ i. h .small (suc i) }))
 
 pub small-ready : (l : Line) → Shaped l → SmallAmounts (meaning l .constraint) → Ready l
 small-ready l h s =

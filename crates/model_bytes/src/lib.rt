@@ -14,7 +14,7 @@ ghost use Rattle.rules.specs.Bytes.{amountBytes};
 ghost use Rattle.rules.specs.Model.{booleanByte, encodeModel};
 ghost use Rattle.fields.specs.Field.{stored};
 ghost use Rattle.masks.specs.Mask.{bits};
-ghost use Rattle.rows.specs.Amount.{Amounts};
+ghost use Rattle.vectors.specs.Amounts.{Amounts};
 ghost use Rattle.evaluation.specs.Model.{value, assignment};
 
 fn boolean_byte(mask: u32, i: usize) -> u8

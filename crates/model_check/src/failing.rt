@@ -6,7 +6,7 @@ use types::answers::Checked;
 ghost use mathlib.Core.Path.{_≡_};
 ghost use Prim.Native.Nat.{_≤_};
 ghost use Rattle.rules.specs.Checker.{checkClauses};
-ghost use Rattle.rows.specs.Amount.{Amounts};
+ghost use Rattle.vectors.specs.Amounts.{Amounts};
 ghost use Rattle.evaluation.specs.Model.{assignment};
 ghost use Rattle.reading.specs.Clauses.{clausesAt};
 ghost use Rattle.reader.specs.Sound.{SoundClauses};

@@ -1,9 +1,9 @@
 -- The numerators: refused at the first that is no amount, or a row.
-use mathlib.Core.Path.{_≡_, refl, sym, ap, _∙_}
+use mathlib.Core.Path.{_≡_, sym, ap, _∙_}
 use mathlib.Core.Bool.{true, false}
 use mathlib.Core.Logic.{⊎-elim}
 use mathlib.Core.List.{List}
-use Prim.Native.Nat.{ℕ, zero, suc, _+_, _*_, _-_, _≤_, _<_}
+use Prim.Native.Nat.{ℕ, _+_, _*_, _-_, _≤_, _<_}
 use native.Mathlib.Nat.{eq-zero-or-pos}
 use native.Mathlib.Omega.{arith}
 use borrow.Author.Tests.{leb-true}
@@ -11,10 +11,12 @@ use lib.IntN.{ℤ, pos, natAbs}
 use lib.ListN.{length, drop, getD, set, replicate}
 use lib.Seq.{getD-set-same, getD-set-other}
 use Rattle.types.specs.declared.answers.Refusal.the-variants as refusal
+use Rattle.types.specs.Limits as limit
 use Rattle.rules.specs.Bytes.{fromUnsigned}
 use Rattle.rules.specs.Problem.{after, repeat, amount, inRange}
 use Rattle.lists.specs.Tests.{clash, of-false}
-use Rattle.rows.specs.Amount.{Amounts}
+use Rattle.lists.specs.All.{getD-replicate-same}
+use Rattle.vectors.specs.Amounts.{Amounts}
 use Rattle.reader.specs.Fields.{field-good, field-bad}
 use Rattle.reader.specs.Values.{valuesAt, amountAt}
 use Rattle.models.specs.declared.numerators.Row.{Row}
@@ -39,12 +41,7 @@ pub record RowTo (s : List ℕ) (from i : ℕ) (out : List ℤ) : Type 0 where
 
 module _ {s : List ℕ} {from : ℕ} where
   pub row-none : RowTo s from 0 (replicate 8 (pos 0))
-  row-none = record { filled = filled-none (zeros 8) }
-    where
-      zeros : (k j : ℕ) → getD (replicate k (pos 0)) j (pos 0) ≡ pos 0
-      zeros zero j = refl
-      zeros (suc k) zero = refl
-      zeros (suc k) (suc j) = zeros k j
+  row-none = record { filled = filled-none (λ j. getD-replicate-same 8 j (pos 0)) }
 
   pub row-more : {i : ℕ} {out : List ℤ} (z : ℤ) → RowTo s from i out → i < length out → z ≡ amountAt s (from + i * 4) → inRange z ≡ true → RowTo s from (i + 1) (set out i z)
   row-more {i} {out} z f l e t =
@@ -56,7 +53,7 @@ module _ {s : List ℕ} {from : ℕ} where
       record {
         small = λ j. ⊎-elim
             (λ z. rw (f .filled .beyond j (omega arith)) (omega arith))
-            (λ z. rw (f .filled .here j (omega arith)) (leb-true (natAbs (amountAt s (from + j * 4))) 1000000000 (f .filled .passed j (omega arith))))
+            (λ z. rw (f .filled .here j (omega arith)) (leb-true (natAbs (amountAt s (from + j * 4))) limit.amount (f .filled .passed j (omega arith))))
             (eq-zero-or-pos (i - j));
       }
 

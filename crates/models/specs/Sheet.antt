@@ -2,10 +2,10 @@
 use mathlib.Core.Path.{_≡_, sym, ap, _∙_}
 use mathlib.Core.Bool.{Bool, true, false, _&&_}
 use mathlib.Core.List.{List}
-use Prim.Native.Nat.{ℕ, zero, suc, _+_, _≤_, _<_}
+use Prim.Native.Nat.{ℕ, _+_, _≤_, _<_}
 use native.Mathlib.Omega.{arith}
 use borrow.Author.Tests.{eq-eqb, ne-eqb}
-use lib.IntN.{pos, natAbs}
+use lib.IntN.{pos}
 use lib.Dec.{eqb, leb, leb→le}
 use lib.ListN.{length, drop, getD, replicate}
 use mir.Facts.{and-yes}
@@ -17,7 +17,7 @@ use Rattle.rules.specs.Problem.{fault, got, Reader, after, _>>=_, return, repea
 use Rattle.rules.specs.Meaning.{Assignment}
 use Rattle.rules.specs.Model.{model}
 use Rattle.lists.specs.Tests.{of-true}
-use Rattle.rows.specs.Amount.{Amounts}
+use Rattle.vectors.specs.Amounts.{Amounts, zeros-amounts}
 use Rattle.layout.specs.Fields.{fieldAt-1}
 use Rattle.reader.specs.Fields.{field-good, field-bad}
 use Rattle.reader.specs.Values.{valuesAt, amountAt}
@@ -39,16 +39,11 @@ refused place = record { sound = false; place = place; model = record { booleans
 pub record ReadModel (s : List ℕ) (b r : ℕ) (sheet : Sheet) : Type 0 where
   pub same : model b r s 0 ≡ reading s (sheet .sound) (sheet .place) (assignment (sheet .model))
   pub numerators : Amounts (sheet .model .numerators)
-  pub denominator : (1 ≤ sheet .model .denominator) × (sheet .model .denominator ≤ 1000000000)
+  pub denominator : (1 ≤ sheet .model .denominator) × (sheet .model .denominator ≤ limit.amount)
 
 pub read-refused : (s : List ℕ) (b r place : ℕ) → model b r s 0 ≡ fault refusal.BadModel place → ReadModel s b r (refused place)
 unfolding reading refused
-read-refused s b r place e = record { same = e; numerators = record { small = zeros 8 }; denominator = (omega arith, omega arith) }
-  where
-    zeros : (k j : ℕ) → natAbs (getD (replicate k (pos 0)) j (pos 0)) ≤ 1000000000
-    zeros zero j = omega arith
-    zeros (suc k) zero = omega arith
-    zeros (suc k) (suc j) = zeros k j
+read-refused s b r place e = record { same = e; numerators = zeros-amounts 8; denominator = (omega arith, omega arith) }
 
 -- ---- a field that is there, and what comes next
 module _ {A : Type 0} (s : List ℕ) (k : ℕ) (good : ℕ → Bool) (f : Refusal) (at : ℕ) (next : ℕ → Reader A) (h : at + k ≤ length s) where
@@ -155,11 +150,11 @@ module _ {s : List ℕ} {b r : ℕ} where
           → ReadModel s b r (record { sound = true; place = row .place; model = record { booleans = flags .mask; numerators = row .numerators; denominator = fieldAt (1 + b + 1) 4 s } })
       unfolding numeratorsAfter reading after isDenominator assignment value
       model-read e =
-          let d = and-yes (leb 1 (fieldAt (1 + b + 1) 4 s)) (leb (fieldAt (1 + b + 1) 4 s) 1000000000) (of-true (isDenominator (fieldAt (1 + b + 1) 4 s)) (h .denominator)) in
+          let d = and-yes (leb 1 (fieldAt (1 + b + 1) 4 s)) (leb (fieldAt (1 + b + 1) 4 s) limit.amount) (of-true (isDenominator (fieldAt (1 + b + 1) 4 s)) (h .denominator)) in
           record {
             same = numerators-on ∙ rw (h .given .same, e) (ap (λ (χ : Assignment). got χ (drop (row .place) s) (row .place)) (made e));
             numerators = h .given .small;
-            denominator = (leb→le 1 (fieldAt (1 + b + 1) 4 s) (d .0), leb→le (fieldAt (1 + b + 1) 4 s) 1000000000 (d .1));
+            denominator = (leb→le 1 (fieldAt (1 + b + 1) 4 s) (d .0), leb→le (fieldAt (1 + b + 1) 4 s) limit.amount (d .1));
           }
         where
           made : row .sound ≡ true → record { booleans = λ i. eqb (getD (bytesAt s b 1) i 0) 1; numerators = λ f. getD (valuesAt (amountAt s) 4 r (1 + b + 5)) f (pos 0); denominator = fieldAt (1 + b + 1) 4 s }

@@ -3,8 +3,9 @@ use mathlib.Core.Path.{_≡_, subst}
 use mathlib.Core.List.{List, _++_}
 use Prim.Native.Nat.{ℕ, zero, suc, _+_, _-_, _≤_, _<_}
 use native.Mathlib.Omega.{arith}
-use lib.IntN.{pos, natAbs}
+use lib.IntN.{pos}
 use lib.ListN.{length, getD, replicate}
+use Rattle.vectors.specs.Amounts.{Small}
 use Rattle.reader.specs.Values.{valuesAt, constraintBytes, amountAt, boundOf, countOf, clauseEnd}
 
 -- ---- so many values, the next one so many bytes on: each has the property
@@ -25,7 +26,7 @@ module _ (P : ℕ → Type 0) (size left at : ℕ) (more : 0 < left) (each : Eac
 
 -- ---- the limits that a clause keeps to
 abbrev pub Amount : List ℕ → ℕ → Type 0
-Amount q at = natAbs (amountAt q at) ≤ 1000000000
+Amount q at = Small (amountAt q at)
 
 pub record SoundConstraint (q : List ℕ) (r at : ℕ) : Type 0 where
   pub within : at + constraintBytes r ≤ length q
@@ -40,7 +41,7 @@ pub record SoundClause (q : List ℕ) (r at : ℕ) : Type 0 where
   pub constraints : Each (SoundConstraint q r) (constraintBytes r) (getD q (countOf q at) 0) (countOf q at + 1)
 
 -- a coefficient that is not there is 0
-pub padded-small : (q : List ℕ) (k at n : ℕ) → Each (Amount q) 4 k at → (i : ℕ) → natAbs (getD (valuesAt (amountAt q) 4 k at ++ replicate n (pos 0)) i (pos 0)) ≤ 1000000000
+pub padded-small : (q : List ℕ) (k at n : ℕ) → Each (Amount q) 4 k at → (i : ℕ) → Small (getD (valuesAt (amountAt q) 4 k at ++ replicate n (pos 0)) i (pos 0))
 unfolding Each valuesAt
 padded-small q zero at zero each i = omega arith
 padded-small q zero at (suc n) each zero = omega arith

@@ -5,10 +5,11 @@ use rows::combine::combine;
 use rows::combine::combine_rows;
 ghost use mathlib.Core.Path.{_≡_};
 ghost use mathlib.Core.Bool.{true};
-ghost use Prim.Native.Nat.{_<_, _≤_, max};
+ghost use Prim.Native.Nat.{_<_, max};
 ghost use lib.IntN.{pos, natAbs};
 ghost use Rattle.rules.specs.Lines.{rational, positively, negatively};
 ghost use Rattle.rules.specs.Resolve.{resolvent};
+ghost use Rattle.vectors.specs.Amounts.{Small};
 ghost use Rattle.lines.specs.Line.{meaning, Shaped, Ready};
 ghost use Rattle.normalization.specs.Reduced.{Bounded};
 
@@ -21,7 +22,7 @@ fn stricter(a: u8, b: u8) -> u8
 
 // The size of an amount, as a factor.
 fn factor(z: i64) -> i64
-    requires { ⌜ natAbs z ≤ 1000000000 ⌝ }
+    requires { ⌜ Small z ⌝ }
     ensures { λ r. ⌜ r ≡ pos (natAbs z) ⌝ }
 {
     size(z) as i64

@@ -1,2 +1,2 @@
-pub mod Amount
+pub mod Products
 pub mod Row

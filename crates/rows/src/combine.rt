@@ -1,23 +1,22 @@
 // Combinations of two rows, c × us + a × ls: 64 bits hold a sum of two products of amounts.
 ghost use mathlib.Core.Path.{_≡_};
-ghost use Prim.Native.Nat.{_≤_};
-ghost use lib.IntN.{natAbs, _+ℤ_, _*ℤ_};
+ghost use lib.IntN.{_+ℤ_, _*ℤ_};
 ghost use Rattle.rules.specs.Arithmetic.{combine};
-ghost use Rattle.rows.specs.Amount.{Amounts};
+ghost use Rattle.vectors.specs.Amounts.{Small, Amounts};
 
 pub fn combine(c: i64, x: i64, a: i64, y: i64) -> i64
-    requires { ⌜ natAbs c ≤ 1000000000 ⌝ }
-    requires { ⌜ natAbs x ≤ 1000000000 ⌝ }
-    requires { ⌜ natAbs a ≤ 1000000000 ⌝ }
-    requires { ⌜ natAbs y ≤ 1000000000 ⌝ }
+    requires { ⌜ Small c ⌝ }
+    requires { ⌜ Small x ⌝ }
+    requires { ⌜ Small a ⌝ }
+    requires { ⌜ Small y ⌝ }
     ensures { λ r. ⌜ r ≡ c *ℤ x +ℤ a *ℤ y ⌝ }
 {
     c * x + a * y
 }
 
 pub fn combine_rows(c: i64, us: [i64; 8], a: i64, ls: [i64; 8]) -> [i64; 8]
-    requires { ⌜ natAbs c ≤ 1000000000 ⌝ }
-    requires { ⌜ natAbs a ≤ 1000000000 ⌝ }
+    requires { ⌜ Small c ⌝ }
+    requires { ⌜ Small a ⌝ }
     requires { ⌜ Amounts us ⌝ }
     requires { ⌜ Amounts ls ⌝ }
     ensures { λ r. ⌜ r ≡ combine c us a ls ⌝ }

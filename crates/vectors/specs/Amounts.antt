@@ -8,7 +8,7 @@ use native.Mathlib.Omega.{arith}
 use lib.IntN.{ℤ, pos, natAbs}
 use lib.Signed.{quotZ}
 use lib.Dec.{T, leb→le, le→leb}
-use lib.ListN.{replicate}
+use lib.ListN.{getD, replicate, set}
 use mir.Facts.{not-T, T-not-not}
 use Rattle.types.specs.Limits as limit
 use Rattle.rules.specs.Lists.{any}
@@ -38,6 +38,40 @@ pub zeros-small : (n : ℕ) → All Small (replicate n (pos 0))
 zeros-small zero = tt
 zeros-small (suc n) = (omega arith, zeros-small n)
 
+-- none is out of range
+pub narrow-small : (zs : List ℤ) → T (not (any (λ z. not (inRange z)) zs)) → All Small zs
+narrow-small zs h = all-map (λ z. T (not (not (inRange z)))) Small zs (λ z t. range-small z .0 (T-not-not (inRange z) t)) (any-no (λ z. not (inRange z)) zs h)
+
+-- ---- by number; one that is not there counts as 0
+pub record Amounts (zs : List ℤ) : Type 0 where
+  pub small : (i : ℕ) → Small (getD zs i (pos 0))
+
+pub amounts-small : (zs : List ℤ) → Amounts zs → All Small zs
+amounts-small [] h = tt
+amounts-small (z ∷ zs) h = (h .small 0, amounts-small zs (record { small = λ i. h .small (suc i) }))
+
+pub small-amounts : (zs : List ℤ) → All Small zs → Amounts zs
+small-amounts zs h = record { small = at zs h }
+  where
+    at : (zs : List ℤ) → All Small zs → (i : ℕ) → Small (getD zs i (pos 0))
+    at [] h i = omega arith
+    at (z ∷ zs) h zero = h .0
+    at (z ∷ zs) h (suc i) = at zs (h .1) i
+
+pub zeros-amounts : (n : ℕ) → Amounts (replicate n (pos 0))
+zeros-amounts n = small-amounts (replicate n (pos 0)) (zeros-small n)
+
+-- one amount for another
+pub amounts-set : (zs : List ℤ) (f : ℕ) (z : ℤ) → Amounts zs → Small z → Amounts (set zs f z)
+amounts-set zs f z h k = record { small = other zs f (h .small) }
+  where
+    other : (zs : List ℤ) (f : ℕ) → ((i : ℕ) → Small (getD zs i (pos 0))) → (i : ℕ) → Small (getD (set zs f z) i (pos 0))
+    other [] f h i = h i
+    other (c ∷ zs) zero h zero = k
+    other (c ∷ zs) zero h (suc i) = h (suc i)
+    other (c ∷ zs) (suc f) h zero = h zero
+    other (c ∷ zs) (suc f) h (suc i) = other zs f (λ j. h (suc j)) i
+
 -- ---- divided by the common divisor
 quot-small : (g : ℕ) (z : ℤ) → Small z → Small (quotZ z (pos g))
 quot-small g z h = omega (arith, abs-quot-≤ g z)
@@ -60,7 +94,7 @@ row-small (some c) = (
 pub overflows-no : (l : Line) → T (not (overflows l)) ↔ SmallAmounts (l .constraint)
 unfolding overflows
 overflows-no l = (
-  λ h. row-small (l .constraint) .1 (all-map (λ z. T (not (wide z))) Small r (λ z t. range-small z .0 (T-not-not (inRange z) t)) (any-no wide r h)),
+  λ h. row-small (l .constraint) .1 (narrow-small r h),
   λ h. not-T (any wide r) (λ t. all-any Small (λ z. T (wide z)) r (λ z a b. clash (inRange z) (range-small z .1 a) b) (row-small (l .constraint) .0 h) (any-yes wide r t)),
 )
   where

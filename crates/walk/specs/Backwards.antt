@@ -14,6 +14,7 @@ use Rattle.rules.specs.Meaning.{Assignment}
 use Rattle.rules.specs.Values.{assign, exceeds, Walked, start, walkFrom, walk}
 use Rattle.rules.specs.Model.{encodeModel, tooLarge, written}
 use Rattle.lists.specs.All.{getD-replicate-same}
+use Rattle.vectors.specs.Amounts.{zeros-amounts}
 use Rattle.saturation.specs.Unbounded.{Without, walk-zero}
 use Rattle.saturation.specs.Order.{variableAt, order-from}
 use Rattle.masks.specs.Mask.{bits}
@@ -41,7 +42,7 @@ module _ (lines : List Line) where
       record {
         same = λ k. record { booleans = λ i. never i k; numerators = λ f. nought f k; denominator = 1 };
         none = refl;
-        range = record { amounts = record { small = λ i. rw (getD-replicate-same 8 i (pos 0)) (omega arith) }; positive = omega arith; small = omega arith };
+        range = record { amounts = zeros-amounts 8; positive = omega arith; small = omega arith };
       }
     where
       never : (i : ℕ) → false ≡ getD (bits 32 0) i false

@@ -5,7 +5,7 @@ use mathlib.Core.List.{List, [], _∷_}
 use Prim.Native.Nat.{ℕ, zero, suc, _/_, _≤_, _<_}
 use native.Mathlib.Omega.{arith}
 use lib.IntN.{ℤ, pos, natAbs, _+ℤ_, _*ℤ_}
-use lib.Dec.{T, leb, ltb, ltb→lt}
+use lib.Dec.{leb, ltb, ltb→lt}
 use lib.ListN.{length, getD, set, replicate}
 use lib.Seq.{take-all}
 use borrow.Author.Tests.{le-ltb, lt-ltb, lt-leb, leb-false}
@@ -18,11 +18,11 @@ use Rattle.rules.specs.Meaning.{Assignment}
 use Rattle.rules.specs.Values.{Fraction, withRational, withBoolean}
 use Rattle.rules.specs.Model.{tooLarge}
 use Rattle.lists.specs.Tests.{of-true, of-false, is-false, tests-agree}
-use Rattle.lists.specs.All.{every, any-no, all-map, yes-all, any-agree, getD-replicate-same}
+use Rattle.lists.specs.All.{every, any-agree, getD-replicate-same}
 use Rattle.lists.specs.Tabulated.{tabulate-take, none-tabulate}
 use Rattle.vectors.specs.Dot.{getD-combine}
 use Rattle.masks.specs.Mask.{bits, length-bits}
-use Rattle.rows.specs.Amount.{Amounts, all-amounts}
+use Rattle.vectors.specs.Amounts.{Amounts, narrow-small, small-amounts}
 use Rattle.evaluation.specs.declared.model.Model.{Model}
 use Rattle.evaluation.specs.Model.{value, assignment}
 use Rattle.gathering.specs.Range.{InRange}
@@ -86,12 +86,7 @@ large-words row χ n e =
 
 pub amounts-words : (row : List ℤ) → any (λ z. not (inRange z)) row ≡ false → Amounts row
 amounts-words row e =
-    all-amounts row
-    (yes-all inRange row (all-map (λ z. T (not (not (inRange z)))) (λ z. T (inRange z)) row (λ z. twice (inRange z)) (any-no (λ z. not (inRange z)) row (of-false (any (λ z. not (inRange z)) row) e))))
-  where
-    twice : (b : Bool) → T (not (not b)) → T b
-    twice true h = h
-    twice false h = h
+    small-amounts row (narrow-small row (of-false (any (λ z. not (inRange z)) row) e))
 
 pub range-written : (m : Model) (r : ℕ) → InRange m → tooLarge r (assignment m) ≡ false
 unfolding tooLarge assignment value

@@ -10,12 +10,13 @@ use types::limits::Limits;
 ghost use mathlib.Core.Path.{_≡_};
 ghost use Prim.Native.Nat.{_≤_, _<_};
 ghost use lib.IntN.{pos, natAbs, _*ℤ_};
+ghost use Rattle.types.specs.Limits.{amount};
 ghost use Rattle.rules.specs.Lists.{put};
 ghost use Rattle.rules.specs.Arithmetic.{lcm};
 ghost use Rattle.rules.specs.Values.{withBoolean, withRational};
 ghost use Rattle.fractions.specs.Meaning.{meaning};
 ghost use Rattle.fractions.specs.Range.{Small};
-ghost use Rattle.rows.specs.Amount.{Amounts};
+ghost use Rattle.vectors.specs.Amounts.{Amounts};
 ghost use Rattle.evaluation.specs.Model.{value, assignment};
 ghost use Rattle.gathering.specs.Range.{InRange};
 ghost use Rattle.walk.specs.Outcome.{Outcome};
@@ -42,8 +43,8 @@ pub fn with_boolean(model: Model, i: usize, yes: bool) -> Model
 
 fn lcm(a: u64, b: u64) -> u64
     requires { ⌜ 0 < a ⌝ }
-    requires { ⌜ a ≤ 1000000000 ⌝ }
-    requires { ⌜ b ≤ 1000000000 ⌝ }
+    requires { ⌜ a ≤ amount ⌝ }
+    requires { ⌜ b ≤ amount ⌝ }
     ensures { λ r. ⌜ r ≡ lcm a b ⌝ }
 {
     let g = gcd(a, b);
@@ -54,10 +55,10 @@ fn lcm(a: u64, b: u64) -> u64
 // Every numerator times k, but that of f is a × m.
 fn over(numerators: [i64; 8], k: u64, f: usize, a: i64, m: u64) -> [i64; 8]
     requires { ⌜ Amounts numerators ⌝ }
-    requires { ⌜ k ≤ 1000000000 ⌝ }
+    requires { ⌜ k ≤ amount ⌝ }
     requires { ⌜ f < 8 ⌝ }
-    requires { ⌜ natAbs a ≤ 1000000000 ⌝ }
-    requires { ⌜ m ≤ 1000000000 ⌝ }
+    requires { ⌜ natAbs a ≤ amount ⌝ }
+    requires { ⌜ m ≤ amount ⌝ }
     ensures { λ r. ⌜ value r ≡ put f (a *ℤ pos m) (λ j. value numerators j *ℤ pos k) ⌝ }
 {
     let mut others = numerators;

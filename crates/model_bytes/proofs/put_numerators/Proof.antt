@@ -9,7 +9,7 @@ use lib.ListN.{length, getD, take}
 use Rattle.rules.specs.Bytes.{toBytes, toUnsigned, amountBytes}
 use Rattle.lists.specs.Tabulated.{tabulate-take}
 use Rattle.fields.specs.Field.{stored}
-use Rattle.rows.specs.Amount.{amount-bits}
+use Rattle.rows.specs.Products.{amount-bits}
 use Rattle.evaluation.specs.Model.{value}
 use Rattle.line_bytes.specs.Encoding.{amount-stored, stored-none}
 use Rattle.model_bytes.proofs.put_numerators.Statement.{statement}

@@ -7,7 +7,7 @@ use mir.Syntax.{w64}
 use mir.Val.{toZ, ofZ}
 use mir.Facts.{toZ-ofZ}
 use Rattle.bounds.specs.Meets.{rest}
-use Rattle.rows.specs.Amount.{amount-bits}
+use Rattle.rows.specs.Products.{amount-bits}
 use Rattle.evaluation.specs.Model.{value}
 use Rattle.gathering.specs.Constraint.{rest-scaled, bound-is}
 use Rattle.gathering.proofs.gather.bound_of.Statement.{statement}

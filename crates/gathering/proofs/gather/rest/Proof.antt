@@ -7,11 +7,11 @@ use lib.ListN.{length}
 use mir.Syntax.{w64}
 use mir.Val.{SFits, toZ, ofZ}
 use mir.Facts.{toZ-ofZ}
+use Rattle.vectors.specs.Amounts.{amounts-set}
 use Rattle.machine.specs.Signed.{fits-size}
 use Rattle.bounds.specs.Meets.{rest}
-use Rattle.rows.specs.Amount.{amount-bits}
+use Rattle.rows.specs.Products.{amount-bits}
 use Rattle.evaluation.specs.Model.{value}
-use Rattle.gathering.specs.Terms.{amounts-set}
 use Rattle.gathering.specs.Constraint.{rest-≤}
 use Rattle.gathering.proofs.gather.rest.Statement.{statement}
 use Rattle.gathering.proofs.gather.rest.Tie as tie

@@ -11,7 +11,7 @@ use mir.Facts.{toZ-ofZ}
 use Rattle.rules.specs.Arithmetic.{related}
 use Rattle.rules.specs.Lines.{theConstraintHolds}
 use Rattle.lines.specs.Line.{meaning}
-use Rattle.rows.specs.Amount.{amount-bits}
+use Rattle.rows.specs.Products.{amount-bits}
 use Rattle.evaluation.specs.Model.{assignment}
 use Rattle.gathering.specs.Constraint.{none-holds, some-holds}
 use Rattle.gathering.proofs.holds.constraint_holds.Statement.{statement}

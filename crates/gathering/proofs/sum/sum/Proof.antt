@@ -9,7 +9,7 @@ use mir.Syntax.{w64}
 use mir.Val.{toZ, ofZ}
 use mir.Facts.{toZ-ofZ}
 use Rattle.integers.specs.Ring.{+-comm}
-use Rattle.rows.specs.Amount.{amount-bits}
+use Rattle.rows.specs.Products.{amount-bits}
 use Rattle.evaluation.specs.Model.{value}
 use Rattle.gathering.specs.Terms.{termsFrom, terms-none, terms-all, terms-more, terms-≤}
 use Rattle.gathering.proofs.sum.sum.Statement.{statement}

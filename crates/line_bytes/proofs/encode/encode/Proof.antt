@@ -5,7 +5,7 @@ use Prim.Native.Nat.{ℕ, _<_}
 use lib.ListN.{length}
 use Rattle.rules.specs.Bytes.{amountBytes}
 use Rattle.fields.specs.Field.{stored}
-use Rattle.rows.specs.Amount.{amount-bits}
+use Rattle.rows.specs.Products.{amount-bits}
 use Rattle.line_bytes.specs.Encoding.{headerOf, literalBytes, encoded-is}
 use borrow.Author.Needs.{needs}
 use Rattle.line_bytes.proofs.encode.encode.Statement.{statement}

@@ -9,7 +9,7 @@ use lib.ListN.{length, getD, take}
 use lib.Seq.{take-all}
 use Rattle.rules.specs.Bytes.{toBytes, toUnsigned, amountBytes}
 use Rattle.fields.specs.Field.{stored}
-use Rattle.rows.specs.Amount.{amount-bits}
+use Rattle.rows.specs.Products.{amount-bits}
 use Rattle.line_bytes.specs.Encoding.{amount-stored, stored-none}
 use Rattle.line_bytes.proofs.encode.put_coefficients.Statement.{statement}
 use Rattle.line_bytes.proofs.encode.put_coefficients.Tie as tie

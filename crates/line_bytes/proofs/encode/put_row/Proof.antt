@@ -6,7 +6,7 @@ use native.Mathlib.Omega.{arith}
 use lib.ListN.{length}
 use Rattle.rules.specs.Bytes.{toBytes, toUnsigned}
 use Rattle.fields.specs.Field.{stored}
-use Rattle.rows.specs.Amount.{amount-bits}
+use Rattle.rows.specs.Products.{amount-bits}
 use Rattle.line_bytes.specs.Encoding.{row-stored}
 use borrow.Author.Needs.{needs}
 use Rattle.line_bytes.proofs.encode.put_row.Statement.{statement}

@@ -3,7 +3,7 @@ use mathlib.Core.Path.{sym, ap, _∙_}
 use borrow.Author.Needs.{needs}
 use Rattle.rules.specs.Lines.{excluding}
 use Rattle.rules.specs.Resolve.{resolvent}
-use Rattle.rows.specs.Amount.{amount-bits}
+use Rattle.rows.specs.Products.{amount-bits}
 use Rattle.lines.specs.Line.{constraintOf, meaning}
 use Rattle.masks.specs.Mask.{union-bits}
 use Rattle.resolvents.proofs.boolean.resolvent_boolean.Statement.{statement}

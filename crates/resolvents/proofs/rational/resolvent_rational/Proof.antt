@@ -9,7 +9,8 @@ use mir.Syntax.{w64}
 use mir.Val.{toZ, ofZ}
 use mir.Facts.{toZ-ofZ}
 use Rattle.rules.specs.Resolve.{resolvent}
-use Rattle.rows.specs.Amount.{amount-bits, combine-≤}
+use Rattle.vectors.specs.Amounts.{Small}
+use Rattle.rows.specs.Products.{amount-bits, combine-≤}
 use Rattle.lines.specs.Line.{meaning}
 use Rattle.masks.specs.Mask.{union-bits}
 use Rattle.resolvents.specs.Resolvent.{combination-is, constraints-agree, upper-constraint, lower-constraint}
@@ -40,7 +41,7 @@ factor-is : (c : tie.After-factor) → toZ w64 (ofZ w64 (c .factor .result)) ≡
 factor-is c =
     let s = c .before .before .before .before .before in
     let z = getD (s .args .lower .coefficients) (s .args .f) (pos 0) in
-    let h : natAbs z ≤ 1000000000 = s .pre .1 .1 .0 .coefficients .small (s .args .f) in
+    let h : Small z = s .pre .1 .1 .0 .coefficients .small (s .args .f) in
     let e : c .factor .result ≡ pos (natAbs z) = c .factor .ensures ∙ ap (λ (t : ℤ). pos (natAbs t)) (amount-bits z h) in
     ap (λ (t : ℤ). toZ w64 (ofZ w64 t)) e ∙ amount-bits (pos (natAbs z)) h
 

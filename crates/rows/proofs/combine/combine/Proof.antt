@@ -1,6 +1,6 @@
 -- `combine::combine` meets its contract. Assumes nothing.
 use borrow.Author.Needs.{needs}
-use Rattle.rows.specs.Amount.{product-fits, combination-fits}
+use Rattle.rows.specs.Products.{product-fits, combination-fits}
 use Rattle.rows.proofs.combine.combine.Statement.{statement}
 use Rattle.rows.proofs.combine.combine.Tie as tie
 

@@ -11,7 +11,7 @@ use mir.Facts.{toZ-ofZ}
 use Rattle.rules.specs.Arithmetic.{combine}
 use Rattle.vectors.specs.Dot.{getD-combine}
 use Rattle.rows.specs.Row.{Filled, filled-none, filled-more, filled-all, length-rows}
-use Rattle.rows.specs.Amount.{amount-bits}
+use Rattle.rows.specs.Products.{amount-bits}
 use Rattle.rows.proofs.combine.combine_rows.Statement.{statement}
 use Rattle.rows.proofs.combine.combine_rows.Tie as tie
 

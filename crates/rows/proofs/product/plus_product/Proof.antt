@@ -5,7 +5,7 @@ use lib.IntN.{_+ℤ_, _*ℤ_}
 use mir.Syntax.{w64}
 use mir.Val.{SFits, toZ, ofZ}
 use mir.Facts.{toZ-ofZ}
-use Rattle.rows.specs.Amount.{product-fits, plus-product-fits}
+use Rattle.rows.specs.Products.{product-fits, plus-product-fits}
 use Rattle.rows.proofs.product.plus_product.Statement.{statement}
 use Rattle.rows.proofs.product.plus_product.Tie as tie
 

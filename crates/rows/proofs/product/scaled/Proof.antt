@@ -6,7 +6,7 @@ use lib.IntN.{pos}
 use mir.Syntax.{w64}
 use mir.Val.{toZ}
 use mir.Facts.{toZ-ofZ, toZ-pos}
-use Rattle.rows.specs.Amount.{scaled-fits}
+use Rattle.rows.specs.Products.{scaled-fits}
 use Rattle.rows.proofs.product.scaled.Statement.{statement}
 use Rattle.rows.proofs.product.scaled.Tie as tie
 

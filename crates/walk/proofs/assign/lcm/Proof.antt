@@ -4,6 +4,7 @@ use Prim.Native.Nat.{ℕ, _*_, _/_, _≤_}
 use native.Mathlib.Nat.{div-le-self, mul-le-mul}
 use native.Mathlib.Omega.{arith}
 use borrow.Author.Needs.{needs}
+use Rattle.types.specs.Limits.{amount}
 use Rattle.rules.specs.Arithmetic.{lcm}
 use Rattle.vectors.specs.Gcd.{gcd-positiveˡ}
 use Rattle.walk.proofs.assign.lcm.Statement.{statement}
@@ -18,7 +19,7 @@ div-q c = let s = c .before in rw (c .gcd .ensures) (gcd-positiveˡ (s .args .a)
 mul-result : tie.Need-mul-result
 mul-result c =
     let s = c .before in
-    let h : s .args .a / c .gcd .result ≤ 1000000000 = omega (arith, div-le-self (s .args .a) (c .gcd .result), s .pre .1 .0) in
+    let h : s .args .a / c .gcd .result ≤ amount = omega (arith, div-le-self (s .args .a) (c .gcd .result), s .pre .1 .0) in
     omega (arith, mul-le-mul h (s .pre .1 .1))
 
 returns : tie.Need-returns

@@ -8,10 +8,10 @@ use lib.ListN.{length, replicate}
 use mir.Syntax.{w64}
 use mir.Val.{toZ}
 use mir.Facts.{toZ-pos}
-use Rattle.lists.specs.All.{getD-replicate-same}
-use Rattle.rows.specs.Amount.{Amounts, amount-bits}
+use Rattle.types.specs.Limits.{amount}
+use Rattle.vectors.specs.Amounts.{zeros-amounts, amounts-set}
+use Rattle.rows.specs.Products.{amount-bits}
 use Rattle.evaluation.specs.Model.{value}
-use Rattle.gathering.specs.Terms.{amounts-set}
 use Rattle.walk.specs.Words.{scaled-value}
 use Rattle.walk.proofs.assign.over.Statement.{statement}
 use Rattle.walk.proofs.assign.over.Tie as tie
@@ -35,11 +35,8 @@ cast-combine-rows : tie.Need-cast-combine-rows
 cast-combine-rows c = search needs
 
 -- an unsigned amount as a signed one
-as-signed : (n : ℕ) → n ≤ 1000000000 → toZ w64 n ≡ pos n
+as-signed : (n : ℕ) → n ≤ amount → toZ w64 n ≡ pos n
 as-signed n h = toZ-pos w64 (omega arith)
-
-noughts : Amounts (replicate 8 (pos 0))
-noughts = record { small = λ i. rw (getD-replicate-same 8 i (pos 0)) (omega arith) }
 
 combine-rows-requires : tie.Need-combine-rows-requires
 combine-rows-requires c κs =
@@ -48,7 +45,7 @@ combine-rows-requires c κs =
       rw (as-signed (a .k) (p .1 .0)) (p .1 .0),
       (
         rw (amount-bits (a .a) (p .1 .1 .1 .0)) (p .1 .1 .1 .0),
-        (amounts-set (a .numerators) (a .f) (pos 0) (p .0) (omega arith), rw (as-signed (a .m) (p .1 .1 .1 .1)) (amounts-set (replicate 8 (pos 0)) (a .f) (pos (a .m)) noughts (p .1 .1 .1 .1))),
+        (amounts-set (a .numerators) (a .f) (pos 0) (p .0) (omega arith), rw (as-signed (a .m) (p .1 .1 .1 .1)) (amounts-set (replicate 8 (pos 0)) (a .f) (pos (a .m)) (zeros-amounts 8) (p .1 .1 .1 .1))),
       ),
     )
 

@@ -4,12 +4,13 @@ use Prim.Native.Nat.{_/_, _≤_}
 use native.Mathlib.Nat.{div-le-self}
 use native.Mathlib.Omega.{arith}
 use borrow.Author.Needs.{needs}
-use lib.IntN.{ℤ, pos, _*ℤ_}
+use lib.IntN.{pos, _*ℤ_}
 use lib.ListN.{length}
+use Rattle.types.specs.Limits.{amount}
 use Rattle.rules.specs.Lists.{put}
 use Rattle.vectors.specs.Lcm.{lcm-positive}
 use Rattle.fractions.specs.Meaning.{meaning}
-use Rattle.rows.specs.Amount.{amount-bits}
+use Rattle.rows.specs.Products.{amount-bits}
 use Rattle.evaluation.specs.Model.{value}
 use Rattle.walk.specs.Words.{denominator-large, numerators-large, rational-words}
 use Rattle.walk.proofs.assign.with_rational.Statement.{statement}
@@ -38,7 +39,7 @@ over-requires c κs =
     let D = n .before .lcm .result in
     let s = n .before .before .before in
     let x = s .args .x in
-    let h : D ≤ 1000000000 = omega (arith, n .if1 .left) in
+    let h : D ≤ amount = omega (arith, n .if1 .left) in
     let k = div-le-self D (s .args .model .denominator) in
     let m = div-le-self D (x .denominator) in
     (s .pre .1 .1 .amounts, (omega arith, (s .pre .0, (rw (amount-bits (x .numerator) (s .pre .1 .0 .numerator)) (s .pre .1 .0 .numerator), omega arith))))
