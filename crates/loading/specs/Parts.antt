@@ -1,26 +1,25 @@
 -- The parts of a clause put behind one another: what is left of them, and how many there are.
 use mathlib.Core.Path.{_≡_, refl, sym, ap, _∙_}
 use mathlib.Core.Bool.{true, false}
-use mathlib.Core.List.{List, [], _∷_}
+use mathlib.Core.List.{List, _∷_}
 use Prim.Native.Nat.{ℕ, _+_, _-_, _≤_, _<_}
 use native.Mathlib.Numerals.{add-one}
 use native.Mathlib.Omega.{arith}
 use lib.ListN.{length}
 use Rattle.types.specs.declared.limits.Limits.{Limits}
 use Rattle.rules.specs.Lines as rules
-use Rattle.rules.specs.Split.{parts}
 use Rattle.rules.specs.Steps.{Step, header}
 use Rattle.rules.specs.Elimination.{limited, partSteps, add, load}
+use Rattle.course.specs.States.{load-ended}
 use Rattle.lines.specs.declared.line.Line.{Line}
 use Rattle.lines.specs.Line.{meaning}
 use Rattle.pieces.specs.declared.parts.Parts.{Parts}
 use Rattle.pieces.specs.Parts.{partsFrom, Cursor}
 use Rattle.pieces.specs.Part.{from-none}
-use Rattle.placing.specs.declared.place.Progress.{Progress}
-use Rattle.placing.specs.declared.place.Progress.the-variants.{Running, Empty, Overflow, OutOfSteps}
+use Rattle.placing.specs.declared.place.Progress.the-variants.{Running}
 use Rattle.placing.specs.declared.place.Point.{Point}
 use Rattle.placing.specs.Steps.{originOf, stepsIn, stepOf, Named}
-use Rattle.placing.specs.Point.{stateOf, stateAt, Standing, Leads, leads-none, leads-trans, isRunning, running-yes, Reaches}
+use Rattle.placing.specs.Point.{stateOf, stateAt, Standing, Leads, leads-none, leads-trans, isRunning, running-yes, ended-stays, Reaches}
 
 -- ---- the numbers of a part's origin
 pub named-part : (c j : ℕ) → c < 65536 → j < 65536 → Named 0 0 c j
@@ -29,15 +28,7 @@ named-part c j h k = record { is = refl; first-fits = h; second-fits = k }
 
 -- ---- an end stays
 pub load-stays : (limits : Limits) (ss : List Step) (proof : List ℕ) (p : Point) → isRunning (p .progress) ≡ false → stateAt proof p ≡ load (limited limits) ss (stateAt proof p)
-unfolding stateAt stateOf load
-load-stays limits [] proof p g = refl
-load-stays limits (s ∷ ss) proof p g = by (p .progress) g
-  where
-    by : (e : Progress) → isRunning e ≡ false → stateOf e (stepsIn proof (p .steps)) (p .pairs) ≡ load (limited limits) (s ∷ ss) (stateOf e (stepsIn proof (p .steps)) (p .pairs))
-    by Running g = let z : _≡_ {A = ℕ} 0 1 = cc in absurd (omega arith)
-    by Empty g = refl
-    by Overflow g = refl
-    by OutOfSteps g = refl
+load-stays limits ss = ended-stays (load (limited limits) ss) (λ e steps n. load-ended (limited limits) e steps n ss)
 
 -- ---- at the loop's test
 -- the parts from the cursor on come to what all of them come to

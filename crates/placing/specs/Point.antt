@@ -10,7 +10,7 @@ use lib.Seq.{take-take, drop-drop}
 use Rattle.types.specs.declared.limits.Limits.{Limits}
 use Rattle.rules.specs.Steps.{Step}
 use Rattle.rules.specs.Lines.{isEmpty}
-use Rattle.rules.specs.Elimination.{State, running, ended, empty, overflow, outOfSteps, limited, covered, placed, add}
+use Rattle.rules.specs.Elimination.{End, State, running, ended, empty, overflow, outOfSteps, limited, covered, placed, add}
 use Rattle.rules.specs.Needs.{pairsOf}
 use Rattle.line_bytes.specs.Places.{stepAt}
 use Rattle.fields.specs.Field.{stored}
@@ -91,6 +91,18 @@ running-yes Running e = refl
 running-yes Empty e = let z : _≡_ {A = ℕ} 0 1 = cc in absurd (omega arith)
 running-yes Overflow e = let z : _≡_ {A = ℕ} 0 1 = cc in absurd (omega arith)
 running-yes OutOfSteps e = let z : _≡_ {A = ℕ} 0 1 = cc in absurd (omega arith)
+
+-- what leaves an end as it is leaves a point that has ended
+pub ended-stays : (next : State → State) → ((e : End) (steps : List Step) (n : ℕ) → next (ended e steps n) ≡ ended e steps n)
+    → (proof : List ℕ) (p : Point) → isRunning (p .progress) ≡ false → stateAt proof p ≡ next (stateAt proof p)
+unfolding stateAt stateOf
+ended-stays next k proof p g = by (p .progress) (stepsIn proof (p .steps)) (p .pairs) g
+  where
+    by : (x : Progress) (steps : List Step) (n : ℕ) → isRunning x ≡ false → stateOf x steps n ≡ next (stateOf x steps n)
+    by Running steps n g = let z : _≡_ {A = ℕ} 0 1 = cc in absurd (omega arith)
+    by Empty steps n g = sym (k empty steps n)
+    by Overflow steps n g = sym (k overflow steps n)
+    by OutOfSteps steps n g = sym (k outOfSteps steps n)
 
 -- a later point of the course, and the state that it stands for
 pub record Reaches (limits : Limits) (before : List ℕ) (p : Point) (after : List ℕ) (q : Point) (state : State) : Type 0 where

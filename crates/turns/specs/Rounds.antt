@@ -1,7 +1,7 @@
 -- A turn: each of its uppers with each of its lowers; what is left at each point comes to what the turn comes to.
-use mathlib.Core.Path.{_≡_, refl, sym, ap, _∙_}
+use mathlib.Core.Path.{_≡_, sym, ap, _∙_}
 use mathlib.Core.Bool.{Bool, true, false, _&&_}
-use mathlib.Core.List.{List, [], _∷_}
+use mathlib.Core.List.{List, _∷_}
 use Prim.Native.Nat.{ℕ, suc, _+_, _*_, _≤_, _<_}
 use native.Mathlib.Omega.{arith}
 use lib.Dec.{eqb}
@@ -13,13 +13,13 @@ use Rattle.rules.specs.Resolve.{resolve}
 use Rattle.rules.specs.Elimination.{State, running, limited, order, roundOf, Pair, roundPairs, tried, tryAll}
 use Rattle.lines.specs.Line.{meaning}
 use Rattle.lists.specs.Tests.{is-true, of-true}
+use Rattle.course.specs.States.{try-ended}
 use Rattle.course.specs.PairBound.{tried-pairs}
 use Rattle.proof_lines.specs.Held.{lineAt}
-use Rattle.placing.specs.declared.place.Progress.{Progress}
-use Rattle.placing.specs.declared.place.Progress.the-variants.{Running, Empty, Overflow, OutOfSteps}
+use Rattle.placing.specs.declared.place.Progress.the-variants.{Running}
 use Rattle.placing.specs.declared.place.Point.{Point}
 use Rattle.placing.specs.Steps.{stepsIn}
-use Rattle.placing.specs.Point.{stateOf, stateAt, Standing, Leads, leads-none, leads-trans, pairs-at, isRunning, running-yes, Reaches}
+use Rattle.placing.specs.Point.{stateOf, stateAt, Standing, Leads, leads-none, leads-trans, pairs-at, isRunning, running-yes, ended-stays, Reaches}
 use Rattle.turns.specs.declared.side.Variable.{Variable}
 use Rattle.turns.specs.Sides.{variableOf, Ranged, onSide, chosen, Next}
 use Rattle.turns.specs.Pairs.{pairOf, settled, resultOf, Pairable}
@@ -52,17 +52,6 @@ module _ (limits : Limits) (v : Variable) (t : ℕ) (start : List ℕ) (from : P
 
   pub turning-as : {proof : List ℕ} {p : Point} {left rest : List Pair} {c d : ℕ} → left ≡ rest → Turning proof p left c → c ≤ d → Turning proof p rest d
   turning-as {proof} {p} e r h = record { leads = r .leads; counted = omega (arith, r .counted); same = ap (λ (ps : List Pair). tryAll (limited limits) (variableOf v) ps (stateAt proof p)) (sym e) ∙ r .same }
-
-  ended-stays : (ps : List Pair) (proof : List ℕ) (p : Point) → isRunning (p .progress) ≡ false → stateAt proof p ≡ tryAll (limited limits) (variableOf v) ps (stateAt proof p)
-  unfolding stateAt stateOf tryAll
-  ended-stays [] proof p g = refl
-  ended-stays (x ∷ ps) proof p g = by (p .progress) g
-    where
-      by : (e : Progress) → isRunning e ≡ false → stateOf e (stepsIn proof (p .steps)) (p .pairs) ≡ tryAll (limited limits) (variableOf v) (x ∷ ps) (stateOf e (stepsIn proof (p .steps)) (p .pairs))
-      by Running g = let z : _≡_ {A = ℕ} 0 1 = cc in absurd (omega arith)
-      by Empty g = refl
-      by Overflow g = refl
-      by OutOfSteps g = refl
 
   -- at the two loops' tests: of the uppers, and of the lowers of upper i
   pub record AtUpper (proof : List ℕ) (p : Point) (i : ℕ) : Type 0 where
@@ -178,7 +167,12 @@ module _ (limits : Limits) (v : Variable) (t : ℕ) (start : List ℕ) (from : P
 
         -- an end stays
         pub turn-ended : isRunning (q .progress) ≡ false → Reaches limits start from after q turned
-        turn-ended g = record { is = ended-stays (laterLowers i (j + 1)) after q g ∙ turning-pair .same; leads = turning-pair .leads }
+        turn-ended g =
+            let rest = laterLowers i (j + 1) in
+            record {
+              is = ended-stays (tryAll (limited limits) (variableOf v) rest) (λ e steps n. try-ended (limited limits) e steps n (variableOf v) rest) after q g ∙ turning-pair .same;
+              leads = turning-pair .leads;
+            }
 
 -- at the loop over the lowers of upper i, before it
 pub record Entered (limits : Limits) (v : Variable) (t m first : ℕ) (start : List ℕ) (from : Point) (proof : List ℕ) (p : Point) (i : ℕ) : Type 0 where

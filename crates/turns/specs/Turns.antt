@@ -1,7 +1,7 @@
 -- The turns by their numbers: each takes the next variable of the order, until none is left.
 use mathlib.Core.Path.{_≡_, refl, sym, ap, _∙_}
 use mathlib.Core.Bool.{false}
-use mathlib.Core.List.{List, [], _∷_}
+use mathlib.Core.List.{List, _∷_}
 use Prim.Native.Nat.{ℕ, suc, _+_, _*_, _-_, _≤_, _<_}
 use native.Mathlib.Numerals.{add-one}
 use native.Mathlib.Omega.{arith}
@@ -9,12 +9,12 @@ use lib.ListN.{length, drop, drop-of-length-le}
 use Rattle.types.specs.declared.limits.Limits.{Limits}
 use Rattle.rules.specs.Lines as rules
 use Rattle.rules.specs.Elimination.{limited, order, rounds}
+use Rattle.course.specs.States.{rounds-ended}
 use Rattle.saturation.specs.Order.{length-order, order-rational, order-boolean}
-use Rattle.placing.specs.declared.place.Progress.{Progress}
-use Rattle.placing.specs.declared.place.Progress.the-variants.{Running, Empty, Overflow, OutOfSteps}
+use Rattle.placing.specs.declared.place.Progress.the-variants.{Running}
 use Rattle.placing.specs.declared.place.Point.{Point}
 use Rattle.placing.specs.Steps.{stepsIn}
-use Rattle.placing.specs.Point.{stateOf, stateAt, Standing, Leads, leads-none, leads-trans, isRunning, Reaches}
+use Rattle.placing.specs.Point.{stateOf, stateAt, Standing, Leads, leads-none, leads-trans, isRunning, ended-stays, Reaches}
 use Rattle.turns.specs.declared.side.Variable.{Variable}
 use Rattle.turns.specs.declared.side.Variable.the-variants.{Rational, Boolean}
 use Rattle.turns.specs.Sides.{variableOf}
@@ -85,13 +85,6 @@ module _ {limits : Limits} {start : List ℕ} {from : Point} where
 
     -- an end stays
     pub turns-ended : isRunning (p .progress) ≡ false → Reaches limits start from proof p (rounds (limited limits) order 0 order (stateAt start from))
-    unfolding stateAt stateOf rounds
-    turns-ended g = record { is = stays (drop t order) (p .progress) g ∙ at .same; leads = at .leads }
-      where
-        stays : (vs : List rules.Variable) (e : Progress) → isRunning e ≡ false
-            → stateOf e (stepsIn proof (p .steps)) (p .pairs) ≡ rounds (limited limits) order t vs (stateOf e (stepsIn proof (p .steps)) (p .pairs))
-        stays [] e g = refl
-        stays (v ∷ vs) Running g = let z : _≡_ {A = ℕ} 0 1 = cc in absurd (omega arith)
-        stays (v ∷ vs) Empty g = refl
-        stays (v ∷ vs) Overflow g = refl
-        stays (v ∷ vs) OutOfSteps g = refl
+    turns-ended g =
+        let vs = drop t order in
+        record { is = ended-stays (rounds (limited limits) order t vs) (λ e steps n. rounds-ended (limited limits) e steps n order t vs) proof p g ∙ at .same; leads = at .leads }
