@@ -34,6 +34,7 @@ pub fn verdict_number(v: Verdict) -> u64
     }
 }
 
+// A refusal, by its number and its place.
 fn refused_told(f: Refusal, place: usize) -> Told
     ensures { λ t. ⌜ t ≡ refusedTold f place ⌝ }
 {
