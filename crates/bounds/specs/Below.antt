@@ -24,12 +24,12 @@ pub below-refl : (x : Fraction) → Positive x → Below false x x
 below-refl x p = record { left = p; right = p; by = rel-refl (x .numerator *ℤ pos (x .denominator)) }
 
 -- both crossed comparisons times the third denominator meet at b × (p × r), and the middle denominator cancels
-turn : (p a q : ℤ) → p *ℤ (a *ℤ q) ≡ q *ℤ (a *ℤ p)
-turn p a q = simp ring
+swapped : (p a q : ℤ) → p *ℤ (a *ℤ q) ≡ q *ℤ (a *ℤ p)
+swapped p a q = simp ring
 
 chain : {s t : Bool} (a p b q c r : ℤ) → pos 0 <ℤ p → pos 0 <ℤ q → pos 0 <ℤ r → Rel s (a *ℤ q) (b *ℤ p) → Rel t (b *ℤ r) (c *ℤ q) → Rel (s || t) (a *ℤ r) (c *ℤ p)
 chain a p b q c r zp zq zr h k =
-    rel-*-cancelˡ (a *ℤ r) (c *ℤ p) zq (rw (turn q a r, turn q c p) (rel-trans (rel-*ˡ zr h) (rw (turn r b p) (rel-*ˡ zp k))))
+    rel-*-cancelˡ (a *ℤ r) (c *ℤ p) zq (rw (swapped q a r, swapped q c p) (rel-trans (rel-*ˡ zr h) (rw (swapped r b p) (rel-*ˡ zp k))))
 
 pub below-trans : {s t : Bool} {x y z : Fraction} → Below s x y → Below t y z → Below (s || t) x z
 below-trans {x} {y} {z} h k =

@@ -31,10 +31,10 @@ rest i cs β x d = β *ℤ pos d -ℤ sum (set cs i (pos 0)) x
 
 -- ---- the bounds of a pair
 agrees : {s : Bool} (l u a c d : ℤ) → pos 0 <ℤ d → Rel s (a *ℤ l) (c *ℤ u) → Rel s (l *ℤ (a *ℤ d)) (u *ℤ (c *ℤ d))
-agrees l u a c d z h = rw (turn l a d, turn u c d) (rel-*ʳ z h)
+agrees l u a c d z h = rw (swapped l a d, swapped u c d) (rel-*ʳ z h)
   where
-    turn : (l a d : ℤ) → l *ℤ (a *ℤ d) ≡ (a *ℤ l) *ℤ d
-    turn l a d = simp ring
+    swapped : (l a d : ℤ) → l *ℤ (a *ℤ d) ≡ (a *ℤ l) *ℤ d
+    swapped l a d = simp ring
 
 pub bounds-agree : {s : Bool} (i : ℕ) (us : List ℤ) (β : ℤ) (ls : List ℤ) (γ : ℤ) (x : ℕ → ℤ) (d : ℕ) → 0 < d → T (isPositive (getD us i (pos 0))) → T (isNegative (getD ls i (pos 0)))
     → Holds s (combine (pos (natAbs (getD ls i (pos 0)))) us (getD us i (pos 0)) ls) (pos (natAbs (getD ls i (pos 0))) *ℤ β +ℤ getD us i (pos 0) *ℤ γ) x (pos d)

@@ -12,7 +12,7 @@ use Rattle.rules.specs.Lines.{Line, Variable, rational, boolean, positively, ne
 use Rattle.rules.specs.Resolve.{resolve}
 use Rattle.rules.specs.Steps.{Header, Step, resolved, header}
 use Rattle.rules.specs.Elimination.{overflows}
-use Rattle.rules.specs.Checker.{derived, pairable, variableNamed, resultNamed, lineAmong}
+use Rattle.rules.specs.Checker.{derived, pairable, variableNamed, resolventNamed, lineAmong}
 use Rattle.line_bytes.specs.Encoding.{headerOf}
 use Rattle.lists.specs.Tests.{of-true}
 use Rattle.checking.specs.Stated.{matched, among-one}
@@ -90,8 +90,8 @@ module _ (how which : ℕ) where
       by (some v) = h v
 
 -- ---- the step that they name, and its bytes
-unfoldable pub resultStated : List Line → List ℕ → Option Line
-resultStated earlier bytes = elim (resultNamed earlier bytes) [ none ↦ none | some s ↦ lineAmong (s ∷ []) bytes ]
+unfoldable pub resolventStated : List Line → List ℕ → Option Line
+resolventStated earlier bytes = elim (resolventNamed earlier bytes) [ none ↦ none | some s ↦ lineAmong (s ∷ []) bytes ]
 
 named-header : (how which first second : ℕ) (v : Variable) → variableNamed how which ≡ some v → header (resolved v first second) ≡ headerOf how which first second
 unfolding variableNamed header
@@ -115,10 +115,10 @@ module _ (earlier : List Line) (bytes : List ℕ) where
   by-line h v first second e none = refl
   by-line h v first second e (some l) = among-one (record { origin = resolved v first second; line = l }) bytes ∙ ap (λ (h : Header). matched h bytes (some l)) e
 
-  pub result-is : resultStated earlier bytes
+  pub resolvent-is : resolventStated earlier bytes
       ≡ matched (headerOf (fieldAt 0 1 bytes) (fieldAt 1 1 bytes) (fieldAt 2 2 bytes) (fieldAt 4 2 bytes)) bytes (derivedBy (fieldAt 0 1 bytes) (fieldAt 1 1 bytes) (getElem? earlier (fieldAt 2 2 bytes)) (getElem? earlier (fieldAt 4 2 bytes)))
-  unfolding resultStated resultNamed derivedBy matched
-  result-is = by (variableNamed how which) refl
+  unfolding resolventStated resolventNamed derivedBy matched
+  resolvent-is = by (variableNamed how which) refl
     where
       how : ℕ
       how = fieldAt 0 1 bytes
@@ -132,6 +132,6 @@ module _ (earlier : List Line) (bytes : List ℕ) where
       second : ℕ
       second = fieldAt 4 2 bytes
 
-      by : (o : Option Variable) → variableNamed how which ≡ o → resultStated earlier bytes ≡ matched (headerOf how which first second) bytes (derivedBy how which (getElem? earlier first) (getElem? earlier second))
-      by none e = rw (e, resultStated, resultNamed, derivedBy)
-      by (some v) e = rw (e, resultStated, resultNamed, derivedBy) (by-line (headerOf how which first second) v first second (named-header how which first second v e) (derived v (getElem? earlier first) (getElem? earlier second)))
+      by : (o : Option Variable) → variableNamed how which ≡ o → resolventStated earlier bytes ≡ matched (headerOf how which first second) bytes (derivedBy how which (getElem? earlier first) (getElem? earlier second))
+      by none e = rw (e, resolventStated, resolventNamed, derivedBy)
+      by (some v) e = rw (e, resolventStated, resolventNamed, derivedBy) (by-line (headerOf how which first second) v first second (named-header how which first second v e) (derived v (getElem? earlier first) (getElem? earlier second)))

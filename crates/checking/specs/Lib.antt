@@ -1,5 +1,5 @@
 pub mod Stated
 pub mod Derived
 pub mod Made
-pub mod Results
+pub mod Resolvents
 pub mod Named

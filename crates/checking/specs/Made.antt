@@ -17,7 +17,7 @@ use Rattle.masks.specs.Mask.{bits, length-bits}
 use Rattle.lines.specs.declared.line.Line.{Line}
 use Rattle.lines.specs.Line.{constraintOf, meaning, Ready}
 use Rattle.lines.specs.Forms.{coefficient-is}
-use Rattle.resolvents.specs.declared.resolve.Outcome.the-variants.{Dropped, Wide, Made}
+use Rattle.resolvents.specs.declared.resolve.Outcome.the-variants.{Dropped, Overflows, Made}
 use Rattle.resolvents.specs.declared.resolve.Outcome.{Outcome}
 use Rattle.resolvents.specs.declared.resolve.Resolved.{Resolved}
 use Rattle.resolvents.specs.Resolved.{outcomeOf, lineOf, Gives}
@@ -35,22 +35,22 @@ module _ (r : Resolved) where
   left-dropped e = rw e
 
   module _ (g : Gives (lineOf (r .outcome) (r .line)) r) where
-    wide-is : (o : Outcome) → r .outcome ≡ o → o ≡ outcomeOf (lineOf o (r .line))
-    wide-is o e = sym e ∙ g .outcome ∙ ap (λ (o : Outcome). outcomeOf (lineOf o (r .line))) e
+    overflow-is : (o : Outcome) → r .outcome ≡ o → o ≡ outcomeOf (lineOf o (r .line))
+    overflow-is o e = sym e ∙ g .outcome ∙ ap (λ (o : Outcome). outcomeOf (lineOf o (r .line))) e
 
-    pub left-wide : r .outcome ≡ Wide → narrow (lineOf (r .outcome) (r .line)) ≡ none
+    pub left-overflow : r .outcome ≡ Overflows → narrow (lineOf (r .outcome) (r .line)) ≡ none
     unfolding narrow lineOf outcomeOf
-    left-wide e = rw e (by (overflows (meaning (r .line))) (wide-is Wide e))
+    left-overflow e = rw e (by (overflows (meaning (r .line))) (overflow-is Overflows e))
       where
-        by : (b : Bool) → Wide ≡ cond b Wide Made → cond b none (some (meaning (r .line))) ≡ none
+        by : (b : Bool) → Overflows ≡ cond b Overflows Made → cond b none (some (meaning (r .line))) ≡ none
         by true i = refl
         by false i = let z : _≡_ {A = ℕ} 0 1 = cc in absurd (omega arith)
 
     pub left-made : r .outcome ≡ Made → narrow (lineOf (r .outcome) (r .line)) ≡ some (meaning (r .line))
     unfolding narrow lineOf outcomeOf
-    left-made e = rw e (by (overflows (meaning (r .line))) (wide-is Made e))
+    left-made e = rw e (by (overflows (meaning (r .line))) (overflow-is Made e))
       where
-        by : (b : Bool) → Made ≡ cond b Wide Made → cond b none (some (meaning (r .line))) ≡ some (meaning (r .line))
+        by : (b : Bool) → Made ≡ cond b Overflows Made → cond b none (some (meaning (r .line))) ≡ some (meaning (r .line))
         by false i = refl
         by true i = let z : _≡_ {A = ℕ} 0 1 = cc in absurd (omega arith)
 

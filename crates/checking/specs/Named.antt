@@ -21,14 +21,14 @@ use Rattle.layout.specs.Headers.{first-back, second-back}
 
 -- part k of clause c, where these clauses come and their first splits by `link`
 unfoldable pub partNamed : ℕ → List Clause → ℕ → ℕ → Option Line
-partNamed link [] c k = none
-partNamed link (x ∷ xs) zero k = getElem? (partsOf link x) k
-partNamed link (x ∷ xs) (suc c) k = partNamed (link + splitsOf x) xs c k
+partNamed base [] c k = none
+partNamed base (x ∷ xs) zero k = getElem? (partsOf base x) k
+partNamed base (x ∷ xs) (suc c) k = partNamed (base + splitsOf x) xs c k
 
 -- few parts in each clause
 abbrev pub Few : List Clause → Type 0
 Few [] = Unit {0}
-Few (x ∷ xs) = ((link : ℕ) → length (partsOf link x) ≤ 65536) × Few xs
+Few (x ∷ xs) = ((base : ℕ) → length (partsOf base x) ≤ 65536) × Few xs
 
 module _ (bytes : List ℕ) where
   abbrev pub clause : ℕ
@@ -107,23 +107,23 @@ module _ (bytes : List ℕ) where
       (λ t. rw (is-false (same eqb (encodeStep s) bytes) t, lineAmong) (among-front ss ts e))
       (split (same eqb (encodeStep s) bytes))
 
-  loadable-other : (c link : ℕ) (xs : List Clause) → c + length xs ≤ 65536 → Few xs → clause < c → lineAmong (loadable c link xs) bytes ≡ none
+  loadable-other : (c base : ℕ) (xs : List Clause) → c + length xs ≤ 65536 → Few xs → clause < c → lineAmong (loadable c base xs) bytes ≡ none
   unfolding loadable lineAmong
-  loadable-other c link [] h f d = refl
-  loadable-other c link (x ∷ xs) h f d =
-      among-none (partSteps c 0 (partsOf link x)) (loadable (suc c) (link + splitsOf x) xs) (parts-other c 0 (partsOf link x) (omega arith) (omega (arith, f .0 link)) (λ e. omega arith))
-      ∙ loadable-other (suc c) (link + splitsOf x) xs (omega arith) (f .1) (omega arith)
+  loadable-other c base [] h f d = refl
+  loadable-other c base (x ∷ xs) h f d =
+      among-none (partSteps c 0 (partsOf base x)) (loadable (suc c) (base + splitsOf x) xs) (parts-other c 0 (partsOf base x) (omega arith) (omega (arith, f .0 base)) (λ e. omega arith))
+      ∙ loadable-other (suc c) (base + splitsOf x) xs (omega arith) (f .1) (omega arith)
 
-  pub among-named : (c d link : ℕ) (xs : List Clause) → c + length xs ≤ 65536 → Few xs → clause ≡ c + d → lineAmong (loadable c link xs) bytes ≡ ownStep clause part (partNamed link xs d part)
+  pub among-named : (c d base : ℕ) (xs : List Clause) → c + length xs ≤ 65536 → Few xs → clause ≡ c + d → lineAmong (loadable c base xs) bytes ≡ ownStep clause part (partNamed base xs d part)
   unfolding loadable lineAmong partNamed ownStep
-  among-named c d link [] h f e = refl
-  among-named c zero link (x ∷ xs) h f e =
+  among-named c d base [] h f e = refl
+  among-named c zero base (x ∷ xs) h f e =
       let z : clause ≡ c = omega arith in
       let y : 0 + part ≡ part = omega arith in
-      among-front (partSteps c 0 (partsOf link x)) (loadable (suc c) (link + splitsOf x) xs) (loadable-other (suc c) (link + splitsOf x) xs (omega arith) (f .1) (omega arith))
-      ∙ parts-own c 0 part (partsOf link x) (omega arith) (omega (arith, f .0 link)) z (omega arith)
-      ∙ ap (λ (k : ℕ). ownStep c k (getElem? (partsOf link x) part)) y
-      ∙ ap (λ (i : ℕ). ownStep i part (getElem? (partsOf link x) part)) (sym z)
-  among-named c (suc d) link (x ∷ xs) h f e =
-      among-none (partSteps c 0 (partsOf link x)) (loadable (suc c) (link + splitsOf x) xs) (parts-other c 0 (partsOf link x) (omega arith) (omega (arith, f .0 link)) (λ g. omega arith))
-      ∙ among-named (suc c) d (link + splitsOf x) xs (omega arith) (f .1) (omega arith)
+      among-front (partSteps c 0 (partsOf base x)) (loadable (suc c) (base + splitsOf x) xs) (loadable-other (suc c) (base + splitsOf x) xs (omega arith) (f .1) (omega arith))
+      ∙ parts-own c 0 part (partsOf base x) (omega arith) (omega (arith, f .0 base)) z (omega arith)
+      ∙ ap (λ (k : ℕ). ownStep c k (getElem? (partsOf base x) part)) y
+      ∙ ap (λ (i : ℕ). ownStep i part (getElem? (partsOf base x) part)) (sym z)
+  among-named c (suc d) base (x ∷ xs) h f e =
+      among-none (partSteps c 0 (partsOf base x)) (loadable (suc c) (base + splitsOf x) xs) (parts-other c 0 (partsOf base x) (omega arith) (omega (arith, f .0 base)) (λ g. omega arith))
+      ∙ among-named (suc c) d (base + splitsOf x) xs (omega arith) (f .1) (omega arith)

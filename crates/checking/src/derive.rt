@@ -20,7 +20,7 @@ ghost use Rattle.lines.specs.Line.{meaning, Ready};
 ghost use Rattle.proof_lines.specs.Held.{linesIn, ReadyLines};
 ghost use Rattle.resolvents.specs.Resolved.{lineOf, Gives};
 ghost use Rattle.checking.specs.Stated.{Holds, States};
-ghost use Rattle.checking.specs.Derived.{suited, narrow, derivedBy, resultStated};
+ghost use Rattle.checking.specs.Derived.{suited, narrow, derivedBy, resolventStated};
 
 // "neither wide nor dropped by tidying".
 fn made(r: Resolved) -> Stated
@@ -31,7 +31,7 @@ fn made(r: Resolved) -> Stated
     let line = r.line;
     match outcome {
         Outcome::Dropped => unstated(),
-        Outcome::Wide => unstated(),
+        Outcome::Overflows => unstated(),
         Outcome::Made => Stated {
             found: true,
             line: line,
@@ -114,7 +114,7 @@ fn by_named(how: u8, which: u8, upper: Line, lower: Line) -> Stated
 pub fn derived(proof: &[u8], i: usize, bytes: [u8; 64]) -> Stated
     requires { ⌜ 64 * i ≤ length (now proof) ⌝ }
     requires { ⌜ ReadyLines (now proof) i ⌝ }
-    ensures { λ s. ⌜ States (resultStated (linesIn (now (proof .entry)) i) bytes) bytes s ⌝ }
+    ensures { λ s. ⌜ States (resolventStated (linesIn (now (proof .entry)) i) bytes) bytes s ⌝ }
 {
     let first = u16_at(&bytes, 2);
     let second = u16_at(&bytes, 4);

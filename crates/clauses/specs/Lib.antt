@@ -1,4 +1,4 @@
-pub mod Turns
+pub mod Passes
 pub mod Walk
 pub mod Literals
 pub mod Zeros

@@ -12,7 +12,7 @@ use Rattle.rules.specs.Lines.{Booleans, noBooleans, including}
 use Rattle.rules.specs.Normalize.{membersOf}
 use Rattle.masks.specs.Mask.{bits}
 use Rattle.reader.specs.Values.{valuesAt, literalAt}
-use Rattle.clauses.specs.Turns.{values-next}
+use Rattle.clauses.specs.Passes.{values-next}
 
 -- the literal that a byte stands for
 unfoldable pub literalOf : ℕ → Literal

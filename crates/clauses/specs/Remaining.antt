@@ -14,7 +14,7 @@ use Rattle.clauses.specs.declared.splits.Fate.the-variants.{Always, Neve
 use Rattle.clauses.specs.declared.splits.Kept as stay
 use Rattle.clauses.specs.declared.splits.Kept.the-variants.{Dropped, Count}
 use Rattle.reader.specs.Values.{valuesAt, behind, behind-is, constraintAt}
-use Rattle.clauses.specs.Turns.{values-next, behind-next}
+use Rattle.clauses.specs.Passes.{values-next, behind-next}
 use Rattle.clauses.specs.Settled.{fate}
 
 abbrev pub isAlways : Fate → Bool

@@ -14,7 +14,7 @@ use Rattle.rules.specs.Bytes.{fromUnsigned, fieldAt}
 use Rattle.rules.specs.Arithmetic.{isZero}
 use Rattle.layout.specs.Amounts.{fromUnsigned-low, fromUnsigned-high}
 use Rattle.reader.specs.Values.{valuesAt, behind, behind-is, amountAt}
-use Rattle.clauses.specs.Turns.{values-next, behind-next}
+use Rattle.clauses.specs.Passes.{values-next, behind-next}
 
 isZero-number : (n : ℕ) → isZero (pos n) ≡ eqb n 0
 unfolding isZero

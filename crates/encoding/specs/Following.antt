@@ -16,7 +16,7 @@ use Rattle.rules.specs.Lines.{Line, Variable, positively, negatively}
 use Rattle.rules.specs.Resolve.{resolve}
 use Rattle.rules.specs.Steps.{Step, resolved, encodeStep}
 use Rattle.rules.specs.Elimination.{overflows}
-use Rattle.rules.specs.Checker.{pairable, derived, variableNamed, resultNamed, lineAmong, statedLine}
+use Rattle.rules.specs.Checker.{pairable, derived, variableNamed, resolventNamed, lineAmong, statedLine}
 use Rattle.lists.specs.Tests.{split, is-true, is-false}
 use Rattle.lists.specs.All.{All, Any, all-any}
 use Rattle.lists.specs.Places.{element-all, element-below}
@@ -26,11 +26,11 @@ use Rattle.vectors.specs.Amounts.{overflows-no}
 use Rattle.resolution.specs.Formed.{Formed, resolve-formed}
 use Rattle.encoding.specs.Lines.{Encodable, AllEncodable}
 use Rattle.layout.specs.Headers.{named-back, parents-back}
-use Rattle.encoding.specs.Stated.{stated-part, stated-result, derived-line, result-named}
+use Rattle.encoding.specs.Stated.{stated-part, stated-resolvent, derived-line, resolvent-named}
 
 -- "the result of two earlier lines, neither wide nor dropped by tidying, first parent positive; by a mark at most one parent has a
 -- condition"
-pub record ResultIn (earlier : List Line) (bytes : List ℕ) (l : Line) : Type 0 where
+pub record ResolventIn (earlier : List Line) (bytes : List ℕ) (l : Line) : Type 0 where
   pub variable : Variable
   pub first : ℕ
   pub second : ℕ
@@ -47,7 +47,7 @@ pub record ResultIn (earlier : List Line) (bytes : List ℕ) (l : Line) : Type 0
 
 -- "A book's line follows if all 64 bytes are a loaded piece, or" such a result
 abbrev pub Follows : List Step → List Line → List ℕ → Line → Type 0
-Follows parts earlier bytes l = Any (λ s. (encodeStep s ≡ bytes) × (s .line ≡ l)) parts ⊎ ResultIn earlier bytes l
+Follows parts earlier bytes l = Any (λ s. (encodeStep s ≡ bytes) × (s .line ≡ l)) parts ⊎ ResolventIn earlier bytes l
 
 never : {A : Type 0} {X : Type 0} {a : A} → _≡_ {A = Option A} none (some a) → X
 never e = absurd (let z : _≡_ {A = ℕ} 0 1 = cc in omega arith)
@@ -76,8 +76,8 @@ module _ (bytes : List ℕ) (l : Line) where
       abbrev test : Bool
       test = positively v u && negatively v m && pairable v u m
 
-      narrow-result : T test → (r : Line) → resolve v u m ≡ some r → cond (overflows r) none (some r) ≡ some l → ResultIn earlier bytes l
-      narrow-result t r e h =
+      narrow-resolvent : T test → (r : Line) → resolve v u m ≡ some r → cond (overflows r) none (some r) ≡ some l → ResolventIn earlier bytes l
+      narrow-resolvent t r e h =
           ⊎-elim (λ w. never (rw (is-true (overflows r) w) at h))
           (λ w. let q : r ≡ l = inside (rw (is-false (overflows r) w) at h) in
           let a = and-yes (positively v u && negatively v m) (pairable v u m) t in
@@ -98,81 +98,81 @@ module _ (bytes : List ℕ) (l : Line) where
             written = written;
           }) (split (overflows r))
 
-      derived-result : derived v (some u) (some m) ≡ some l → ResultIn earlier bytes l
+      derived-resolvent : derived v (some u) (some m) ≡ some l → ResolventIn earlier bytes l
       unfolding derived
-      derived-result h = ⊎-elim (λ t. by t (resolve v u m) refl (rw (is-true test t, derived) at h)) (λ t. never (rw (is-false test t, derived) at h)) (split test)
+      derived-resolvent h = ⊎-elim (λ t. by t (resolve v u m) refl (rw (is-true test t, derived) at h)) (λ t. never (rw (is-false test t, derived) at h)) (split test)
         where
-          by : T test → (o : Option Line) → resolve v u m ≡ o → _≡_ {A = Option Line} (elim o [ none ↦ none | some r ↦ cond (overflows r) none (some r) ]) (some l) → ResultIn earlier bytes l
+          by : T test → (o : Option Line) → resolve v u m ≡ o → _≡_ {A = Option Line} (elim o [ none ↦ none | some r ↦ cond (overflows r) none (some r) ]) (some l) → ResolventIn earlier bytes l
           by t none e h = never h
-          by t (some r) e h = narrow-result t r e h
+          by t (some r) e h = narrow-resolvent t r e h
 
     -- from the parents on
-    parents-result : (v : Variable) (s : Step) (a b : Option Line) → getElem? earlier first ≡ a → getElem? earlier second ≡ b
-        → _≡_ {A = Option Step} (elim (derived v a b) [ none ↦ none | some r ↦ some (record { origin = resolved v first second; line = r }) ]) (some s) → encodeStep s ≡ bytes → s .line ≡ l → ResultIn earlier bytes l
+    parents-resolvent : (v : Variable) (s : Step) (a b : Option Line) → getElem? earlier first ≡ a → getElem? earlier second ≡ b
+        → _≡_ {A = Option Step} (elim (derived v a b) [ none ↦ none | some r ↦ some (record { origin = resolved v first second; line = r }) ]) (some s) → encodeStep s ≡ bytes → s .line ≡ l → ResolventIn earlier bytes l
     unfolding derived
-    parents-result v s none b e f h w q = never h
-    parents-result v s (some u) none e f h w q = never h
-    parents-result v s (some u) (some m) e f h w q = by (derived v (some u) (some m)) refl h
+    parents-resolvent v s none b e f h w q = never h
+    parents-resolvent v s (some u) none e f h w q = never h
+    parents-resolvent v s (some u) (some m) e f h w q = by (derived v (some u) (some m)) refl h
       where
-        by : (o : Option Line) → derived v (some u) (some m) ≡ o → _≡_ {A = Option Step} (elim o [ none ↦ none | some r ↦ some (record { origin = resolved v first second; line = r }) ]) (some s) → ResultIn earlier bytes l
+        by : (o : Option Line) → derived v (some u) (some m) ≡ o → _≡_ {A = Option Step} (elim o [ none ↦ none | some r ↦ some (record { origin = resolved v first second; line = r }) ]) (some s) → ResolventIn earlier bytes l
         by none d h = never h
         by (some r) d h =
             let i : record { origin = resolved v first second; line = r } ≡ s = inside h in
             let j : r ≡ l = ap (λ (x : Step). x .line) i ∙ q in
-            derived-result v u m e f (subst (λ (x : Line). encodeStep (record { origin = resolved v first second; line = x }) ≡ bytes) j (ap encodeStep i ∙ w)) (d ∙ ap some j)
+            derived-resolvent v u m e f (subst (λ (x : Line). encodeStep (record { origin = resolved v first second; line = x }) ≡ bytes) j (ap encodeStep i ∙ w)) (d ∙ ap some j)
 
-    named-result : (s : Step) → resultNamed earlier bytes ≡ some s → encodeStep s ≡ bytes → s .line ≡ l → ResultIn earlier bytes l
-    unfolding resultNamed
-    named-result s h w q = by (variableNamed (fieldAt 0 1 bytes) (fieldAt 1 1 bytes)) h
+    named-resolvent : (s : Step) → resolventNamed earlier bytes ≡ some s → encodeStep s ≡ bytes → s .line ≡ l → ResolventIn earlier bytes l
+    unfolding resolventNamed
+    named-resolvent s h w q = by (variableNamed (fieldAt 0 1 bytes) (fieldAt 1 1 bytes)) h
       where
         by : (o : Option Variable)
             → _≡_ {A = Option Step} (elim o [ none ↦ none | some v ↦ elim (derived v (getElem? earlier first) (getElem? earlier second)) [ none ↦ none | some r ↦ some (record { origin = resolved v first second; line = r }) ] ]) (some s)
-            → ResultIn earlier bytes l
+            → ResolventIn earlier bytes l
         by none h = never h
-        by (some v) h = parents-result v s (getElem? earlier first) (getElem? earlier second) refl refl h w q
+        by (some v) h = parents-resolvent v s (getElem? earlier first) (getElem? earlier second) refl refl h w q
 
     pub stated-follows : (parts : List Step) → statedLine parts earlier bytes ≡ some l → Follows parts earlier bytes l
     unfolding statedLine
     stated-follows parts h = by (lineAmong parts bytes) refl h
       where
-        one : (s : Step) → resultNamed earlier bytes ≡ some s → Any (λ s. (encodeStep s ≡ bytes) × (s .line ≡ l)) (s ∷ []) → ResultIn earlier bytes l
-        one s r (inl k) = named-result s r (k .0) (k .1)
+        one : (s : Step) → resolventNamed earlier bytes ≡ some s → Any (λ s. (encodeStep s ≡ bytes) × (s .line ≡ l)) (s ∷ []) → ResolventIn earlier bytes l
+        one s r (inl k) = named-resolvent s r (k .0) (k .1)
         one s r (inr k) = absurd k
 
-        result : (o : Option Step) → resultNamed earlier bytes ≡ o → _≡_ {A = Option Line} (elim o [ none ↦ none | some s ↦ lineAmong (s ∷ []) bytes ]) (some l) → Follows parts earlier bytes l
+        result : (o : Option Step) → resolventNamed earlier bytes ≡ o → _≡_ {A = Option Line} (elim o [ none ↦ none | some s ↦ lineAmong (s ∷ []) bytes ]) (some l) → Follows parts earlier bytes l
         result none r h = never h
         result (some s) r h = inr (one s r (among-follows (s ∷ []) h))
 
-        by : (o : Option Line) → lineAmong parts bytes ≡ o → _≡_ {A = Option Line} (elim o [ some m ↦ some m | none ↦ elim (resultNamed earlier bytes) [ none ↦ none | some s ↦ lineAmong (s ∷ []) bytes ] ]) (some l) → Follows parts earlier bytes l
-        by none e h = result (resultNamed earlier bytes) refl h
+        by : (o : Option Line) → lineAmong parts bytes ≡ o → _≡_ {A = Option Line} (elim o [ some m ↦ some m | none ↦ elim (resolventNamed earlier bytes) [ none ↦ none | some s ↦ lineAmong (s ∷ []) bytes ] ]) (some l) → Follows parts earlier bytes l
+        by none e h = result (resolventNamed earlier bytes) refl h
         by (some m) e h = inl (among-follows parts (e ∙ h))
 
 -- ---- and back, where the earlier lines come back from their bytes
 module _ (parts : List Step) (known : AllEncodable parts) (earlier : List Line) (few : length earlier ≤ 65536) (all : All Encodable earlier) (bytes : List ℕ) (l : Line) where
-  result-encodable : ResultIn earlier bytes l → Encodable l
-  result-encodable r =
+  resolvent-encodable : ResolventIn earlier bytes l → Encodable l
+  resolvent-encodable r =
       let u = element-all Encodable earlier (r .first) (r .upper) (r .atFirst) all in
       let m = element-all Encodable earlier (r .second) (r .lower) (r .atSecond) all in
       record { formed = dropped-is Formed (r .result) (resolve-formed (r .variable) (r .upper) (r .lower) (u .formed) (m .formed)); small = overflows-no l .0 (r .narrow) }
 
   pub follows-encodable : Follows parts earlier bytes l → Encodable l
-  follows-encodable = ⊎-elim (λ k. all-any (λ s. Encodable (s .line)) (λ s. (encodeStep s ≡ bytes) × (s .line ≡ l)) parts (λ s h k. subst Encodable (k .1) h) known k) result-encodable
+  follows-encodable = ⊎-elim (λ k. all-any (λ s. Encodable (s .line)) (λ s. (encodeStep s ≡ bytes) × (s .line ≡ l)) parts (λ s h k. subst Encodable (k .1) h) known k) resolvent-encodable
 
   part-stated : (ss : List Step) → AllEncodable ss → ((s : Step) → Any (λ x. x ≡ s) ss → Any (λ x. x ≡ s) parts) → Any (λ s. (encodeStep s ≡ bytes) × (s .line ≡ l)) ss → statedLine parts earlier bytes ≡ some l
   part-stated [] k f h = absurd h
   part-stated (s ∷ ss) k f (inl h) = subst (λ (bs : List ℕ). statedLine parts earlier bs ≡ some l) (h .0) (stated-part s (k .0) parts earlier known (f s (inl refl)) ∙ ap some (h .1))
   part-stated (s ∷ ss) k f (inr h) = part-stated ss (k .1) (λ x m. f x (inr m)) h
 
-  result-stated : ResultIn earlier bytes l → statedLine parts earlier bytes ≡ some l
-  result-stated r =
+  resolvent-stated : ResolventIn earlier bytes l → statedLine parts earlier bytes ≡ some l
+  resolvent-stated r =
       let s : Step = record { origin = resolved (r .variable) (r .first) (r .second); line = l } in
-      let h = result-encodable r in
+      let h = resolvent-encodable r in
       let a = element-below earlier (r .first) (r .upper) (r .atFirst) in
       let b = element-below earlier (r .second) (r .lower) (r .atSecond) in
       let k = parents-back (r .variable) (r .first) (r .second) l (omega arith) (omega arith) in
       let d = derived-line (r .variable) (r .upper) (r .lower) l (r .positive) (r .negative) (r .allowed) (r .result) h in
-      let n = result-named (r .variable) (r .upper) (r .lower) l (r .first) (r .second) earlier (encodeStep s) (named-back (r .variable) (r .first) (r .second) l) (k .0) (k .1) (r .atFirst) (r .atSecond) d in
-      subst (λ (bs : List ℕ). statedLine parts earlier bs ≡ some l) (r .written) (stated-result s h parts earlier known n)
+      let n = resolvent-named (r .variable) (r .upper) (r .lower) l (r .first) (r .second) earlier (encodeStep s) (named-back (r .variable) (r .first) (r .second) l) (k .0) (k .1) (r .atFirst) (r .atSecond) d in
+      subst (λ (bs : List ℕ). statedLine parts earlier bs ≡ some l) (r .written) (stated-resolvent s h parts earlier known n)
 
   pub follows-stated : Follows parts earlier bytes l → statedLine parts earlier bytes ≡ some l
-  follows-stated = ⊎-elim (part-stated parts known (λ s m. m)) result-stated
+  follows-stated = ⊎-elim (part-stated parts known (λ s m. m)) resolvent-stated

@@ -8,5 +8,5 @@ pub mod ModelAccepted
 pub mod Stated
 pub mod Following
 pub mod ProofAccepted
-pub mod CourseAccepted
+pub mod EliminationAccepted
 pub mod ProofBytes

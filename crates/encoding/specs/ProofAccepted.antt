@@ -22,13 +22,13 @@ use Rattle.lists.specs.Tests.{is-true}
 use Rattle.lists.specs.All.{All, all-map, map-append}
 use Rattle.lists.specs.Places.{place-below}
 use Rattle.resolution.specs.Formed.{Formed}
-use Rattle.course.specs.Taken.{lines}
-use Rattle.course.specs.Origins.{Each, Derived, Justified}
-use Rattle.course.specs.Ends.{LastEmpty}
+use Rattle.elimination.specs.Taken.{lines}
+use Rattle.elimination.specs.Origins.{Each, Derived, Justified}
+use Rattle.elimination.specs.Ends.{LastEmpty}
 use Rattle.encoding.specs.Lines.{Encodable, AllEncodable}
 use Rattle.encoding.specs.Steps.{take-step, drop-step, proof-length}
 use Rattle.layout.specs.Headers.{named-back, parents-back}
-use Rattle.encoding.specs.Stated.{stated-part, stated-result, at-element, derived-line, result-named}
+use Rattle.encoding.specs.Stated.{stated-part, stated-resolvent, at-element, derived-line, resolvent-named}
 
 -- the two lines that a resolvent names may be paired
 abbrev pub Pairable : List Variable → List Step → Step → Type 0
@@ -48,10 +48,10 @@ module _ (variables : List Variable) (parts : List Step) (known : AllEncodable p
       let first = place-below (λ x. x .line ≡ d .upper) earlier (d .first) (d .atFirst) in
       let second = place-below (λ x. x .line ≡ d .lower) earlier (d .second) (d .atSecond) in
       let b = parents-back v (d .first) (d .second) (s .line) (omega arith) (omega arith) in
-      let r = result-named v (d .upper) (d .lower) (s .line) (d .first) (d .second) (lines earlier) (encodeStep t) (named-back v (d .first) (d .second) (s .line)) (b .0) (b .1)
+      let r = resolvent-named v (d .upper) (d .lower) (s .line) (d .first) (d .second) (lines earlier) (encodeStep t) (named-back v (d .first) (d .second) (s .line)) (b .0) (b .1)
       (at-element earlier (d .first) (d .upper) (d .atFirst)) (at-element earlier (d .second) (d .lower) (d .atSecond))
       (derived-line v (d .upper) (d .lower) (s .line) (d .positive) (d .negative) q (d .result) h) in
-      subst (Stated parts earlier) e (stated-result t h parts (lines earlier) known r)
+      subst (Stated parts earlier) e (stated-resolvent t h parts (lines earlier) known r)
 
   each-stated : (earlier ss : List Step) → length earlier + length ss ≤ 65536 → AllEncodable ss → Each (Justified variables parts) earlier ss → Each (Pairable variables) earlier ss
       → Each (Stated parts) earlier ss

@@ -14,7 +14,7 @@ use Rattle.lists.specs.All.{All, all-any, all-append}
 use Rattle.lists.specs.Places.{all-place}
 use Rattle.lists.specs.Tabulated.{all-tabulate}
 use Rattle.layout.specs.Bytes.{AllBytes}
-use Rattle.course.specs.Origins.{Each, Justified}
+use Rattle.elimination.specs.Origins.{Each, Justified}
 use Rattle.encoding.specs.Steps.{step-bytes}
 
 how-byte : (o : Origin) → header o .how < 256
@@ -40,10 +40,10 @@ order-named : All Named order
 unfolding order
 order-named = all-append Named (tabulate 8 rational) (tabulate 32 boolean) (all-tabulate Named 8 rational (λ i h. omega arith)) (all-tabulate Named 32 boolean (λ i h. omega arith))
 
-result-which : (v : Variable) (a b : ℕ) → Named v → header (resolved v a b) .which < 256
+resolvent-which : (v : Variable) (a b : ℕ) → Named v → header (resolved v a b) .which < 256
 unfolding header
-result-which (rational f) a b h = h
-result-which (boolean i) a b h = h
+resolvent-which (rational f) a b h = h
+resolvent-which (boolean i) a b h = h
 
 -- ---- of the parts
 parts-which : (c p : ℕ) (ls : List Line) → All WhichByte (partSteps c p ls)
@@ -64,11 +64,11 @@ module _ (p : Problem) where
   justified-which earlier s (inl m) = all-any WhichByte (λ x. x ≡ s) (loadableOf p) (λ x h e. subst WhichByte e h) (loadable-which 0 (p .booleans) (p .clauses)) m
   justified-which earlier s (inr d) =
       rw (d .names)
-      (result-which (d .variable) (d .first) (d .second) (all-place Named (λ v. v ≡ d .variable) order (d .round) (λ v h e. subst Named e h) order-named (d .place)))
+      (resolvent-which (d .variable) (d .first) (d .second) (all-place Named (λ v. v ≡ d .variable) order (d .round) (λ v h e. subst Named e h) order-named (d .place)))
 
   each-which : (earlier ss : List Step) → Each (Justified order (loadableOf p)) earlier ss → All WhichByte ss
   each-which earlier [] h = tt
   each-which earlier (s ∷ ss) h = (justified-which earlier s (h .0), each-which (earlier ++ (s ∷ [])) ss (h .1))
 
-  pub course-bytes : (steps : List Step) → Each (Justified order (loadableOf p)) [] steps → AllBytes (encodeProof steps)
-  course-bytes steps h = proof-bytes steps (each-which [] steps h)
+  pub elimination-bytes : (steps : List Step) → Each (Justified order (loadableOf p)) [] steps → AllBytes (encodeProof steps)
+  elimination-bytes steps h = proof-bytes steps (each-which [] steps h)

@@ -14,14 +14,14 @@ use Rattle.rules.specs.Lines.{Line, Variable, positively, negatively}
 use Rattle.rules.specs.Resolve.{resolve}
 use Rattle.rules.specs.Steps.{Step, resolved, encodeStep}
 use Rattle.rules.specs.Elimination.{overflows}
-use Rattle.rules.specs.Checker.{pairable, derived, variableNamed, resultNamed, lineAmong, statedLine}
+use Rattle.rules.specs.Checker.{pairable, derived, variableNamed, resolventNamed, lineAmong, statedLine}
 use Rattle.lists.specs.Tests.{split, is-true, is-false}
 use Rattle.lists.specs.All.{Any}
 use Rattle.lists.specs.Equal.{same-yes, yes-same}
 use Rattle.lists.specs.Dropped.{DroppedOr}
 use Rattle.vectors.specs.Amounts.{overflows-no}
-use Rattle.course.specs.Pairs.{LineAt}
-use Rattle.course.specs.Taken.{lines}
+use Rattle.elimination.specs.Pairs.{LineAt}
+use Rattle.elimination.specs.Taken.{lines}
 use Rattle.encoding.specs.Lines.{Encodable, AllEncodable}
 use Rattle.encoding.specs.Steps.{step-injective}
 
@@ -56,9 +56,9 @@ module _ (s : Step) (h : Encodable (s .line)) where
   unfolding statedLine
   stated-part parts earlier k m = rw (among-parts parts k m, statedLine)
 
-  pub stated-result : (parts : List Step) (earlier : List Line) → AllEncodable parts → resultNamed earlier (encodeStep s) ≡ some s → statedLine parts earlier (encodeStep s) ≡ some (s .line)
+  pub stated-resolvent : (parts : List Step) (earlier : List Line) → AllEncodable parts → resolventNamed earlier (encodeStep s) ≡ some s → statedLine parts earlier (encodeStep s) ≡ some (s .line)
   unfolding statedLine
-  stated-result parts earlier k f = by (lineAmong parts (encodeStep s)) refl (among-own parts k)
+  stated-resolvent parts earlier k f = by (lineAmong parts (encodeStep s)) refl (among-own parts k)
     where
       by : (o : Option Line) → lineAmong parts (encodeStep s) ≡ o → Own o → statedLine parts earlier (encodeStep s) ≡ some (s .line)
       by none e r = rw (e, statedLine, f) (among-parts (s ∷ []) (h, tt) (inl refl))
@@ -77,8 +77,8 @@ module _ (v : Variable) (u l m : Line) where
       let t = is-true (positively v u && negatively v l && pairable v u l) (yes-and (positively v u && negatively v l) (pairable v u l) (yes-and (positively v u) (negatively v l) p n) q) in
       rw (t, derived, r, is-false (overflows m) (overflows-no m .1 (k .small)))
 
-  pub result-named : (first second : ℕ) (earlier : List Line) (bytes : List ℕ) → variableNamed (fieldAt 0 1 bytes) (fieldAt 1 1 bytes) ≡ some v → fieldAt 2 2 bytes ≡ first
+  pub resolvent-named : (first second : ℕ) (earlier : List Line) (bytes : List ℕ) → variableNamed (fieldAt 0 1 bytes) (fieldAt 1 1 bytes) ≡ some v → fieldAt 2 2 bytes ≡ first
       → fieldAt 4 2 bytes ≡ second → getElem? earlier first ≡ some u → getElem? earlier second ≡ some l → derived v (some u) (some l) ≡ some m
-      → resultNamed earlier bytes ≡ some (record { origin = resolved v first second; line = m })
-  unfolding resultNamed
-  result-named first second earlier bytes e f g atFirst atSecond d = rw (e, resultNamed, f, g, atFirst, atSecond, d, f, g)
+      → resolventNamed earlier bytes ≡ some (record { origin = resolved v first second; line = m })
+  unfolding resolventNamed
+  resolvent-named first second earlier bytes e f g atFirst atSecond d = rw (e, resolventNamed, f, g, atFirst, atSecond, d, f, g)

@@ -13,7 +13,7 @@ use Rattle.rules.specs.Problem.{Problem}
 use Rattle.rules.specs.Calls.{sound, read, proofChecked, modelChecked}
 use Rattle.soundness.specs.ProofChecked.{CheckedProof, checked-proof, proof-checked-refutes}
 use Rattle.soundness.specs.ModelChecked.{CheckedModel, model-checked-satisfies}
-use Rattle.verdicts.specs.Decided.{NoChoice}
+use Rattle.verdicts.specs.Decided.{NoAssignment}
 use Rattle.promises.specs.HandedBack.{refusal-below}
 use Rattle.jemuling.specs.declared.told.Told.{Told}
 use Rattle.jemuling.specs.Told.{checkedTold}
@@ -30,18 +30,18 @@ unfolding checkedTold
 told-accepted t c given e = accepted-number c (sym (ap (λ (t : Told). t .number) given) ∙ e)
 
 -- a question that is read without fault, and that no choice satisfies
-pub record Refuted (question : List ℕ) : Type 0 where
+pub record Refuted (input : List ℕ) : Type 0 where
   pub problem : Problem
-  pub reads : read question ≡ sound problem
-  pub refuted : NoChoice problem
+  pub reads : read input ≡ sound problem
+  pub refuted : NoAssignment problem
 
 -- `jemuling_check_book`: whoever wrote the book
-pub accepted-book : (question book : List ℕ) (t : Told) → t ≡ checkedTold (proofChecked standard question book) → t .number ≡ 67 → Refuted question
-accepted-book question book t given e =
-    let a = told-accepted t (proofChecked standard question book) given e in
-    let c : CheckedProof question book = checked-proof standard question book a in
-    record { problem = c .problem; reads = c .reads; refuted = proof-checked-refutes standard question book a (c .problem) (c .reads) }
+pub accepted-proof : (input proof : List ℕ) (t : Told) → t ≡ checkedTold (proofChecked standard input proof) → t .number ≡ 67 → Refuted input
+accepted-proof input proof t given e =
+    let a = told-accepted t (proofChecked standard input proof) given e in
+    let c : CheckedProof input proof = checked-proof standard input proof a in
+    record { problem = c .problem; reads = c .reads; refuted = proof-checked-refutes standard input proof a (c .problem) (c .reads) }
 
 -- `jemuling_check_sheet`: the choice on the sheet satisfies the question
-pub accepted-sheet : (question sheet : List ℕ) (t : Told) → t ≡ checkedTold (modelChecked question sheet) → t .number ≡ 67 → CheckedModel question sheet
-accepted-sheet question sheet t given e = model-checked-satisfies question sheet (told-accepted t (modelChecked question sheet) given e)
+pub accepted-model : (input model : List ℕ) (t : Told) → t ≡ checkedTold (modelChecked input model) → t .number ≡ 67 → CheckedModel input model
+accepted-model input model t given e = model-checked-satisfies input model (told-accepted t (modelChecked input model) given e)

@@ -36,33 +36,33 @@ number-comes Unwritten a e = number-unwritten a e
 
 -- ---- what the call promises
 -- `told`, `book` and `sheet` are what it returned and left; `ours` is what document 01's definition of solving says and leaves
-pub record Delivered (question lentBook lentSheet : List ℕ) (told : SolvedTold) (book sheet : List ℕ) : Type 0 where
+pub record Delivered (input lentProof lentModel : List ℕ) (told : SolvedTold) (proof model : List ℕ) : Type 0 where
   pub ours : Solving
-  pub leavesBook : book ≡ ours .proof
-  pub leavesSheet : sheet ≡ ours .model
+  pub leavesProof : proof ≡ ours .proof
+  pub leavesModel : model ≡ ours .model
   pub value : told .value ≡ answerValue (ours .solved .answer)
   pub pairs : told .pairs ≡ ours .solved .pairs
   -- 64, 65 and 66 say the verdicts, and nothing else does
   pub verdict : (v : Verdict) → (told .number ≡ verdictNumber v) ↔ Comes v (ours .solved .answer)
-  pub first : Demand1 standard question lentBook lentSheet ours
-  pub back : HandedBack standard question ours
-  pub third : (p : Problem) → read question ≡ sound p → FullSize standard lentBook lentSheet → Demand3 standard question p lentBook lentSheet ours
+  pub first : Demand1 standard input lentProof lentModel ours
+  pub back : HandedBack standard input ours
+  pub third : (p : Problem) → read input ≡ sound p → FullSize standard lentProof lentModel → Demand3 standard input p lentProof lentModel ours
 
-pub delivered : (question lentBook lentSheet : List ℕ) (told : SolvedTold) (book sheet : List ℕ)
-    → told ≡ solvedTold (solve standard question lentBook lentSheet .solved) → book ≡ solve standard question lentBook lentSheet .proof → sheet ≡ solve standard question lentBook lentSheet .model
-    → Delivered question lentBook lentSheet told book sheet
+pub delivered : (input lentProof lentModel : List ℕ) (told : SolvedTold) (proof model : List ℕ)
+    → told ≡ solvedTold (solve standard input lentProof lentModel .solved) → proof ≡ solve standard input lentProof lentModel .proof → model ≡ solve standard input lentProof lentModel .model
+    → Delivered input lentProof lentModel told proof model
 unfolding solvedTold
-delivered question lentBook lentSheet told book sheet t b s =
-    let ours = solve standard question lentBook lentSheet in
+delivered input lentProof lentModel told proof model t b s =
+    let ours = solve standard input lentProof lentModel in
     let n : told .number ≡ answerNumber (ours .solved .answer) = ap (λ (t : SolvedTold). t .number) t in
     record {
       ours = ours;
-      leavesBook = b;
-      leavesSheet = s;
+      leavesProof = b;
+      leavesModel = s;
       value = ap (λ (t : SolvedTold). t .value) t;
       pairs = ap (λ (t : SolvedTold). t .pairs) t;
       verdict = λ v. (λ e. number-comes v (ours .solved .answer) (sym n ∙ e), λ c. n ∙ comes-number v (ours .solved .answer) c);
-      first = demand1 standard question lentBook lentSheet;
-      back = handed-back standard (omega arith) question lentBook lentSheet;
-      third = λ p e full. demand3 standard (omega arith) question p e lentBook lentSheet full;
+      first = demand1 standard input lentProof lentModel;
+      back = handed-back standard (omega arith) input lentProof lentModel;
+      third = λ p e full. demand3 standard (omega arith) input p e lentProof lentModel full;
     }

@@ -5,7 +5,7 @@ use Prim.Native.Nat.{ℕ, _+_, _-_, _≤_, _<_}
 use native.Mathlib.Omega.{arith}
 use Rattle.rules.specs.Lists.{any}
 use Rattle.reader.specs.Values.{valuesAt, behind, behind-is}
-use Rattle.clauses.specs.Turns.{values-next, behind-next}
+use Rattle.clauses.specs.Passes.{values-next, behind-next}
 
 -- one more is within
 pub step-within : (size at left : ℕ) → 0 < left → at + size ≤ behind size left at

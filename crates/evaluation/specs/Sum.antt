@@ -16,7 +16,7 @@ use Rattle.vectors.specs.Dot.{sum-values, sum-coefficients}
 use Rattle.rows.specs.Products.{product-≤}
 use Rattle.reader.specs.Values.{valuesAt, behind, behind-is, amountAt, boundOf, constraintAt}
 use Rattle.reader.specs.Sound.{Each, Amount, each-first, each-rest}
-use Rattle.clauses.specs.Turns.{values-next, behind-next}
+use Rattle.clauses.specs.Passes.{values-next, behind-next}
 use Rattle.evaluation.specs.declared.model.Model.{Model}
 use Rattle.evaluation.specs.Model.{value, assignment}
 use Rattle.evaluation.specs.Scan.{step-within}

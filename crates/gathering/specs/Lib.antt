@@ -6,4 +6,4 @@ pub mod Boolean
 pub mod Constraint
 pub mod Leading
 pub mod Gather
-pub mod Choice
+pub mod Chosen

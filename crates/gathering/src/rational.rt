@@ -9,14 +9,14 @@ ghost use Rattle.fractions.specs.Meaning.{meaning};
 ghost use Rattle.proof_lines.specs.Held.{linesIn, ReadyLines};
 ghost use Rattle.evaluation.specs.Model.{assignment};
 ghost use Rattle.gathering.specs.Range.{InRange};
-ghost use Rattle.gathering.specs.Choice.{Chosen};
+ghost use Rattle.gathering.specs.Chosen.{Chosen};
 
-pub struct Choice {
+pub struct RationalValue {
     pub beyond: bool,
     pub value: Fraction,
 }
 
-pub fn rational_value(proof: &[u8], n: usize, f: usize, model: Model) -> Choice
+pub fn rational_value(proof: &[u8], n: usize, f: usize, model: Model) -> RationalValue
     requires { ⌜ 64 * n ≤ length (now proof) ⌝ }
     requires { ⌜ ReadyLines (now proof) n ⌝ }
     requires { ⌜ f < 8 ⌝ }
@@ -25,7 +25,7 @@ pub fn rational_value(proof: &[u8], n: usize, f: usize, model: Model) -> Choice
 {
     let b = gathered(proof, n, f, model);
     if b.beyond {
-        return Choice {
+        return RationalValue {
             beyond: true,
             value: Fraction {
                 numerator: 0,
@@ -36,7 +36,7 @@ pub fn rational_value(proof: &[u8], n: usize, f: usize, model: Model) -> Choice
     let lower = b.lower;
     let upper = b.upper;
     let x = value(lower, upper);
-    Choice {
+    RationalValue {
         beyond: x.beyond(),
         value: x,
     }

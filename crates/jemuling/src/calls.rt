@@ -16,34 +16,34 @@ ghost use Rattle.jemuling.specs.Told.{solvedTold, checkedTold, evidenceT
 
 // Whether a question can be satisfied, with a sheet or a book that shows it.
 #[no_mangle]
-pub extern "C" fn jemuling_solve(question: &[u8], book: &mut [u8], sheet: &mut [u8]) -> SolvedTold
-    ensures { λ t. ⌜ t ≡ solvedTold (solve standard (now (question .entry)) (now (book .entry)) (now (sheet .entry)) .solved) ⌝ }
-    ensures { λ _. ⌜ now (book .exit) ≡ solve standard (now (question .entry)) (now (book .entry)) (now (sheet .entry)) .proof ⌝ }
-    ensures { λ _. ⌜ now (sheet .exit) ≡ solve standard (now (question .entry)) (now (book .entry)) (now (sheet .entry)) .model ⌝ }
+pub extern "C" fn jemuling_solve(input: &[u8], proof: &mut [u8], model: &mut [u8]) -> SolvedTold
+    ensures { λ t. ⌜ t ≡ solvedTold (solve standard (now (input .entry)) (now (proof .entry)) (now (model .entry)) .solved) ⌝ }
+    ensures { λ _. ⌜ now (proof .exit) ≡ solve standard (now (input .entry)) (now (proof .entry)) (now (model .entry)) .proof ⌝ }
+    ensures { λ _. ⌜ now (model .exit) ≡ solve standard (now (input .entry)) (now (proof .entry)) (now (model .entry)) .model ⌝ }
 {
-    solved_told(solve(question, book, sheet))
+    solved_told(solve(input, proof, model))
 }
 
 // Whether a book refutes a question.
 #[no_mangle]
-pub extern "C" fn jemuling_check_book(question: &[u8], book: &[u8]) -> Told
-    ensures { λ t. ⌜ t ≡ checkedTold (proofChecked standard (now (question .entry)) (now (book .entry))) ⌝ }
+pub extern "C" fn jemuling_check_book(input: &[u8], proof: &[u8]) -> Told
+    ensures { λ t. ⌜ t ≡ checkedTold (proofChecked standard (now (input .entry)) (now (proof .entry))) ⌝ }
 {
-    checked_told(check_standard(question, book))
+    checked_told(check_standard(input, proof))
 }
 
 // Whether a sheet satisfies a question.
 #[no_mangle]
-pub extern "C" fn jemuling_check_sheet(question: &[u8], sheet: &[u8]) -> Told
-    ensures { λ t. ⌜ t ≡ checkedTold (modelChecked (now (question .entry)) (now (sheet .entry))) ⌝ }
+pub extern "C" fn jemuling_check_sheet(input: &[u8], model: &[u8]) -> Told
+    ensures { λ t. ⌜ t ≡ checkedTold (modelChecked (now (input .entry)) (now (model .entry))) ⌝ }
 {
-    checked_told(check_model(question, sheet))
+    checked_told(check_model(input, model))
 }
 
 // Which part of book or sheet is handed back, from a verdict's number and lines.
 #[no_mangle]
-pub extern "C" fn jemuling_hand_back(number: u64, lines: usize, book: &[u8], sheet: &[u8]) -> Told
-    ensures { λ t. ⌜ t ≡ evidenceTold (evidence standard number lines (now (book .entry)) (now (sheet .entry))) ⌝ }
+pub extern "C" fn jemuling_hand_back(number: u64, lines: usize, proof: &[u8], model: &[u8]) -> Told
+    ensures { λ t. ⌜ t ≡ evidenceTold (evidence standard number lines (now (proof .entry)) (now (model .entry))) ⌝ }
 {
-    evidence_told(evidence(Limits::standard(), number, lines, book, sheet))
+    evidence_told(evidence(Limits::standard(), number, lines, proof, model))
 }

@@ -1,8 +1,8 @@
 // A line of the proof in machine words: two masks of Boolean variables, and a constraint.
 use crate::row::equal;
 use crate::row::leading;
+use crate::row::overflowing_row;
 use crate::row::same_row;
-use crate::row::wide_row;
 use machine::sign::in_range;
 use machine::sign::is_negative;
 use machine::sign::is_positive;
@@ -105,7 +105,7 @@ impl Line {
         ensures { λ r. ⌜ r ≡ overflows (meaning self) ⌝ }
     {
         let row = self.coefficients;
-        if wide_row(row) {
+        if overflowing_row(row) {
             return true;
         }
         !in_range(self.bound)

@@ -29,7 +29,7 @@ pub fn same_row(us: [i64; 8], ls: [i64; 8]) -> bool
 }
 
 // Some coefficient is no amount.
-pub fn wide_row(row: [i64; 8]) -> bool
+pub fn overflowing_row(row: [i64; 8]) -> bool
     ensures { λ r. ⌜ r ≡ any (λ z. not (inRange z)) row ⌝ }
 {
     let mut i = 0;

@@ -13,7 +13,7 @@ use Rattle.rules.specs.Split.{partsOf, splitsOf}
 use Rattle.rules.specs.Steps.{Step}
 use Rattle.rules.specs.Needs.{pairsOf}
 use Rattle.rules.specs.Elimination.{Stops, State, running, ended, limited, partSteps, loadable, loadableOf, add, load}
-use Rattle.course.specs.PairBound.{load-pairs}
+use Rattle.elimination.specs.PairBound.{load-pairs}
 use Rattle.reader.specs.Values.{clauseAt, clauseEnd}
 use Rattle.reader.specs.Sound.{SoundClause}
 use Rattle.reading.specs.Clauses.{clausesAt, clauses-next}

@@ -10,12 +10,12 @@ use Rattle.types.specs.declared.limits.Limits.{Limits}
 use Rattle.rules.specs.Lines as rules
 use Rattle.rules.specs.Steps.{Step, header}
 use Rattle.rules.specs.Elimination.{limited, partSteps, add, load}
-use Rattle.course.specs.States.{load-ended}
+use Rattle.elimination.specs.States.{load-ended}
 use Rattle.lines.specs.declared.line.Line.{Line}
 use Rattle.lines.specs.Line.{meaning}
-use Rattle.pieces.specs.declared.parts.Parts.{Parts}
-use Rattle.pieces.specs.Parts.{partsFrom, Cursor}
-use Rattle.pieces.specs.Part.{from-none}
+use Rattle.parts.specs.declared.parts.Parts.{Parts}
+use Rattle.parts.specs.Parts.{partsFrom, Cursor}
+use Rattle.parts.specs.Part.{from-none}
 use Rattle.placing.specs.declared.place.Progress.the-variants.{Running}
 use Rattle.placing.specs.declared.place.Point.{Point}
 use Rattle.placing.specs.Steps.{originOf, stepsIn, stepOf, Named}

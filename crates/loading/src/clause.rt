@@ -1,6 +1,6 @@
 // The parts of one clause.
-use pieces::parts::begin;
-use pieces::parts::next;
+use parts::parts::begin;
+use parts::parts::next;
 use placing::place::Point;
 use placing::place::is_running;
 use placing::place::place;

@@ -134,14 +134,14 @@ gcd-distance x y = ⊎-elim
 
 -- ---- a turn: from x, which is odd, and y to the lesser of x and y's odd part, and their difference
 module _ (x y : ℕ) (odd : x % 2 ≡ 1) where
-  pub turn-odd : 0 < y → y < 2 ^ 64 → min x (oddPart y) % 2 ≡ 1
-  turn-odd h l = ⊎-elim
+  pub pass-odd : 0 < y → y < 2 ^ 64 → min x (oddPart y) % 2 ≡ 1
+  pass-odd h l = ⊎-elim
       (λ k. let e : min x (oddPart y) ≡ x = omega arith in rw e odd)
       (λ k. let e : min x (oddPart y) ≡ oddPart y = omega arith in rw e (oddPart-odd y h l))
       (eq-zero-or-pos (x - (oddPart y)))
 
-  pub turn-gcd : gcd (min x (oddPart y)) (max x (oddPart y) - min x (oddPart y)) ≡ gcd x y
-  turn-gcd = gcd-distance x (oddPart y) ∙ gcd-oddPart x y odd
+  pub pass-gcd : gcd (min x (oddPart y)) (max x (oddPart y) - min x (oddPart y)) ≡ gcd x y
+  pass-gcd = gcd-distance x (oddPart y) ∙ gcd-oddPart x y odd
 
-  pub turn-less : 0 < y → min x (oddPart y) + (max x (oddPart y) - min x (oddPart y)) < x + y
-  turn-less h = omega (arith, oddPart-≤ y)
+  pub pass-less : 0 < y → min x (oddPart y) + (max x (oddPart y) - min x (oddPart y)) < x + y
+  pass-less h = omega (arith, oddPart-≤ y)

@@ -16,9 +16,9 @@ use Rattle.reading.specs.Clauses.{clausesAt}
 use Rattle.reading.specs.Outcome.{outcome, outcome-faulty}
 use Rattle.reading.specs.Readable.{Readable}
 use Rattle.evaluation.specs.Model.{assignment}
-use Rattle.models.specs.declared.sheet.Sheet.{Sheet}
+use Rattle.models.specs.declared.read.ModelRead.{ModelRead}
 use Rattle.models.specs.Fields.{reading}
-use Rattle.models.specs.Sheet.{ReadModel}
+use Rattle.models.specs.Read.{ReadModel}
 
 -- ---- the question's faults
 pub checked-fault : (q s : List ℕ) (f : Refusal) (place : ℕ) → outcome (read q) ≡ Fault f place → modelChecked q s ≡ Refused f place
@@ -31,11 +31,11 @@ module _ {q : List ℕ} {b r n : ℕ} (given : Readable q b r n) (s : List ℕ) 
   unfolding modelChecked
   checked-short h = rw (given .is-read, lt-ltb (length s) limit.modelBytes h, modelChecked)
 
-  module _ {sheet : Sheet} (long : limit.modelBytes ≤ length s) (read : ReadModel s b r sheet) where
-    pub checked-bad : sheet .sound ≡ false → modelChecked q s ≡ Refused refusal.BadModel (sheet .place)
+  module _ {back : ModelRead} (long : limit.modelBytes ≤ length s) (read : ReadModel s b r back) where
+    pub checked-bad : back .sound ≡ false → modelChecked q s ≡ Refused refusal.BadModel (back .place)
     unfolding modelChecked reading
     checked-bad e = rw (given .is-read, le-ltb (length s) limit.modelBytes long, read .same, e, modelChecked)
 
-    pub checked-clauses : sheet .sound ≡ true → modelChecked q s ≡ checkClauses (assignment (sheet .model)) 0 (clausesAt q r n 4)
+    pub checked-clauses : back .sound ≡ true → modelChecked q s ≡ checkClauses (assignment (back .model)) 0 (clausesAt q r n 4)
     unfolding modelChecked reading
     checked-clauses e = rw (given .is-read, le-ltb (length s) limit.modelBytes long, read .same, e, modelChecked)

@@ -1,6 +1,6 @@
 // The call: "question faults (3 to 13), then ... 2 and 17", then the clauses.
 use crate::failing::check_clauses;
-use models::sheet::read_model;
+use models::read::read_model;
 use reader::cursor::Scan;
 use reading::read::read;
 use types::answers::Checked;
@@ -11,27 +11,27 @@ ghost use Rattle.rules.specs.Calls.{modelChecked};
 ghost use Rattle.reading.specs.Readable.{Readable};
 
 // Of a question that was read without fault.
-fn check_sheet(question: &[u8], sheet: &[u8], b: u8, r: u8, n: u64) -> Checked
-    requires { ⌜ Readable (now question) b r n ⌝ }
-    ensures { λ c. ⌜ c ≡ modelChecked (now (question .entry)) (now (sheet .entry)) ⌝ }
+fn check_readable(input: &[u8], back: &[u8], b: u8, r: u8, n: u64) -> Checked
+    requires { ⌜ Readable (now input) b r n ⌝ }
+    ensures { λ c. ⌜ c ≡ modelChecked (now (input .entry)) (now (back .entry)) ⌝ }
 {
-    if sheet.len() < Limits::MODEL_BYTES {
+    if back.len() < Limits::MODEL_BYTES {
         return Checked::Refused(Refusal::ShortModel, 0);
     }
-    let s = read_model(sheet, b, r);
+    let s = read_model(back, b, r);
     if !s.sound {
         return Checked::Refused(Refusal::BadModel, s.place);
     }
     let model = s.model;
-    check_clauses(question, 4, r, n, model)
+    check_clauses(input, 4, r, n, model)
 }
 
-pub fn check_model(question: &[u8], sheet: &[u8]) -> Checked
-    ensures { λ c. ⌜ c ≡ modelChecked (now (question .entry)) (now (sheet .entry)) ⌝ }
+pub fn check_model(input: &[u8], back: &[u8]) -> Checked
+    ensures { λ c. ⌜ c ≡ modelChecked (now (input .entry)) (now (back .entry)) ⌝ }
 {
-    let scan = read(question);
+    let scan = read(input);
     match scan {
         Scan::Fault(f, place) => Checked::Refused(f, place),
-        Scan::Sound(b, r, n) => check_sheet(question, sheet, b, r, n),
+        Scan::Sound(b, r, n) => check_readable(input, back, b, r, n),
     }
 }

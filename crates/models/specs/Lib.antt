@@ -1,4 +1,4 @@
 pub mod Fields
 pub mod Booleans
 pub mod Numerators
-pub mod Sheet
+pub mod Read

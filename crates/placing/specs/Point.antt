@@ -119,9 +119,9 @@ module _ {limits : Limits} {proof : List ℕ} (p : Point) (standing : Standing l
   place-known e = record { is = rw e; leads = leads-none standing }
 
   module _ (new : covered (s .line) (stepsIn proof (p .steps)) ≡ false) where
-    pub place-full : limits .steps ≤ p .steps → Reaches limits proof p proof (record { progress = OutOfSteps; steps = p .steps; pairs = p .pairs }) added
+    pub place-out-of-steps : limits .steps ≤ p .steps → Reaches limits proof p proof (record { progress = OutOfSteps; steps = p .steps; pairs = p .pairs }) added
     unfolding stateAt stateOf add placed limited
-    place-full h = record { is = rw (new, length-stepsIn proof (p .steps), le-leb (limits .steps) (p .steps) h); leads = leads-none standing }
+    place-out-of-steps h = record { is = rw (new, length-stepsIn proof (p .steps), le-leb (limits .steps) (p .steps) h); leads = leads-none standing }
 
     module _ (bytes : List ℕ) (kept : Kept bytes) (is-step : stepFrom bytes ≡ s) (more : p .steps < limits .steps) (whole : length bytes ≡ 64) where
       abbrev put : Point

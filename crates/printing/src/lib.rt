@@ -11,10 +11,10 @@ pub mod text;
 
 // One byte more than a question may have tells that it is too long.
 pub fn run() {
-    let mut question = [0u8; Limits::PROBLEM_BYTES + 1];
-    let n = io::read_full(0, &mut question);
+    let mut input = [0u8; Limits::PROBLEM_BYTES + 1];
+    let n = io::read_full(0, &mut input);
     let mut proof = [0u8; Limits::STEPS as usize * Limits::STEP_BYTES];
     let mut model = [0u8; Limits::MODEL_BYTES];
-    let solved = solve(&question[..n], &mut proof, &mut model);
+    let solved = solve(&input[..n], &mut proof, &mut model);
     print_solved(solved, &proof, &model);
 }

@@ -1,6 +1,6 @@
 // A model: "marks" with their number, then a line for each; "figures" with their number, then a line for each.
 use crate::numbers::at_most;
-use crate::numbers::wide;
+use crate::numbers::widened;
 use crate::text::Text;
 use crate::text::print_count;
 use fields::amount_at;
@@ -11,7 +11,7 @@ ghost use Prim.Native.Nat.{_+_, _*_, _≤_};
 // 0 or 1
 fn print_boolean(value: u8) {
     let start = Text::empty();
-    let line = start.decimal(wide(value));
+    let line = start.decimal(widened(value));
     line.print();
 }
 

@@ -1,7 +1,7 @@
 // Numbers for printing and for bounds.
 ghost use Prim.Native.Nat.{_≤_};
 
-pub fn wide(b: u8) -> u64 {
+pub fn widened(b: u8) -> u64 {
     b as u64
 }
 

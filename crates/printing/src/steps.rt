@@ -1,5 +1,5 @@
 // The steps of a proof: "lines" with their number, then a line for each with "how, which, first, second".
-use crate::numbers::wide;
+use crate::numbers::widened;
 use crate::text::Text;
 use crate::text::print_count;
 use fields::u16_at;
@@ -11,8 +11,8 @@ fn print_step(proof: &[u8], at: usize)
     requires { do ⌜ at + 6 ≤ (← ⟦proof.len()⟧) ⌝ }
 {
     let start = Text::empty();
-    let how = start.decimal(wide(proof[at]));
-    let which = how.then(wide(proof[at + 1]));
+    let how = start.decimal(widened(proof[at]));
+    let which = how.then(widened(proof[at + 1]));
     let first = which.then(u16_at(proof, at + 2));
     let second = first.then(u16_at(proof, at + 4));
     second.print();

@@ -29,8 +29,8 @@ use Rattle.soundness.specs.WellFormed.{WellFormed}
 use Rattle.soundness.specs.Reading.{read-well-formed}
 use Rattle.encoding.specs.Lines.{Encodable, AllEncodable}
 use Rattle.encoding.specs.Following.{Follows, stated-follows, follows-stated, follows-encodable}
-use Rattle.encoding.specs.CourseAccepted.{parts-encodable}
-use Rattle.promises.specs.Words.{RefutesFrom, Refutes, WritesChoice}
+use Rattle.encoding.specs.EliminationAccepted.{parts-encodable}
+use Rattle.promises.specs.Words.{RefutesFrom, Refutes, WritesAssignment}
 
 never : {X : Type 0} (n : ℕ) → Fails n ≡ Accepted → X
 never n e = absurd (let z : _≡_ {A = ℕ} 0 1 = cc in omega arith)
@@ -73,31 +73,31 @@ whole-few limits few n t =
 
 -- ---- the calls, for a question read without fault
 module _ (input : List ℕ) (p : Problem) (e : read input ≡ sound p) where
-  pub book-exactly : (limits : Limits) → limits .steps ≤ 65536 → (bytes : List ℕ) → proofChecked limits input bytes ≡ Accepted ↔ (T (wholeSteps limits (length bytes)) × Refutes (loadableOf p) (length bytes / limit.stepBytes) bytes)
+  pub proof-exactly : (limits : Limits) → limits .steps ≤ 65536 → (bytes : List ℕ) → proofChecked limits input bytes ≡ Accepted ↔ (T (wholeSteps limits (length bytes)) × Refutes (loadableOf p) (length bytes / limit.stepBytes) bytes)
   unfolding proofChecked
-  book-exactly limits few bytes =
+  proof-exactly limits few bytes =
       let whole = wholeSteps limits (length bytes) in
       ⊎-elim
       (λ t. let x = accepted-exactly p (read-well-formed input p e) bytes (whole-few limits few (length bytes) t) in
       (λ a. (t, x .0 (rw (e, proofChecked, is-true whole t) at a)), λ h. rw (e, proofChecked, is-true whole t) (x .1 (h .1))))
       (λ t. (λ a. absurd (refused-not ProofLength (length bytes) (rw (e, proofChecked, is-false whole t) at a)), λ h. clash whole (h .0) t)) (split whole)
 
-  read-choice : (bytes : List ℕ) (c : CheckedModel input bytes) → c .problem ≡ p → WritesChoice p bytes
-  read-choice bytes c q =
-      record { size = c .size; choice = c .assignment; rest = c .rest; place = c .place; stated = rw q at (c .states); satisfies = rw q at (c .satisfies) }
+  read-assignment : (bytes : List ℕ) (c : CheckedModel input bytes) → c .problem ≡ p → WritesAssignment p bytes
+  read-assignment bytes c q =
+      record { size = c .size; assignment = c .assignment; rest = c .rest; place = c .place; stated = rw q at (c .states); satisfies = rw q at (c .satisfies) }
 
-  pub sheet-exactly : (bytes : List ℕ) → modelChecked input bytes ≡ Accepted ↔ WritesChoice p bytes
-  sheet-exactly bytes = (
-    λ a. let c = model-checked-satisfies input bytes a in read-choice bytes c (same-problem (read input) (c .problem) p (c .reads) e),
-    λ h. satisfying-model-checked input bytes p (h .choice) (h .rest) (h .place) e (h .size) (h .stated) (h .satisfies),
+  pub model-exactly : (bytes : List ℕ) → modelChecked input bytes ≡ Accepted ↔ WritesAssignment p bytes
+  model-exactly bytes = (
+    λ a. let c = model-checked-satisfies input bytes a in read-assignment bytes c (same-problem (read input) (c .problem) p (c .reads) e),
+    λ h. satisfying-model-checked input bytes p (h .assignment) (h .rest) (h .place) e (h .size) (h .stated) (h .satisfies),
   )
 
 -- ---- and for one with a fault
 module _ (input : List ℕ) (f : Refusal) (place : ℕ) (e : read input ≡ faulty f place) where
-  pub book-refused : (limits : Limits) (bytes : List ℕ) → proofChecked limits input bytes ≡ Refused f place
+  pub proof-refused : (limits : Limits) (bytes : List ℕ) → proofChecked limits input bytes ≡ Refused f place
   unfolding proofChecked
-  book-refused limits bytes = rw (e, proofChecked)
+  proof-refused limits bytes = rw (e, proofChecked)
 
-  pub sheet-refused : (bytes : List ℕ) → modelChecked input bytes ≡ Refused f place
+  pub model-refused : (bytes : List ℕ) → modelChecked input bytes ≡ Refused f place
   unfolding modelChecked
-  sheet-refused bytes = rw (e, modelChecked)
+  model-refused bytes = rw (e, modelChecked)

@@ -14,47 +14,47 @@ use Rattle.types.specs.declared.limits.Limits.{Limits}
 use Rattle.types.specs.Limits as limit
 use Rattle.rules.specs.Problem.{Problem}
 use Rattle.rules.specs.Steps.{encodeProof}
-use Rattle.rules.specs.Elimination.{limited, course}
+use Rattle.rules.specs.Elimination.{limited, elimination}
 use Rattle.rules.specs.Needs.{stepsOf}
 use Rattle.rules.specs.Calls.{faulty, sound, read, Solving, solve, proofChecked, modelChecked}
-use Rattle.promises.specs.Words.{Comes, WideOrFull, FullSize, OurSheet}
-use Rattle.promises.specs.Checked.{book-refused, sheet-refused}
+use Rattle.promises.specs.Words.{Comes, LimitMet, FullSize, OurModel}
+use Rattle.promises.specs.Checked.{proof-refused, model-refused}
 use Rattle.promises.specs.Left as left
 
 -- nothing is altered, and there are no pairs to report
 abbrev pub untouched : Refusal → ℕ → List ℕ → List ℕ → Solving
-untouched f place book sheet = record { solved = record { answer = Refused f place; pairs = 0 }; proof = book; model = sheet }
+untouched f place proof model = record { solved = record { answer = Refused f place; pairs = 0 }; proof = proof; model = model }
 
-pub record Demand1 (limits : Limits) (input lentBook lentSheet : List ℕ) (ours : Solving) : Type 0 where
+pub record Demand1 (limits : Limits) (input lentProof lentModel : List ℕ) (ours : Solving) : Type 0 where
   -- "The lent memory, for a question of arbitrary bytes and buffers of every length, ends as document 01 says: book and sheet after a
   -- verdict,": the lines, zeros, and what lay beyond; the value rule's sheet after "agrees", zeros otherwise, and what lay beyond
-  pub book : FullSize limits lentBook lentSheet → (p : Problem) → read input ≡ sound p → (v : Verdict) → Comes v (ours .solved .answer)
-      → ours .proof ≡ encodeProof (stepsOf (course (limited limits) p)) ++ replicate (limit.proofBytes limits - limit.stepBytes * length (stepsOf (course (limited limits) p))) 0 ++ drop (limit.proofBytes limits) lentBook
-  pub agrees : FullSize limits lentBook lentSheet → (p : Problem) → read input ≡ sound p → Comes Satisfiable (ours .solved .answer) → OurSheet p ours lentSheet
-  pub others : FullSize limits lentBook lentSheet → (p : Problem) → read input ≡ sound p → (v : Verdict) → Comes v (ours .solved .answer) → (v ≡ Satisfiable → ⊥)
-      → ours .model ≡ replicate limit.modelBytes 0 ++ drop limit.modelBytes lentSheet
+  pub proof : FullSize limits lentProof lentModel → (p : Problem) → read input ≡ sound p → (v : Verdict) → Comes v (ours .solved .answer)
+      → ours .proof ≡ encodeProof (stepsOf (elimination (limited limits) p)) ++ replicate (limit.proofBytes limits - limit.stepBytes * length (stepsOf (elimination (limited limits) p))) 0 ++ drop (limit.proofBytes limits) lentProof
+  pub satisfiable : FullSize limits lentProof lentModel → (p : Problem) → read input ≡ sound p → Comes Satisfiable (ours .solved .answer) → OurModel p ours lentModel
+  pub others : FullSize limits lentProof lentModel → (p : Problem) → read input ≡ sound p → (v : Verdict) → Comes v (ours .solved .answer) → (v ≡ Satisfiable → ⊥)
+      → ours .model ≡ replicate limit.modelBytes 0 ++ drop limit.modelBytes lentModel
   -- "its old bytes after a faulty question or short buffer,": 1 before 2 before the question's first fault
-  pub shortBook : length lentBook < limit.proofBytes limits → ours ≡ untouched refusal.ShortProof 0 lentBook lentSheet
-  pub shortSheet : limit.proofBytes limits ≤ length lentBook → length lentSheet < limit.modelBytes → ours ≡ untouched refusal.ShortModel 0 lentBook lentSheet
-  pub faultyQuestion : FullSize limits lentBook lentSheet → (f : Refusal) (place : ℕ) → read input ≡ faulty f place → ours ≡ untouched f place lentBook lentSheet
+  pub shortProof : length lentProof < limit.proofBytes limits → ours ≡ untouched refusal.ShortProof 0 lentProof lentModel
+  pub shortModel : limit.proofBytes limits ≤ length lentProof → length lentModel < limit.modelBytes → ours ≡ untouched refusal.ShortModel 0 lentProof lentModel
+  pub faultyInput : FullSize limits lentProof lentModel → (f : Refusal) (place : ℕ) → read input ≡ faulty f place → ours ≡ untouched f place lentProof lentModel
   -- "a zeroed book and the old sheet after a refused course."
-  pub refusedCourse : FullSize limits lentBook lentSheet → (p : Problem) → read input ≡ sound p → WideOrFull (ours .solved .answer)
-      → (ours .proof ≡ replicate (limit.proofBytes limits) 0 ++ drop (limit.proofBytes limits) lentBook) × (ours .model ≡ lentSheet)
+  pub refusedElimination : FullSize limits lentProof lentModel → (p : Problem) → read input ≡ sound p → LimitMet (ours .solved .answer)
+      → (ours .proof ≡ replicate (limit.proofBytes limits) 0 ++ drop (limit.proofBytes limits) lentProof) × (ours .model ≡ lentModel)
   -- "and names the first fault in 01's order.": the checks too name the question's before they look at book or sheet
   pub firstFault : (f : Refusal) (place : ℕ) → read input ≡ faulty f place → (bytes : List ℕ) → (proofChecked limits input bytes ≡ checked.Refused f place) × (modelChecked input bytes ≡ checked.Refused f place)
   -- no buffer grows or shrinks
-  pub sizes : (length (ours .proof) ≡ length lentBook) × (length (ours .model) ≡ length lentSheet)
+  pub sizes : (length (ours .proof) ≡ length lentProof) × (length (ours .model) ≡ length lentModel)
 
-pub demand1 : (limits : Limits) (input book sheet : List ℕ) → Demand1 limits input book sheet (solve limits input book sheet)
-demand1 limits input book sheet =
+pub demand1 : (limits : Limits) (input proof model : List ℕ) → Demand1 limits input proof model (solve limits input proof model)
+demand1 limits input proof model =
     record {
-      book = left.book limits input book sheet;
-      agrees = left.agrees limits input book sheet;
-      others = left.others limits input book sheet;
-      shortBook = left.short-book limits input book sheet;
-      shortSheet = left.short-sheet limits input book sheet;
-      faultyQuestion = left.faulty-question limits input book sheet;
-      refusedCourse = left.refused-course limits input book sheet;
-      firstFault = λ f place e bytes. (book-refused input f place e limits bytes, sheet-refused input f place e bytes);
-      sizes = left.sizes limits input book sheet;
+      proof = left.proof limits input proof model;
+      satisfiable = left.satisfiable limits input proof model;
+      others = left.others limits input proof model;
+      shortProof = left.short-proof limits input proof model;
+      shortModel = left.short-model limits input proof model;
+      faultyInput = left.faulty-input limits input proof model;
+      refusedElimination = left.refused-elimination limits input proof model;
+      firstFault = λ f place e bytes. (proof-refused input f place e limits bytes, model-refused input f place e bytes);
+      sizes = left.sizes limits input proof model;
     }

@@ -16,63 +16,63 @@ use Rattle.types.specs.Limits as limit
 use Rattle.types.specs.Answers.{answerValue}
 use Rattle.rules.specs.Problem.{Problem}
 use Rattle.rules.specs.Steps.{encodeProof}
-use Rattle.rules.specs.Elimination.{limited, overflow, outOfSteps, order, loadableOf, course}
+use Rattle.rules.specs.Elimination.{limited, overflow, outOfSteps, order, loadableOf, elimination}
 use Rattle.rules.specs.Needs.{stepsOf, pairsOf, Fits}
 use Rattle.rules.specs.Calls.{sound, read, Solving, solve, proofChecked}
-use Rattle.course.specs.Events.{events}
-use Rattle.verdicts.specs.Decided.{NoChoice}
+use Rattle.elimination.specs.Events.{events}
+use Rattle.verdicts.specs.Decided.{NoAssignment}
 use Rattle.soundness.specs.Reading.{read-well-formed}
 use Rattle.soundness.specs.ProofChecked.{proof-checked-refutes}
-use Rattle.promises.specs.Words.{SomeChoice, sheetOf, GivesSheet, OurSheet, Comes, IsRefused, WideOrFull, firstStop, FullSize}
-use Rattle.promises.specs.Outcomes.{cannot-exactly, agrees-exactly, unwritten-exactly, otherwise}
-use Rattle.promises.specs.Reported.{solve-is, reported-lines, reported-pairs, at-most, book-holds}
-use Rattle.promises.specs.First.{wide-first, full-first}
-use Rattle.promises.specs.Evidence.{our-sheet, our-book}
+use Rattle.promises.specs.Words.{SomeAssignment, modelOf, GivesModel, OurModel, Comes, IsRefused, LimitMet, firstStop, FullSize}
+use Rattle.promises.specs.Outcomes.{unsatisfiable-exactly, satisfiable-exactly, unwritten-exactly, otherwise}
+use Rattle.promises.specs.Reported.{solve-is, reported-lines, reported-pairs, at-most, proof-holds}
+use Rattle.promises.specs.First.{overflow-first, out-of-steps-first}
+use Rattle.promises.specs.Evidence.{our-model, our-proof}
 
-pub record Demand3 (limits : Limits) (input : List ℕ) (p : Problem) (lentBook lentSheet : List ℕ) (ours : Solving) : Type 0 where
+pub record Demand3 (limits : Limits) (input : List ℕ) (p : Problem) (lentProof lentModel : List ℕ) (ours : Solving) : Type 0 where
   -- "Suppose Q's course, to its first empty line or its end, needs at most 1,024 lines and no amount in a tidied result beyond
   -- 1,000,000,000 in size. Then "cannot agree" comes exactly when no choice of marks and rational figures satisfies Q."
-  pub cannot : Fits limits p → Comes Unsatisfiable (ours .solved .answer) ↔ NoChoice p
+  pub unsatisfiable : Fits limits p → Comes Unsatisfiable (ours .solved .answer) ↔ NoAssignment p
   -- ""Agrees" comes exactly when one does and 01's value rule gives a sheet; ours is that sheet, and the choice on it satisfies Q."
-  pub agrees : Fits limits p → Comes Satisfiable (ours .solved .answer) ↔ (SomeChoice p × GivesSheet p)
-  pub sheetIs : Comes Satisfiable (ours .solved .answer) → OurSheet p ours lentSheet
+  pub satisfiable : Fits limits p → Comes Satisfiable (ours .solved .answer) ↔ (SomeAssignment p × GivesModel p)
+  pub modelIs : Comes Satisfiable (ours .solved .answer) → OurModel p ours lentModel
   -- ""Unwritten" comes exactly when one does and the rule says so."
-  pub unwritten : Fits limits p → Comes Unwritten (ours .solved .answer) ↔ (SomeChoice p × (sheetOf p ≡ none))
+  pub unwritten : Fits limits p → Comes Unwritten (ours .solved .answer) ↔ (SomeAssignment p × (modelOf p ≡ none))
   -- "Otherwise, and only otherwise, "wide" or "full" comes, whichever the course meets first."
-  pub otherwise : WideOrFull (ours .solved .answer) ↔ (Fits limits p → ⊥)
-  pub wide : IsRefused refusal.Overflow (ours .solved .answer) ↔ (firstStop (limited limits) (events order (loadableOf p)) ≡ some overflow)
-  pub full : IsRefused refusal.OutOfSteps (ours .solved .answer) ↔ (firstStop (limited limits) (events order (loadableOf p)) ≡ some outOfSteps)
+  pub otherwise : LimitMet (ours .solved .answer) ↔ (Fits limits p → ⊥)
+  pub isOverflow : IsRefused refusal.Overflow (ours .solved .answer) ↔ (firstStop (limited limits) (events order (loadableOf p)) ≡ some overflow)
+  pub isOutOfSteps : IsRefused refusal.OutOfSteps (ours .solved .answer) ↔ (firstStop (limited limits) (events order (loadableOf p)) ≡ some outOfSteps)
   -- "In every case the lines and pairs reported are those the course holds and tries, the pairs at most 262,144,"
-  pub lines : answerValue (ours .solved .answer) ≡ length (stepsOf (course (limited limits) p))
-  pub pairs : ours .solved .pairs ≡ pairsOf (course (limited limits) p)
+  pub lines : answerValue (ours .solved .answer) ≡ length (stepsOf (elimination (limited limits) p))
+  pub pairs : ours .solved .pairs ≡ pairsOf (elimination (limited limits) p)
   pub atMost : ours .solved .pairs ≤ limits .steps * limits .steps / 4
   -- "and after a verdict the book holds just those lines as 01 writes them."
   pub holds : (v : Verdict) → Comes v (ours .solved .answer)
-      → ours .proof ≡ encodeProof (stepsOf (course (limited limits) p)) ++ replicate (limit.proofBytes limits - limit.stepBytes * length (stepsOf (course (limited limits) p))) 0 ++ drop (limit.proofBytes limits) lentBook
+      → ours .proof ≡ encodeProof (stepsOf (elimination (limited limits) p)) ++ replicate (limit.proofBytes limits - limit.stepBytes * length (stepsOf (elimination (limited limits) p))) 0 ++ drop (limit.proofBytes limits) lentProof
   -- "And whenever the check accepts a book for Q, as it does the used lines of ours after "cannot agree", no choice satisfies Q,
   -- whoever wrote the book."
-  pub refutes : (other : List ℕ) → proofChecked limits input other ≡ Accepted → NoChoice p
+  pub refutes : (other : List ℕ) → proofChecked limits input other ≡ Accepted → NoAssignment p
   pub accepted : Comes Unsatisfiable (ours .solved .answer) → proofChecked limits input (take (limit.stepBytes * answerValue (ours .solved .answer)) (ours .proof)) ≡ Accepted
 
-pub demand3 : (limits : Limits) → limits .steps ≤ 65536 → (input : List ℕ) (p : Problem) → read input ≡ sound p → (book sheet : List ℕ) → FullSize limits book sheet → Demand3 limits input p book sheet (solve limits input book sheet)
-demand3 limits few input p e book sheet full =
-    subst (Demand3 limits input p book sheet) (sym (solve-is limits input p e book sheet full))
+pub demand3 : (limits : Limits) → limits .steps ≤ 65536 → (input : List ℕ) (p : Problem) → read input ≡ sound p → (proof model : List ℕ) → FullSize limits proof model → Demand3 limits input p proof model (solve limits input proof model)
+demand3 limits few input p e proof model full =
+    subst (Demand3 limits input p proof model) (sym (solve-is limits input p e proof model full))
     (record {
-      cannot = cannot-exactly limits p (read-well-formed input p e);
-      agrees = agrees-exactly limits p (read-well-formed input p e);
-      sheetIs = our-sheet limits input p e book sheet;
+      unsatisfiable = unsatisfiable-exactly limits p (read-well-formed input p e);
+      satisfiable = satisfiable-exactly limits p (read-well-formed input p e);
+      modelIs = our-model limits input p e proof model;
       unwritten = unwritten-exactly limits p (read-well-formed input p e);
       otherwise = otherwise limits p (read-well-formed input p e);
-      wide = wide-first p limits;
-      full = full-first p limits;
-      lines = reported-lines p (course (limited limits) p);
-      pairs = reported-pairs p (course (limited limits) p);
+      isOverflow = overflow-first p limits;
+      isOutOfSteps = out-of-steps-first p limits;
+      lines = reported-lines p (elimination (limited limits) p);
+      pairs = reported-pairs p (elimination (limited limits) p);
       atMost = at-most limits p (read-well-formed input p e);
-      holds = book-holds limits p book (course (limited limits) p);
+      holds = proof-holds limits p proof (elimination (limited limits) p);
       refutes = λ other a. proof-checked-refutes limits input other a p e;
-      accepted = our-book limits input p e few book;
+      accepted = our-proof limits input p e few proof;
     })
 
 -- with document 01's limit
-pub pairs-262144 : (input : List ℕ) (p : Problem) → read input ≡ sound p → (book sheet : List ℕ) → FullSize limit.standard book sheet → solve limit.standard input book sheet .solved .pairs ≤ 262144
-pairs-262144 input p e book sheet full = demand3 limit.standard (omega arith) input p e book sheet full .atMost
+pub pairs-262144 : (input : List ℕ) (p : Problem) → read input ≡ sound p → (proof model : List ℕ) → FullSize limit.standard proof model → solve limit.standard input proof model .solved .pairs ≤ 262144
+pairs-262144 input p e proof model full = demand3 limit.standard (omega arith) input p e proof model full .atMost

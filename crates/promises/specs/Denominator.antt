@@ -11,7 +11,7 @@ use Rattle.rules.specs.Problem.{Problem, got}
 use Rattle.rules.specs.Meaning.{Assignment}
 use Rattle.rules.specs.Lines.{coefficient}
 use Rattle.rules.specs.Steps.{Step}
-use Rattle.rules.specs.Elimination.{unlimited, order, course}
+use Rattle.rules.specs.Elimination.{unlimited, order, elimination}
 use Rattle.rules.specs.Needs.{stepsOf}
 use Rattle.rules.specs.Values.{walk}
 use Rattle.rules.specs.Model.{encodeModel, model}
@@ -23,12 +23,12 @@ use Rattle.saturation.specs.Aligned.{order-aligned}
 use Rattle.saturation.specs.Unset.{walk-unset}
 use Rattle.saturation.specs.Unbounded.{walk-zero}
 use Rattle.saturation.specs.Least.{Over, over-zero, walk-least}
-use Rattle.course.specs.Taken.{lines}
-use Rattle.course.specs.Narrow.{NarrowLine, course-narrow}
+use Rattle.elimination.specs.Taken.{lines}
+use Rattle.elimination.specs.Narrow.{NarrowLine, elimination-narrow}
 use Rattle.encoding.specs.Models.{readBack, back-numerator, back-denominator, model-back}
 use Rattle.encoding.specs.Written.{written-fits}
 use Rattle.verdicts.specs.Satisfied.{chosen}
-use Rattle.promises.specs.Words.{sheetOf, OurSheet}
+use Rattle.promises.specs.Words.{modelOf, OurModel}
 
 -- of r figures
 abbrev pub LeastOf : ℕ → Assignment → Type 0
@@ -43,7 +43,7 @@ module _ (p : Problem) (w : WellFormed p) where
 
   -- ---- the walk's choice: what the question does not have is 0 in it
   abbrev steps : List Step
-  steps = stepsOf (course unlimited p)
+  steps = stepsOf (elimination unlimited p)
 
   abbrev χ : Assignment
   χ = chosen steps
@@ -52,20 +52,20 @@ module _ (p : Problem) (w : WellFormed p) where
   unfolding walk
   absent f l =
       walk-zero order (lines steps) f
-      (all-mapped (λ l. coefficient f (l .constraint) ≡ pos 0) (λ s. s .line) steps (all-map (λ s. NarrowLine r (s .line)) (λ s. coefficient f (s .line .constraint) ≡ pos 0) steps (λ s h. h f l) (course-narrow unlimited p w)))
+      (all-mapped (λ l. coefficient f (l .constraint) ≡ pos 0) (λ s. s .line) steps (all-map (λ s. NarrowLine r (s .line)) (λ s. coefficient f (s .line .constraint) ≡ pos 0) steps (λ s h. h f l) (elimination-narrow unlimited p w)))
       0 order
 
-  choice-least : LeastOf r χ
-  choice-least m h = walk-least (lines steps) m (λ f. ⊎-elim (λ z. over-zero χ m f (absent f (omega arith))) (λ z. h f (omega arith)) (eq-zero-or-pos (r - f)))
+  assignment-least : LeastOf r χ
+  assignment-least m h = walk-least (lines steps) m (λ f. ⊎-elim (λ z. over-zero χ m f (absent f (omega arith))) (λ z. h f (omega arith)) (eq-zero-or-pos (r - f)))
 
   -- ---- the choice that the rule's sheet states
   positive : 1 ≤ χ .denominator
   unfolding walk
   positive = walk-unset order (lines steps) 0 order order-aligned .positive
 
-  stated-is : (bytes : List ℕ) → sheetOf p ≡ some bytes → (choice : Assignment) (rest : List ℕ) (place : ℕ) → model b r bytes 0 ≡ got choice rest place → choice ≡ readBack b r χ
-  unfolding sheetOf
-  stated-is bytes e choice rest place s =
+  stated-is : (bytes : List ℕ) → modelOf p ≡ some bytes → (assignment : Assignment) (rest : List ℕ) (place : ℕ) → model b r bytes 0 ≡ got assignment rest place → assignment ≡ readBack b r χ
+  unfolding modelOf
+  stated-is bytes e assignment rest place s =
       let k = written-fits b r (walk order (lines steps)) bytes (w .booleans) (w .rationals) positive e in
       let i : bytes ≡ encodeModel b r χ ++ [] = k .is ∙ sym (append-nil (encodeModel b r χ)) in
       let m = model-back b r χ (k .fits) [] 0 .1 in
@@ -73,9 +73,9 @@ module _ (p : Problem) (w : WellFormed p) where
       cc
 
   stated-least : LeastOf r (readBack b r χ)
-  stated-least m h = rw (back-denominator b r χ) (choice-least m (λ f l. rw (back-denominator b r χ, back-numerator b r χ f l) at (h f l)))
+  stated-least m h = rw (back-denominator b r χ) (assignment-least m (λ f l. rw (back-denominator b r χ, back-numerator b r χ f l) at (h f l)))
 
-pub least-denominator : (input : List ℕ) {p : Problem} → read input ≡ sound p → {ours : Solving} {sheet : List ℕ} (o : OurSheet p ours sheet) → LeastOf (p .rationals) (o .choice)
+pub least-denominator : (input : List ℕ) {p : Problem} → read input ≡ sound p → {ours : Solving} {lentModel : List ℕ} (o : OurModel p ours lentModel) → LeastOf (p .rationals) (o .assignment)
 least-denominator input {p} e o =
     let w = read-well-formed input p e in
-    rw (stated-is p w (o .bytes) (o .rule) (o .choice) (o .rest) (o .place) (o .stated)) (stated-least p w)
+    rw (stated-is p w (o .bytes) (o .rule) (o .assignment) (o .rest) (o .place) (o .stated)) (stated-least p w)

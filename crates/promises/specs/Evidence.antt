@@ -12,7 +12,7 @@ use Rattle.types.specs.Limits as limit
 use Rattle.types.specs.Answers.{answerValue}
 use Rattle.rules.specs.Problem.{Problem}
 use Rattle.rules.specs.Steps.{Step, encodeProof}
-use Rattle.rules.specs.Elimination.{limited, State, running, ended, empty, overflow, outOfSteps, order, course}
+use Rattle.rules.specs.Elimination.{limited, State, running, ended, empty, overflow, outOfSteps, order, elimination}
 use Rattle.rules.specs.Needs.{stepsOf}
 use Rattle.rules.specs.Values.{walk}
 use Rattle.rules.specs.Calls.{sound, read, concluded, said, proofAfter, modelAfter, proofChecked}
@@ -20,69 +20,69 @@ use Rattle.lists.specs.All.{All, all-map}
 use Rattle.resolution.specs.Formed.{Formed}
 use Rattle.soundness.specs.Reading.{read-well-formed}
 use Rattle.soundness.specs.ModelChecked.{model-checked-satisfies}
-use Rattle.course.specs.Sound.{Sound, course-sound}
+use Rattle.elimination.specs.Sound.{Sound, elimination-sound}
 use Rattle.encoding.specs.Steps.{take-proof}
-use Rattle.encoding.specs.CourseAccepted.{course-accepted}
+use Rattle.encoding.specs.EliminationAccepted.{elimination-accepted}
 use Rattle.encoding.specs.ModelAccepted.{written-accepted}
 use Rattle.verdicts.specs.Decided.{running-satisfies}
-use Rattle.promises.specs.Words.{OurSheet, Comes}
-use Rattle.promises.specs.Outcomes.{finished, walkSheet, concluded-running, answerOf, finished-unsatisfiable, sheet-is, unstopped-fits}
-use Rattle.promises.specs.Reported.{left, reported-lines, book-holds}
+use Rattle.promises.specs.Words.{OurModel, Comes}
+use Rattle.promises.specs.Outcomes.{finished, walkModel, concluded-running, answerOf, finished-unsatisfiable, model-is, unstopped-fits}
+use Rattle.promises.specs.Reported.{left, reported-lines, proof-holds}
 
 module _ (limits : Limits) (input : List ℕ) (p : Problem) (e : read input ≡ sound p) where
   -- ---- the sheet
   same-problem : (q : Problem) → read input ≡ sound q → q ≡ p
   same-problem q f = cc
 
-  sheet-by : (book sheet : List ℕ) (steps : List Step) (n : ℕ) → course (limited limits) p ≡ running steps n → (o : Option (List ℕ)) → walkSheet p steps ≡ o → Comes Satisfiable (answerOf (finished steps n o)) → OurSheet p (left limits (finished steps n o) book sheet) sheet
+  model-by : (proof model : List ℕ) (steps : List Step) (n : ℕ) → elimination (limited limits) p ≡ running steps n → (o : Option (List ℕ)) → walkModel p steps ≡ o → Comes Satisfiable (answerOf (finished steps n o)) → OurModel p (left limits (finished steps n o) proof model) model
   unfolding said modelAfter
-  sheet-by book sheet steps n c none q h = absurd (let z : _≡_ {A = ℕ} 0 1 = cc in omega arith)
-  sheet-by book sheet steps n c (some bytes) q h =
+  model-by proof model steps n c none q h = absurd (let z : _≡_ {A = ℕ} 0 1 = cc in omega arith)
+  model-by proof model steps n c (some bytes) q h =
       let a = written-accepted input p e (walk order (map (λ s. s .line) steps)) bytes [] q (running-satisfies p (read-well-formed input p e) (limited limits) steps n c) in
       let m = model-checked-satisfies input bytes (rw (append-nil bytes) at (a .1)) in
       let same : m .problem ≡ p = same-problem (m .problem) (m .reads) in
       record {
         bytes = bytes;
         size = a .0;
-        rule = sheet-is limits p (read-well-formed input p e) steps n c (unstopped-fits limits p steps n c) ∙ q;
+        rule = model-is limits p (read-well-formed input p e) steps n c (unstopped-fits limits p steps n c) ∙ q;
         written = refl;
-        choice = m .assignment;
+        assignment = m .assignment;
         rest = m .rest;
         place = m .place;
         stated = rw same at (m .states);
         satisfies = rw same at (m .satisfies);
       }
 
-  pub our-sheet : (book sheet : List ℕ) → Comes Satisfiable (answerOf (concluded p (course (limited limits) p))) → OurSheet p (left limits (concluded p (course (limited limits) p)) book sheet) sheet
+  pub our-model : (proof model : List ℕ) → Comes Satisfiable (answerOf (concluded p (elimination (limited limits) p))) → OurModel p (left limits (concluded p (elimination (limited limits) p)) proof model) model
   unfolding concluded said
-  our-sheet book sheet = by (course (limited limits) p) refl
+  our-model proof model = by (elimination (limited limits) p) refl
     where
-      by : (s : State) → course (limited limits) p ≡ s → Comes Satisfiable (answerOf (concluded p s)) → OurSheet p (left limits (concluded p s) book sheet) sheet
-      by (running steps n) c h = rw (concluded-running p steps n) (sheet-by book sheet steps n c (walkSheet p steps) refl (rw (concluded-running p steps n) at h))
+      by : (s : State) → elimination (limited limits) p ≡ s → Comes Satisfiable (answerOf (concluded p s)) → OurModel p (left limits (concluded p s) proof model) model
+      by (running steps n) c h = rw (concluded-running p steps n) (model-by proof model steps n c (walkModel p steps) refl (rw (concluded-running p steps n) at h))
       by (ended empty steps n) c h = absurd (let z : _≡_ {A = ℕ} 0 1 = cc in omega arith)
       by (ended overflow steps n) c h = absurd h
       by (ended outOfSteps steps n) c h = absurd h
 
   -- ---- the book
-  module _ (few : limits .steps ≤ 65536) (book : List ℕ) where
-    used : (steps : List Step) → All (λ s. Formed (s .line)) steps → take (limit.stepBytes * length steps) (encodeProof steps ++ replicate (limit.proofBytes limits - limit.stepBytes * length steps) 0 ++ drop (limit.proofBytes limits) book) ≡ encodeProof steps
+  module _ (few : limits .steps ≤ 65536) (proof : List ℕ) where
+    used : (steps : List Step) → All (λ s. Formed (s .line)) steps → take (limit.stepBytes * length steps) (encodeProof steps ++ replicate (limit.proofBytes limits - limit.stepBytes * length steps) 0 ++ drop (limit.proofBytes limits) proof) ≡ encodeProof steps
     used steps f =
         let unused : List ℕ = replicate (limit.proofBytes limits - limit.stepBytes * length steps) 0 in
-        rw (append-assoc (encodeProof steps) unused (drop (limit.proofBytes limits) book)) (take-proof steps (unused ++ drop (limit.proofBytes limits) book) f)
+        rw (append-assoc (encodeProof steps) unused (drop (limit.proofBytes limits) proof)) (take-proof steps (unused ++ drop (limit.proofBytes limits) proof) f)
 
-    formed : (steps : List Step) (n : ℕ) → course (limited limits) p ≡ ended empty steps n → All (λ s. Formed (s .line)) steps
-    unfolding course stepsOf
+    formed : (steps : List Step) (n : ℕ) → elimination (limited limits) p ≡ ended empty steps n → All (λ s. Formed (s .line)) steps
+    unfolding elimination stepsOf
     formed steps n c =
-        all-map (λ s. Sound (s .line)) (λ s. Formed (s .line)) steps (λ s h. h .formed) (subst (λ (s : State). All (λ x. Sound (x .line)) (stepsOf s)) c (course-sound p (read-well-formed input p e) (limited limits) order))
+        all-map (λ s. Sound (s .line)) (λ s. Formed (s .line)) steps (λ s h. h .formed) (subst (λ (s : State). All (λ x. Sound (x .line)) (stepsOf s)) c (elimination-sound p (read-well-formed input p e) (limited limits) order))
 
-    pub our-book : Comes Unsatisfiable (answerOf (concluded p (course (limited limits) p)))
-        → proofChecked limits input (take (limit.stepBytes * answerValue (answerOf (concluded p (course (limited limits) p)))) (proofAfter limits (concluded p (course (limited limits) p)) book)) ≡ Accepted
+    pub our-proof : Comes Unsatisfiable (answerOf (concluded p (elimination (limited limits) p)))
+        → proofChecked limits input (take (limit.stepBytes * answerValue (answerOf (concluded p (elimination (limited limits) p)))) (proofAfter limits (concluded p (elimination (limited limits) p)) proof)) ≡ Accepted
     unfolding stepsOf concluded said
-    our-book h = rw (reported-lines p (course (limited limits) p), book-holds limits p book (course (limited limits) p) Unsatisfiable h) (by (course (limited limits) p) refl h)
+    our-proof h = rw (reported-lines p (elimination (limited limits) p), proof-holds limits p proof (elimination (limited limits) p) Unsatisfiable h) (by (elimination (limited limits) p) refl h)
       where
-        by : (s : State) → course (limited limits) p ≡ s → Comes Unsatisfiable (answerOf (concluded p s))
-            → proofChecked limits input (take (limit.stepBytes * length (stepsOf s)) (encodeProof (stepsOf s) ++ replicate (limit.proofBytes limits - limit.stepBytes * length (stepsOf s)) 0 ++ drop (limit.proofBytes limits) book)) ≡ Accepted
-        by (running steps n) c h = absurd (finished-unsatisfiable steps n (walkSheet p steps) (rw (concluded-running p steps n) at h))
-        by (ended empty steps n) c h = rw (used steps (formed steps n c)) (course-accepted limits input p e few steps n c)
+        by : (s : State) → elimination (limited limits) p ≡ s → Comes Unsatisfiable (answerOf (concluded p s))
+            → proofChecked limits input (take (limit.stepBytes * length (stepsOf s)) (encodeProof (stepsOf s) ++ replicate (limit.proofBytes limits - limit.stepBytes * length (stepsOf s)) 0 ++ drop (limit.proofBytes limits) proof)) ≡ Accepted
+        by (running steps n) c h = absurd (finished-unsatisfiable steps n (walkModel p steps) (rw (concluded-running p steps n) at h))
+        by (ended empty steps n) c h = rw (used steps (formed steps n c)) (elimination-accepted limits input p e few steps n c)
         by (ended overflow steps n) c h = absurd h
         by (ended outOfSteps steps n) c h = absurd h

@@ -9,14 +9,14 @@ use native.Mathlib.Omega.{arith}
 use Rattle.types.specs.declared.answers.Refusal.the-variants as refusal
 use Rattle.types.specs.declared.limits.Limits.{Limits}
 use Rattle.rules.specs.Problem.{Problem}
-use Rattle.rules.specs.Elimination.{Stops, limited, unlimited, End, empty, overflow, outOfSteps, State, running, ended, order, loadableOf, course}
+use Rattle.rules.specs.Elimination.{Stops, limited, unlimited, End, empty, overflow, outOfSteps, State, running, ended, order, loadableOf, elimination}
 use Rattle.rules.specs.Calls.{concluded, said}
-use Rattle.course.specs.Events.{Event, events}
-use Rattle.course.specs.Cut.{stopOf, stopAt, endedAt, cut}
-use Rattle.course.specs.Held.{Unstopped, unlimited-unstopped}
+use Rattle.elimination.specs.Events.{Event, events}
+use Rattle.elimination.specs.Cut.{stopOf, stopAt, endedAt, cut}
+use Rattle.elimination.specs.Held.{Unstopped, unlimited-unstopped}
 use Rattle.promises.specs.Words.{IsRefused, firstStop}
-use Rattle.promises.specs.Outcomes.{walkSheet, concluded-running, answerOf, finished-not-stopped}
-use Rattle.promises.specs.Reported.{course-cut}
+use Rattle.promises.specs.Outcomes.{walkModel, concluded-running, answerOf, finished-not-stopped}
+use Rattle.promises.specs.Reported.{elimination-cut}
 
 -- how a course has ended, and what stopped it
 abbrev EndOf : State → Option End → Type 0
@@ -44,27 +44,27 @@ cut-end stops [] s u = unstopped-end s u
 cut-end stops (e ∷ es) s u = at-end _ _ _ e (cut stops es s) (firstStop stops es) (cut-end stops es s u)
 
 module _ (p : Problem) where
-  wide-by : (s : State) (o : Option End) → EndOf s o → IsRefused refusal.Overflow (answerOf (concluded p s)) ↔ (o ≡ some overflow)
+  overflow-by : (s : State) (o : Option End) → EndOf s o → IsRefused refusal.Overflow (answerOf (concluded p s)) ↔ (o ≡ some overflow)
   unfolding concluded said
-  wide-by (running steps n) o h = (λ k. absurd (finished-not-stopped steps n (walkSheet p steps) (inl (rw (concluded-running p steps n) at k))), λ k. absurd (let z : _≡_ {A = ℕ} 0 1 = cc in omega arith))
-  wide-by (ended empty steps n) o h = (λ k. absurd k, λ k. absurd (let z : _≡_ {A = ℕ} 0 1 = cc in omega arith))
-  wide-by (ended overflow steps n) o h = (λ k. h, λ k. refl)
-  wide-by (ended outOfSteps steps n) o h = (λ k. absurd (let z : _≡_ {A = ℕ} 0 1 = cc in omega arith), λ k. absurd (let z : _≡_ {A = ℕ} 0 1 = cc in omega arith))
+  overflow-by (running steps n) o h = (λ k. absurd (finished-not-stopped steps n (walkModel p steps) (inl (rw (concluded-running p steps n) at k))), λ k. absurd (let z : _≡_ {A = ℕ} 0 1 = cc in omega arith))
+  overflow-by (ended empty steps n) o h = (λ k. absurd k, λ k. absurd (let z : _≡_ {A = ℕ} 0 1 = cc in omega arith))
+  overflow-by (ended overflow steps n) o h = (λ k. h, λ k. refl)
+  overflow-by (ended outOfSteps steps n) o h = (λ k. absurd (let z : _≡_ {A = ℕ} 0 1 = cc in omega arith), λ k. absurd (let z : _≡_ {A = ℕ} 0 1 = cc in omega arith))
 
-  full-by : (s : State) (o : Option End) → EndOf s o → IsRefused refusal.OutOfSteps (answerOf (concluded p s)) ↔ (o ≡ some outOfSteps)
+  out-of-steps-by : (s : State) (o : Option End) → EndOf s o → IsRefused refusal.OutOfSteps (answerOf (concluded p s)) ↔ (o ≡ some outOfSteps)
   unfolding concluded said
-  full-by (running steps n) o h = (λ k. absurd (finished-not-stopped steps n (walkSheet p steps) (inr (rw (concluded-running p steps n) at k))), λ k. absurd (let z : _≡_ {A = ℕ} 0 1 = cc in omega arith))
-  full-by (ended empty steps n) o h = (λ k. absurd k, λ k. absurd (let z : _≡_ {A = ℕ} 0 1 = cc in omega arith))
-  full-by (ended overflow steps n) o h = (λ k. absurd (let z : _≡_ {A = ℕ} 0 1 = cc in omega arith), λ k. absurd (let z : _≡_ {A = ℕ} 0 1 = cc in omega arith))
-  full-by (ended outOfSteps steps n) o h = (λ k. h, λ k. refl)
+  out-of-steps-by (running steps n) o h = (λ k. absurd (finished-not-stopped steps n (walkModel p steps) (inr (rw (concluded-running p steps n) at k))), λ k. absurd (let z : _≡_ {A = ℕ} 0 1 = cc in omega arith))
+  out-of-steps-by (ended empty steps n) o h = (λ k. absurd k, λ k. absurd (let z : _≡_ {A = ℕ} 0 1 = cc in omega arith))
+  out-of-steps-by (ended overflow steps n) o h = (λ k. absurd (let z : _≡_ {A = ℕ} 0 1 = cc in omega arith), λ k. absurd (let z : _≡_ {A = ℕ} 0 1 = cc in omega arith))
+  out-of-steps-by (ended outOfSteps steps n) o h = (λ k. h, λ k. refl)
 
   module _ (limits : Limits) where
-    ends : EndOf (course (limited limits) p) (firstStop (limited limits) (events order (loadableOf p)))
-    unfolding course
-    ends = rw (course-cut limits p) (cut-end (limited limits) (events order (loadableOf p)) (course unlimited p) (unlimited-unstopped order (loadableOf p)))
+    ends : EndOf (elimination (limited limits) p) (firstStop (limited limits) (events order (loadableOf p)))
+    unfolding elimination
+    ends = rw (elimination-cut limits p) (cut-end (limited limits) (events order (loadableOf p)) (elimination unlimited p) (unlimited-unstopped order (loadableOf p)))
 
-    pub wide-first : IsRefused refusal.Overflow (answerOf (concluded p (course (limited limits) p))) ↔ (firstStop (limited limits) (events order (loadableOf p)) ≡ some overflow)
-    wide-first = wide-by (course (limited limits) p) _ ends
+    pub overflow-first : IsRefused refusal.Overflow (answerOf (concluded p (elimination (limited limits) p))) ↔ (firstStop (limited limits) (events order (loadableOf p)) ≡ some overflow)
+    overflow-first = overflow-by (elimination (limited limits) p) _ ends
 
-    pub full-first : IsRefused refusal.OutOfSteps (answerOf (concluded p (course (limited limits) p))) ↔ (firstStop (limited limits) (events order (loadableOf p)) ≡ some outOfSteps)
-    full-first = full-by (course (limited limits) p) _ ends
+    pub out-of-steps-first : IsRefused refusal.OutOfSteps (answerOf (concluded p (elimination (limited limits) p))) ↔ (firstStop (limited limits) (events order (loadableOf p)) ≡ some outOfSteps)
+    out-of-steps-first = out-of-steps-by (elimination (limited limits) p) _ ends

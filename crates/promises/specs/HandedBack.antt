@@ -22,12 +22,12 @@ use Rattle.types.specs.declared.limits.Limits.{Limits}
 use Rattle.types.specs.Limits as limit
 use Rattle.types.specs.Answers.{refusalNumber, verdictNumber, answerNumber, answerValue}
 use Rattle.rules.specs.Problem.{Problem}
-use Rattle.rules.specs.Elimination.{order, loadableOf, course}
+use Rattle.rules.specs.Elimination.{order, loadableOf, elimination}
 use Rattle.rules.specs.Calls.{Reading, faulty, sound, read, Solving, solve, proofChecked, modelChecked, evidence, evidenceBytes}
 use Rattle.lists.specs.Tests.{split, is-true, is-false}
 use Rattle.soundness.specs.ModelChecked.{satisfying-model-checked}
-use Rattle.course.specs.Held.{limited-held}
-use Rattle.promises.specs.Words.{Comes, FullSize, OurSheet}
+use Rattle.elimination.specs.Held.{limited-held}
+use Rattle.promises.specs.Words.{Comes, FullSize, OurModel}
 use Rattle.promises.specs.Demand1.{demand1}
 use Rattle.promises.specs.Demand3.{demand3}
 
@@ -45,10 +45,10 @@ module _ (limits : Limits) (number steps : ℕ) (proof model : List ℕ) where
       (λ v. rw (is-false refuses t, evidence, is-false (eqb number 64) u, is-false (eqb number 65) v) z) (split (eqb number 65))) (split (eqb number 64))) (split refuses)
 
   -- of buffers that are not refused
-  module _ (book : limit.proofBytes limits ≤ length proof) (sheet : limit.modelBytes ≤ length model) (few : steps ≤ limits .steps) where
+  module _ (proof-size : limit.proofBytes limits ≤ length proof) (model-size : limit.modelBytes ≤ length model) (few : steps ≤ limits .steps) where
     accepts : T (not refuses)
     accepts =
-        rw (is-false (ltb (length proof) (limit.proofBytes limits)) (no-ltb {a = length proof} {b = limit.proofBytes limits} book), is-false (ltb (length model) limit.modelBytes) (no-ltb {a = length model} {b = limit.modelBytes} sheet), is-false (ltb (limits .steps) steps) (no-ltb {a = limits .steps} {b = steps} few)) tt
+        rw (is-false (ltb (length proof) (limit.proofBytes limits)) (no-ltb {a = length proof} {b = limit.proofBytes limits} proof-size), is-false (ltb (length model) limit.modelBytes) (no-ltb {a = length model} {b = limit.modelBytes} model-size), is-false (ltb (limits .steps) steps) (no-ltb {a = limits .steps} {b = steps} few)) tt
 
     is-model : number ≡ 64 → evidence limits number steps proof model ≡ OfModel limit.modelBytes
     unfolding evidence verdictNumber
@@ -105,41 +105,41 @@ comes-number v (Decided u n) e = ap verdictNumber e
 comes-number v (Refused f n) e = absurd e
 
 -- ---- a verdict comes only for a question read without fault, and full-size buffers
-pub record Read (limits : Limits) (input book sheet : List ℕ) : Type 0 where
+pub record Read (limits : Limits) (input proof model : List ℕ) : Type 0 where
   pub problem : Problem
   pub reads : read input ≡ sound problem
-  pub full : FullSize limits book sheet
+  pub full : FullSize limits proof model
 
-module _ (limits : Limits) (input book sheet : List ℕ) where
+module _ (limits : Limits) (input proof model : List ℕ) where
   abbrev ours : Solving
-  ours = solve limits input book sheet
+  ours = solve limits input proof model
 
-  refused-not : (v : Verdict) (f : Refusal) (place : ℕ) → ours ≡ record { solved = record { answer = Refused f place; pairs = 0 }; proof = book; model = sheet } → Comes v (ours .solved .answer) → ⊥
+  refused-not : (v : Verdict) (f : Refusal) (place : ℕ) → ours ≡ record { solved = record { answer = Refused f place; pairs = 0 }; proof = proof; model = model } → Comes v (ours .solved .answer) → ⊥
   refused-not v f place e h = subst (λ (s : Solving). Comes v (s .solved .answer)) e h
 
-  pub verdict-read : (v : Verdict) → Comes v (ours .solved .answer) → Read limits input book sheet
+  pub verdict-read : (v : Verdict) → Comes v (ours .solved .answer) → Read limits input proof model
   verdict-read v h =
-      ⊎-elim (λ t. absurd (refused-not v ShortProof 0 (d .shortBook (ltb→lt (length book) (limit.proofBytes limits) t)) h))
-      (λ t. let z = nltb→le (length book) (limit.proofBytes limits) t in
-      ⊎-elim (λ u. absurd (refused-not v ShortModel 0 (d .shortSheet z (ltb→lt (length sheet) limit.modelBytes u)) h))
-      (λ u. by (record { book = z; sheet = nltb→le (length sheet) limit.modelBytes u }) (read input) refl) (split (ltb (length sheet) limit.modelBytes)))
-      (split (ltb (length book) (limit.proofBytes limits)))
+      ⊎-elim (λ t. absurd (refused-not v ShortProof 0 (d .shortProof (ltb→lt (length proof) (limit.proofBytes limits) t)) h))
+      (λ t. let z = nltb→le (length proof) (limit.proofBytes limits) t in
+      ⊎-elim (λ u. absurd (refused-not v ShortModel 0 (d .shortModel z (ltb→lt (length model) limit.modelBytes u)) h))
+      (λ u. by (record { proofSize = z; modelSize = nltb→le (length model) limit.modelBytes u }) (read input) refl) (split (ltb (length model) limit.modelBytes)))
+      (split (ltb (length proof) (limit.proofBytes limits)))
     where
-      d : Rattle.promises.specs.Demand1.Demand1 limits input book sheet (solve limits input book sheet)
-      d = demand1 limits input book sheet
+      d : Rattle.promises.specs.Demand1.Demand1 limits input proof model (solve limits input proof model)
+      d = demand1 limits input proof model
 
-      by : FullSize limits book sheet → (r : Reading) → read input ≡ r → Read limits input book sheet
-      by full (faulty f place) e = absurd (refused-not v f place (d .faultyQuestion full f place e) h)
+      by : FullSize limits proof model → (r : Reading) → read input ≡ r → Read limits input proof model
+      by full (faulty f place) e = absurd (refused-not v f place (d .faultyInput full f place e) h)
       by full (sound p) e = record { problem = p; reads = e; full = full }
 
   -- ---- the theorem
   abbrev handed : Evidence
   handed = evidence limits (answerNumber (ours .solved .answer)) (answerValue (ours .solved .answer)) (ours .proof) (ours .model)
 
-  sheet-accepted : (p : Problem) → read input ≡ sound p → OurSheet p ours sheet → modelChecked input (take limit.modelBytes (ours .model)) ≡ Accepted
-  sheet-accepted p e s =
-      rw (s .written, take-at (s .bytes) (drop limit.modelBytes sheet) limit.modelBytes (s .size))
-      (satisfying-model-checked input (s .bytes) p (s .choice) (s .rest) (s .place) e (omega (arith, s .size)) (s .stated) (s .satisfies))
+  model-accepted : (p : Problem) → read input ≡ sound p → OurModel p ours model → modelChecked input (take limit.modelBytes (ours .model)) ≡ Accepted
+  model-accepted p e s =
+      rw (s .written, take-at (s .bytes) (drop limit.modelBytes model) limit.modelBytes (s .size))
+      (satisfying-model-checked input (s .bytes) p (s .assignment) (s .rest) (s .place) e (omega (arith, s .size)) (s .stated) (s .satisfies))
 
   pub model-handed-back : (n : ℕ) → handed ≡ OfModel n → modelChecked input (evidenceBytes (OfModel n) (ours .proof) (ours .model)) ≡ Accepted
   unfolding evidenceBytes
@@ -147,7 +147,7 @@ module _ (limits : Limits) (input book sheet : List ℕ) where
       let k = of-model limits (answerNumber (ours .solved .answer)) (answerValue (ours .solved .answer)) (ours .proof) (ours .model) n e in
       let c = number-satisfiable (ours .solved .answer) (k .0) in
       let r = verdict-read Satisfiable c in
-      rw (k .1) (sheet-accepted (r .problem) (r .reads) (demand1 limits input book sheet .agrees (r .full) (r .problem) (r .reads) c))
+      rw (k .1) (model-accepted (r .problem) (r .reads) (demand1 limits input proof model .satisfiable (r .full) (r .problem) (r .reads) c))
 
   pub proof-handed-back : limits .steps ≤ 65536 → (n : ℕ) → handed ≡ OfProof n → (n ≡ 0) ⊎ (proofChecked limits input (evidenceBytes (OfProof n) (ours .proof) (ours .model)) ≡ Accepted)
   unfolding evidenceBytes
@@ -155,27 +155,27 @@ module _ (limits : Limits) (input book sheet : List ℕ) where
       ⊎-elim (λ z. inl z)
       (λ k. let c = number-unsatisfiable (ours .solved .answer) (k .0) in
       let r = verdict-read Unsatisfiable c in
-      inr (rw (k .1) (demand3 limits few input (r .problem) (r .reads) book sheet (r .full) .accepted c)))
+      inr (rw (k .1) (demand3 limits few input (r .problem) (r .reads) proof model (r .full) .accepted c)))
       (of-proof limits (answerNumber (ours .solved .answer)) (answerValue (ours .solved .answer)) (ours .proof) (ours .model) n e)
 
   -- after "agrees" it is the sheet, after "cannot agree" the used lines
   module _ (small : limits .steps ≤ 65536) where
-    held : (p : Problem) → read input ≡ sound p → FullSize limits book sheet → answerValue (ours .solved .answer) ≤ limits .steps
-    unfolding course
-    held p e full = rw (demand3 limits small input p e book sheet full .lines) (limited-held limits order (loadableOf p))
+    held : (p : Problem) → read input ≡ sound p → FullSize limits proof model → answerValue (ours .solved .answer) ≤ limits .steps
+    unfolding elimination
+    held p e full = rw (demand3 limits small input p e proof model full .lines) (limited-held limits order (loadableOf p))
 
-    pub agrees-handed : Comes Satisfiable (ours .solved .answer) → handed ≡ OfModel limit.modelBytes
+    pub satisfiable-handed : Comes Satisfiable (ours .solved .answer) → handed ≡ OfModel limit.modelBytes
     unfolding verdictNumber
-    agrees-handed c =
+    satisfiable-handed c =
         let r = verdict-read Satisfiable c in
-        let z = demand1 limits input book sheet .sizes in
-        is-model limits (answerNumber (ours .solved .answer)) (answerValue (ours .solved .answer)) (ours .proof) (ours .model) (rw (z .0) (r .full .book)) (rw (z .1) (r .full .sheet)) (held (r .problem) (r .reads) (r .full))
+        let z = demand1 limits input proof model .sizes in
+        is-model limits (answerNumber (ours .solved .answer)) (answerValue (ours .solved .answer)) (ours .proof) (ours .model) (rw (z .0) (r .full .proofSize)) (rw (z .1) (r .full .modelSize)) (held (r .problem) (r .reads) (r .full))
         (comes-number Satisfiable (ours .solved .answer) c)
 
-    pub cannot-handed : Comes Unsatisfiable (ours .solved .answer) → handed ≡ OfProof (limit.stepBytes * answerValue (ours .solved .answer))
+    pub unsatisfiable-handed : Comes Unsatisfiable (ours .solved .answer) → handed ≡ OfProof (limit.stepBytes * answerValue (ours .solved .answer))
     unfolding verdictNumber
-    cannot-handed c =
+    unsatisfiable-handed c =
         let r = verdict-read Unsatisfiable c in
-        let z = demand1 limits input book sheet .sizes in
-        is-proof limits (answerNumber (ours .solved .answer)) (answerValue (ours .solved .answer)) (ours .proof) (ours .model) (rw (z .0) (r .full .book)) (rw (z .1) (r .full .sheet)) (held (r .problem) (r .reads) (r .full))
+        let z = demand1 limits input proof model .sizes in
+        is-proof limits (answerNumber (ours .solved .answer)) (answerValue (ours .solved .answer)) (ours .proof) (ours .model) (rw (z .0) (r .full .proofSize)) (rw (z .1) (r .full .modelSize)) (held (r .problem) (r .reads) (r .full))
         (comes-number Unsatisfiable (ours .solved .answer) c)

@@ -12,53 +12,53 @@ use Rattle.types.specs.declared.limits.Limits.{Limits}
 use Rattle.types.specs.Limits as limit
 use Rattle.rules.specs.Problem.{Problem}
 use Rattle.rules.specs.Steps.{encodeProof}
-use Rattle.rules.specs.Elimination.{limited, course}
+use Rattle.rules.specs.Elimination.{limited, elimination}
 use Rattle.rules.specs.Needs.{stepsOf}
 use Rattle.rules.specs.Calls.{faulty, sound, Outcome, faulted, read, concluded, said, proofAfter, modelAfter, Solving, solve, lent}
 use Rattle.soundness.specs.Lent.{lent-short-proof, lent-short-model, lent-fault}
-use Rattle.promises.specs.Words.{Comes, WideOrFull, FullSize, OurSheet}
-use Rattle.promises.specs.Reported.{left, solve-is, book-holds}
-use Rattle.promises.specs.Evidence.{our-sheet}
+use Rattle.promises.specs.Words.{Comes, LimitMet, FullSize, OurModel}
+use Rattle.promises.specs.Reported.{left, solve-is, proof-holds}
+use Rattle.promises.specs.Evidence.{our-model}
 use Rattle.promises.specs.Memory as memory
 
-module _ (limits : Limits) (input book′ sheet : List ℕ) where
+module _ (limits : Limits) (input proof′ model : List ℕ) where
   abbrev ours : Solving
-  ours = solve limits input book′ sheet
+  ours = solve limits input proof′ model
 
   -- ---- a question read without fault
-  module _ (full : FullSize limits book′ sheet) (p : Problem) (e : read input ≡ sound p) where
-    by : (P : Solving → Type 0) → P (left limits (concluded p (course (limited limits) p)) book′ sheet) → P ours
-    by P h = subst P (sym (solve-is limits input p e book′ sheet full)) h
+  module _ (full : FullSize limits proof′ model) (p : Problem) (e : read input ≡ sound p) where
+    by : (P : Solving → Type 0) → P (left limits (concluded p (elimination (limited limits) p)) proof′ model) → P ours
+    by P h = subst P (sym (solve-is limits input p e proof′ model full)) h
 
-    pub book : (v : Verdict) → Comes v (ours .solved .answer)
-        → ours .proof ≡ encodeProof (stepsOf (course (limited limits) p)) ++ replicate (limit.proofBytes limits - limit.stepBytes * length (stepsOf (course (limited limits) p))) 0 ++ drop (limit.proofBytes limits) book′
-    book v =
-        by (λ s. Comes v (s .solved .answer) → s .proof ≡ encodeProof (stepsOf (course (limited limits) p)) ++ replicate (limit.proofBytes limits - limit.stepBytes * length (stepsOf (course (limited limits) p))) 0 ++ drop (limit.proofBytes limits) book′)
-        (book-holds limits p book′ (course (limited limits) p) v)
+    pub proof : (v : Verdict) → Comes v (ours .solved .answer)
+        → ours .proof ≡ encodeProof (stepsOf (elimination (limited limits) p)) ++ replicate (limit.proofBytes limits - limit.stepBytes * length (stepsOf (elimination (limited limits) p))) 0 ++ drop (limit.proofBytes limits) proof′
+    proof v =
+        by (λ s. Comes v (s .solved .answer) → s .proof ≡ encodeProof (stepsOf (elimination (limited limits) p)) ++ replicate (limit.proofBytes limits - limit.stepBytes * length (stepsOf (elimination (limited limits) p))) 0 ++ drop (limit.proofBytes limits) proof′)
+        (proof-holds limits p proof′ (elimination (limited limits) p) v)
 
-    pub agrees : Comes Satisfiable (ours .solved .answer) → OurSheet p ours sheet
-    agrees = by (λ s. Comes Satisfiable (s .solved .answer) → OurSheet p s sheet) (our-sheet limits input p e book′ sheet)
+    pub satisfiable : Comes Satisfiable (ours .solved .answer) → OurModel p ours model
+    satisfiable = by (λ s. Comes Satisfiable (s .solved .answer) → OurModel p s model) (our-model limits input p e proof′ model)
 
-    pub others : (v : Verdict) → Comes v (ours .solved .answer) → (v ≡ Satisfiable → ⊥) → ours .model ≡ replicate limit.modelBytes 0 ++ drop limit.modelBytes sheet
-    others v = by (λ s. Comes v (s .solved .answer) → (v ≡ Satisfiable → ⊥) → s .model ≡ replicate limit.modelBytes 0 ++ drop limit.modelBytes sheet) (memory.no-sheet limits p book′ sheet v)
+    pub others : (v : Verdict) → Comes v (ours .solved .answer) → (v ≡ Satisfiable → ⊥) → ours .model ≡ replicate limit.modelBytes 0 ++ drop limit.modelBytes model
+    others v = by (λ s. Comes v (s .solved .answer) → (v ≡ Satisfiable → ⊥) → s .model ≡ replicate limit.modelBytes 0 ++ drop limit.modelBytes model) (memory.no-model limits p proof′ model v)
 
-    pub refused-course : WideOrFull (ours .solved .answer) → (ours .proof ≡ replicate (limit.proofBytes limits) 0 ++ drop (limit.proofBytes limits) book′) × (ours .model ≡ sheet)
-    refused-course =
-        by (λ s. WideOrFull (s .solved .answer) → (s .proof ≡ replicate (limit.proofBytes limits) 0 ++ drop (limit.proofBytes limits) book′) × (s .model ≡ sheet)) (memory.stopped-zeroes limits p book′ sheet)
+    pub refused-elimination : LimitMet (ours .solved .answer) → (ours .proof ≡ replicate (limit.proofBytes limits) 0 ++ drop (limit.proofBytes limits) proof′) × (ours .model ≡ model)
+    refused-elimination =
+        by (λ s. LimitMet (s .solved .answer) → (s .proof ≡ replicate (limit.proofBytes limits) 0 ++ drop (limit.proofBytes limits) proof′) × (s .model ≡ model)) (memory.stopped-zeroes limits p proof′ model)
 
   -- ---- a fault before the course
-  faulted-is : (f : Refusal) (place : ℕ) → lent limits input book′ sheet ≡ faulted f place → ours ≡ record { solved = record { answer = Refused f place; pairs = 0 }; proof = book′; model = sheet }
+  faulted-is : (f : Refusal) (place : ℕ) → lent limits input proof′ model ≡ faulted f place → ours ≡ record { solved = record { answer = Refused f place; pairs = 0 }; proof = proof′; model = model }
   unfolding solve said proofAfter modelAfter
-  faulted-is f place e = ap (λ (o : Outcome). left limits o book′ sheet) e
+  faulted-is f place e = ap (λ (o : Outcome). left limits o proof′ model) e
 
-  pub short-book : length book′ < limit.proofBytes limits → ours ≡ record { solved = record { answer = Refused refusal.ShortProof 0; pairs = 0 }; proof = book′; model = sheet }
-  short-book h = faulted-is refusal.ShortProof 0 (lent-short-proof limits input book′ sheet h)
+  pub short-proof : length proof′ < limit.proofBytes limits → ours ≡ record { solved = record { answer = Refused refusal.ShortProof 0; pairs = 0 }; proof = proof′; model = model }
+  short-proof h = faulted-is refusal.ShortProof 0 (lent-short-proof limits input proof′ model h)
 
-  pub short-sheet : limit.proofBytes limits ≤ length book′ → length sheet < limit.modelBytes → ours ≡ record { solved = record { answer = Refused refusal.ShortModel 0; pairs = 0 }; proof = book′; model = sheet }
-  short-sheet h k = faulted-is refusal.ShortModel 0 (lent-short-model limits input book′ sheet h k)
+  pub short-model : limit.proofBytes limits ≤ length proof′ → length model < limit.modelBytes → ours ≡ record { solved = record { answer = Refused refusal.ShortModel 0; pairs = 0 }; proof = proof′; model = model }
+  short-model h k = faulted-is refusal.ShortModel 0 (lent-short-model limits input proof′ model h k)
 
-  pub faulty-question : FullSize limits book′ sheet → (f : Refusal) (place : ℕ) → read input ≡ faulty f place → ours ≡ record { solved = record { answer = Refused f place; pairs = 0 }; proof = book′; model = sheet }
-  faulty-question full f place e = faulted-is f place (lent-fault limits input book′ sheet (full .book) (full .sheet) f place e)
+  pub faulty-input : FullSize limits proof′ model → (f : Refusal) (place : ℕ) → read input ≡ faulty f place → ours ≡ record { solved = record { answer = Refused f place; pairs = 0 }; proof = proof′; model = model }
+  faulty-input full f place e = faulted-is f place (lent-fault limits input proof′ model (full .proofSize) (full .modelSize) f place e)
 
-  pub sizes : (length (ours .proof) ≡ length book′) × (length (ours .model) ≡ length sheet)
-  sizes = memory.sizes-kept limits input book′ sheet
+  pub sizes : (length (ours .proof) ≡ length proof′) × (length (ours .model) ≡ length model)
+  sizes = memory.sizes-kept limits input proof′ model

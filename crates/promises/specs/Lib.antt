@@ -3,7 +3,7 @@ pub mod Outcomes
 pub mod Reported
 pub mod First
 pub mod Evidence
-pub mod Course
+pub mod Elimination
 pub mod Checked
 pub mod Memory
 pub mod Left

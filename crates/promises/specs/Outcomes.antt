@@ -10,28 +10,28 @@ use Rattle.types.specs.declared.answers.Verdict.the-variants.{Satisfiable, Unsa
 use Rattle.types.specs.declared.limits.Limits.{Limits}
 use Rattle.rules.specs.Problem.{Problem}
 use Rattle.rules.specs.Steps.{Step}
-use Rattle.rules.specs.Elimination.{limited, State, running, ended, empty, overflow, outOfSteps, order, course}
+use Rattle.rules.specs.Elimination.{limited, State, running, ended, empty, overflow, outOfSteps, order, elimination}
 use Rattle.rules.specs.Needs.{stepsOf, Fits}
 use Rattle.rules.specs.Values.{walk}
 use Rattle.rules.specs.Model.{written}
 use Rattle.rules.specs.Calls.{Outcome, decided, noModel, concluded, said}
 use Rattle.soundness.specs.WellFormed.{WellFormed}
-use Rattle.course.specs.Limits.{Stopped, fits-same, fits-or-stopped, fits-unstopped}
+use Rattle.elimination.specs.Limits.{Stopped, fits-same, fits-or-stopped, fits-unstopped}
 use Rattle.verdicts.specs.Satisfied.{chosen}
-use Rattle.verdicts.specs.Decided.{NoChoice, running-satisfies, empty-none}
-use Rattle.promises.specs.Words.{SomeChoice, sheetOf, GivesSheet, Comes, WideOrFull}
+use Rattle.verdicts.specs.Decided.{NoAssignment, running-satisfies, empty-none}
+use Rattle.promises.specs.Words.{SomeAssignment, modelOf, GivesModel, Comes, LimitMet}
 
 -- ---- where the course runs to its end, by the sheet of its walk
 abbrev pub finished : List Step → ℕ → Option (List ℕ) → Outcome
 finished steps n none = decided Unwritten steps n noModel
 finished steps n (some bytes) = decided Satisfiable steps n bytes
 
-abbrev pub walkSheet : Problem → List Step → Option (List ℕ)
-walkSheet p steps = written (p .booleans) (p .rationals) (walk order (map (λ s. s .line) steps))
+abbrev pub walkModel : Problem → List Step → Option (List ℕ)
+walkModel p steps = written (p .booleans) (p .rationals) (walk order (map (λ s. s .line) steps))
 
-pub concluded-running : (p : Problem) (steps : List Step) (n : ℕ) → concluded p (running steps n) ≡ finished steps n (walkSheet p steps)
+pub concluded-running : (p : Problem) (steps : List Step) (n : ℕ) → concluded p (running steps n) ≡ finished steps n (walkModel p steps)
 unfolding concluded
-concluded-running p steps n = by (walkSheet p steps)
+concluded-running p steps n = by (walkModel p steps)
   where
     by : (o : Option (List ℕ)) → elim o [ none ↦ decided Unwritten steps n noModel | some bytes ↦ decided Satisfiable steps n bytes ] ≡ finished steps n o
     by none = refl
@@ -55,7 +55,7 @@ unfolding said
 finished-unwritten steps n none = (λ h. refl, λ h. refl)
 finished-unwritten steps n (some bytes) = (λ h. absurd (let z : _≡_ {A = ℕ} 0 1 = cc in omega arith), λ e. absurd (let z : _≡_ {A = ℕ} 0 1 = cc in omega arith))
 
-pub finished-not-stopped : (steps : List Step) (n : ℕ) (o : Option (List ℕ)) → WideOrFull (answerOf (finished steps n o)) → ⊥
+pub finished-not-stopped : (steps : List Step) (n : ℕ) (o : Option (List ℕ)) → LimitMet (answerOf (finished steps n o)) → ⊥
 unfolding said
 finished-not-stopped steps n none (inl h) = h
 finished-not-stopped steps n none (inr h) = h
@@ -63,7 +63,7 @@ finished-not-stopped steps n (some bytes) (inl h) = h
 finished-not-stopped steps n (some bytes) (inr h) = h
 
 -- a course that runs to its end fits the limits
-pub unstopped-fits : (limits : Limits) (p : Problem) (steps : List Step) (n : ℕ) → course (limited limits) p ≡ running steps n → Fits limits p
+pub unstopped-fits : (limits : Limits) (p : Problem) (steps : List Step) (n : ℕ) → elimination (limited limits) p ≡ running steps n → Fits limits p
 unstopped-fits limits p steps n e = ⊎-elim (λ f. f) (λ h. absurd (subst Stopped e h)) (fits-or-stopped limits p)
 
 -- ---- the answer, by the state in which the limited course ends
@@ -72,36 +72,36 @@ module _ (limits : Limits) (p : Problem) (w : WellFormed p) where
   answer s = answerOf (concluded p s)
 
   -- where it fits, its lines are those of the course without limits
-  pub sheet-is : (steps : List Step) (n : ℕ) → course (limited limits) p ≡ running steps n → Fits limits p → sheetOf p ≡ walkSheet p steps
-  unfolding sheetOf stepsOf
-  sheet-is steps n e f = ap (λ (s : State). walkSheet p (stepsOf s)) (sym (fits-same limits p f) ∙ e)
+  pub model-is : (steps : List Step) (n : ℕ) → elimination (limited limits) p ≡ running steps n → Fits limits p → modelOf p ≡ walkModel p steps
+  unfolding modelOf stepsOf
+  model-is steps n e f = ap (λ (s : State). walkModel p (stepsOf s)) (sym (fits-same limits p f) ∙ e)
 
-  cannot-by : (s : State) → course (limited limits) p ≡ s → Fits limits p → Comes Unsatisfiable (answer s) ↔ NoChoice p
+  unsatisfiable-by : (s : State) → elimination (limited limits) p ≡ s → Fits limits p → Comes Unsatisfiable (answer s) ↔ NoAssignment p
   unfolding concluded said
-  cannot-by (running steps n) e f =
-      (λ h. absurd (finished-unsatisfiable steps n (walkSheet p steps) (rw (concluded-running p steps n) at h)), λ h. absurd (h (chosen steps) (running-satisfies p w (limited limits) steps n e)))
-  cannot-by (ended empty steps n) e f = (λ h. empty-none p w (limited limits) steps n e, λ h. refl)
-  cannot-by (ended overflow steps n) e f = absurd (fits-unstopped limits p f (rw e tt))
-  cannot-by (ended outOfSteps steps n) e f = absurd (fits-unstopped limits p f (rw e tt))
+  unsatisfiable-by (running steps n) e f =
+      (λ h. absurd (finished-unsatisfiable steps n (walkModel p steps) (rw (concluded-running p steps n) at h)), λ h. absurd (h (chosen steps) (running-satisfies p w (limited limits) steps n e)))
+  unsatisfiable-by (ended empty steps n) e f = (λ h. empty-none p w (limited limits) steps n e, λ h. refl)
+  unsatisfiable-by (ended overflow steps n) e f = absurd (fits-unstopped limits p f (rw e tt))
+  unsatisfiable-by (ended outOfSteps steps n) e f = absurd (fits-unstopped limits p f (rw e tt))
 
-  agrees-by : (s : State) → course (limited limits) p ≡ s → Fits limits p → Comes Satisfiable (answer s) ↔ (SomeChoice p × GivesSheet p)
+  satisfiable-by : (s : State) → elimination (limited limits) p ≡ s → Fits limits p → Comes Satisfiable (answer s) ↔ (SomeAssignment p × GivesModel p)
   unfolding concluded said
-  agrees-by (running steps n) e f =
-      let r = finished-satisfiable steps n (walkSheet p steps) in
-      let q = sheet-is steps n e f in (
+  satisfiable-by (running steps n) e f =
+      let r = finished-satisfiable steps n (walkModel p steps) in
+      let q = model-is steps n e f in (
         λ h. ((chosen steps, running-satisfies p w (limited limits) steps n e), (let k = r .0 (rw (concluded-running p steps n) at h) in (k .0, q ∙ k .1))),
         λ h. rw (concluded-running p steps n) (r .1 (h .1 .0, sym q ∙ h .1 .1)),
       )
-  agrees-by (ended empty steps n) e f =
+  satisfiable-by (ended empty steps n) e f =
       (λ h. absurd (let z : _≡_ {A = ℕ} 0 1 = cc in omega arith), λ h. absurd (empty-none p w (limited limits) steps n e (h .0 .0) (h .0 .1)))
-  agrees-by (ended overflow steps n) e f = absurd (fits-unstopped limits p f (rw e tt))
-  agrees-by (ended outOfSteps steps n) e f = absurd (fits-unstopped limits p f (rw e tt))
+  satisfiable-by (ended overflow steps n) e f = absurd (fits-unstopped limits p f (rw e tt))
+  satisfiable-by (ended outOfSteps steps n) e f = absurd (fits-unstopped limits p f (rw e tt))
 
-  unwritten-by : (s : State) → course (limited limits) p ≡ s → Fits limits p → Comes Unwritten (answer s) ↔ (SomeChoice p × (sheetOf p ≡ none))
+  unwritten-by : (s : State) → elimination (limited limits) p ≡ s → Fits limits p → Comes Unwritten (answer s) ↔ (SomeAssignment p × (modelOf p ≡ none))
   unfolding concluded said
   unwritten-by (running steps n) e f =
-      let r = finished-unwritten steps n (walkSheet p steps) in
-      let q = sheet-is steps n e f in (
+      let r = finished-unwritten steps n (walkModel p steps) in
+      let q = model-is steps n e f in (
         λ h. ((chosen steps, running-satisfies p w (limited limits) steps n e), q ∙ r .0 (rw (concluded-running p steps n) at h)),
         λ h. rw (concluded-running p steps n) (r .1 (sym q ∙ h .1)),
       )
@@ -111,23 +111,23 @@ module _ (limits : Limits) (p : Problem) (w : WellFormed p) where
   unwritten-by (ended outOfSteps steps n) e f = absurd (fits-unstopped limits p f (rw e tt))
 
   -- ---- otherwise, and only otherwise
-  stopped-by : (s : State) → WideOrFull (answer s) ↔ Stopped s
+  stopped-by : (s : State) → LimitMet (answer s) ↔ Stopped s
   unfolding concluded said
-  stopped-by (running steps n) = (λ h. absurd (finished-not-stopped steps n (walkSheet p steps) (rw (concluded-running p steps n) at h)), λ h. absurd h)
+  stopped-by (running steps n) = (λ h. absurd (finished-not-stopped steps n (walkModel p steps) (rw (concluded-running p steps n) at h)), λ h. absurd h)
   stopped-by (ended empty steps n) = (⊎-elim (λ h. absurd h) (λ h. absurd h), λ h. absurd h)
   stopped-by (ended overflow steps n) = (λ h. tt, λ h. inl refl)
   stopped-by (ended outOfSteps steps n) = (λ h. tt, λ h. inr refl)
 
-  pub otherwise : WideOrFull (answer (course (limited limits) p)) ↔ (Fits limits p → ⊥)
+  pub otherwise : LimitMet (answer (elimination (limited limits) p)) ↔ (Fits limits p → ⊥)
   otherwise =
-      let r = stopped-by (course (limited limits) p) in
+      let r = stopped-by (elimination (limited limits) p) in
       (λ h f. fits-unstopped limits p f (r .0 h), λ n. ⊎-elim (λ f. absurd (n f)) (r .1) (fits-or-stopped limits p))
 
-  pub cannot-exactly : Fits limits p → Comes Unsatisfiable (answer (course (limited limits) p)) ↔ NoChoice p
-  cannot-exactly = cannot-by (course (limited limits) p) refl
+  pub unsatisfiable-exactly : Fits limits p → Comes Unsatisfiable (answer (elimination (limited limits) p)) ↔ NoAssignment p
+  unsatisfiable-exactly = unsatisfiable-by (elimination (limited limits) p) refl
 
-  pub agrees-exactly : Fits limits p → Comes Satisfiable (answer (course (limited limits) p)) ↔ (SomeChoice p × GivesSheet p)
-  agrees-exactly = agrees-by (course (limited limits) p) refl
+  pub satisfiable-exactly : Fits limits p → Comes Satisfiable (answer (elimination (limited limits) p)) ↔ (SomeAssignment p × GivesModel p)
+  satisfiable-exactly = satisfiable-by (elimination (limited limits) p) refl
 
-  pub unwritten-exactly : Fits limits p → Comes Unwritten (answer (course (limited limits) p)) ↔ (SomeChoice p × (sheetOf p ≡ none))
-  unwritten-exactly = unwritten-by (course (limited limits) p) refl
+  pub unwritten-exactly : Fits limits p → Comes Unwritten (answer (elimination (limited limits) p)) ↔ (SomeAssignment p × (modelOf p ≡ none))
+  unwritten-exactly = unwritten-by (elimination (limited limits) p) refl

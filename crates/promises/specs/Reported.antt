@@ -10,27 +10,27 @@ use Rattle.types.specs.Limits as limit
 use Rattle.types.specs.Answers.{answerValue}
 use Rattle.rules.specs.Problem.{Problem}
 use Rattle.rules.specs.Steps.{Step, encodeProof}
-use Rattle.rules.specs.Elimination.{limited, unlimited, State, running, ended, empty, overflow, outOfSteps, order, loadableOf, course}
+use Rattle.rules.specs.Elimination.{limited, unlimited, State, running, ended, empty, overflow, outOfSteps, order, loadableOf, elimination}
 use Rattle.rules.specs.Needs.{stepsOf, pairsOf}
 use Rattle.rules.specs.Calls.{sound, Outcome, read, concluded, said, proofAfter, modelAfter, Solving, solve}
 use Rattle.lists.specs.All.{all-map}
 use Rattle.soundness.specs.WellFormed.{WellFormed}
 use Rattle.soundness.specs.Lent.{lent-sound}
-use Rattle.course.specs.Events.{events}
-use Rattle.course.specs.Cut.{cut, eliminate-cut}
-use Rattle.course.specs.Sound.{Sound, loadable-sound}
-use Rattle.course.specs.PairBound.{pairs-bound}
+use Rattle.elimination.specs.Events.{events}
+use Rattle.elimination.specs.Cut.{cut, eliminate-cut}
+use Rattle.elimination.specs.Sound.{Sound, loadable-sound}
+use Rattle.elimination.specs.PairBound.{pairs-bound}
 use Rattle.resolution.specs.Holds.{Consistent}
 use Rattle.promises.specs.Words.{Comes, FullSize}
-use Rattle.promises.specs.Outcomes.{finished, walkSheet, concluded-running, answerOf}
+use Rattle.promises.specs.Outcomes.{finished, walkModel, concluded-running, answerOf}
 
 -- what an outcome makes of the lent buffers
 abbrev pub left : Limits → Outcome → List ℕ → List ℕ → Solving
-left limits o book sheet = record { solved = said o; proof = proofAfter limits o book; model = modelAfter o sheet }
+left limits o proof model = record { solved = said o; proof = proofAfter limits o proof; model = modelAfter o model }
 
-pub solve-is : (limits : Limits) (input : List ℕ) (p : Problem) → read input ≡ sound p → (book sheet : List ℕ) → FullSize limits book sheet → solve limits input book sheet ≡ left limits (concluded p (course (limited limits) p)) book sheet
+pub solve-is : (limits : Limits) (input : List ℕ) (p : Problem) → read input ≡ sound p → (proof model : List ℕ) → FullSize limits proof model → solve limits input proof model ≡ left limits (concluded p (elimination (limited limits) p)) proof model
 unfolding solve
-solve-is limits input p e book sheet full = ap (λ (o : Outcome). left limits o book sheet) (lent-sound limits input book sheet (full .book) (full .sheet) p e)
+solve-is limits input p e proof model full = ap (λ (o : Outcome). left limits o proof model) (lent-sound limits input proof model (full .proofSize) (full .modelSize) p e)
 
 -- ---- lines and pairs
 finished-lines : (steps : List Step) (n : ℕ) (o : Option (List ℕ)) → answerValue (answerOf (finished steps n o)) ≡ length steps
@@ -46,41 +46,41 @@ finished-pairs steps n (some bytes) = refl
 module _ (p : Problem) where
   pub reported-lines : (s : State) → answerValue (answerOf (concluded p s)) ≡ length (stepsOf s)
   unfolding concluded said answerValue stepsOf
-  reported-lines (running steps n) = rw (concluded-running p steps n) (finished-lines steps n (walkSheet p steps))
+  reported-lines (running steps n) = rw (concluded-running p steps n) (finished-lines steps n (walkModel p steps))
   reported-lines (ended empty steps n) = refl
   reported-lines (ended overflow steps n) = refl
   reported-lines (ended outOfSteps steps n) = refl
 
   pub reported-pairs : (s : State) → said (concluded p s) .pairs ≡ pairsOf s
   unfolding concluded said pairsOf
-  reported-pairs (running steps n) = rw (concluded-running p steps n) (finished-pairs steps n (walkSheet p steps))
+  reported-pairs (running steps n) = rw (concluded-running p steps n) (finished-pairs steps n (walkModel p steps))
   reported-pairs (ended empty steps n) = refl
   reported-pairs (ended overflow steps n) = refl
   reported-pairs (ended outOfSteps steps n) = refl
 
-pub at-most : (limits : Limits) (p : Problem) → WellFormed p → said (concluded p (course (limited limits) p)) .pairs ≤ limits .steps * limits .steps / 4
-unfolding course
+pub at-most : (limits : Limits) (p : Problem) → WellFormed p → said (concluded p (elimination (limited limits) p)) .pairs ≤ limits .steps * limits .steps / 4
+unfolding elimination
 at-most limits p w =
-    rw (reported-pairs p (course (limited limits) p))
+    rw (reported-pairs p (elimination (limited limits) p))
     (pairs-bound limits order (loadableOf p) (all-map (λ s. Sound (s .line)) (λ s. Consistent (s .line)) (loadableOf p) (λ s h. h .consistent) (loadable-sound p w)))
 
 -- ---- which of "wide" and "full" is first
-pub course-cut : (limits : Limits) (p : Problem) → course (limited limits) p ≡ cut (limited limits) (events order (loadableOf p)) (course unlimited p)
-unfolding course
-course-cut limits p = eliminate-cut (limited limits) order (loadableOf p)
+pub elimination-cut : (limits : Limits) (p : Problem) → elimination (limited limits) p ≡ cut (limited limits) (events order (loadableOf p)) (elimination unlimited p)
+unfolding elimination
+elimination-cut limits p = eliminate-cut (limited limits) order (loadableOf p)
 
 -- ---- the book after a verdict
-abbrev bookOf : Limits → List Step → List ℕ → List ℕ
-bookOf limits steps book = encodeProof steps ++ replicate (limit.proofBytes limits - limit.stepBytes * length steps) 0 ++ drop (limit.proofBytes limits) book
+abbrev proofOf : Limits → List Step → List ℕ → List ℕ
+proofOf limits steps proof = encodeProof steps ++ replicate (limit.proofBytes limits - limit.stepBytes * length steps) 0 ++ drop (limit.proofBytes limits) proof
 
-finished-book : (limits : Limits) (book : List ℕ) (steps : List Step) (n : ℕ) (o : Option (List ℕ)) → proofAfter limits (finished steps n o) book ≡ bookOf limits steps book
+finished-proof : (limits : Limits) (proof : List ℕ) (steps : List Step) (n : ℕ) (o : Option (List ℕ)) → proofAfter limits (finished steps n o) proof ≡ proofOf limits steps proof
 unfolding proofAfter
-finished-book limits book steps n none = refl
-finished-book limits book steps n (some bytes) = refl
+finished-proof limits proof steps n none = refl
+finished-proof limits proof steps n (some bytes) = refl
 
-pub book-holds : (limits : Limits) (p : Problem) (book : List ℕ) (s : State) (v : Verdict) → Comes v (answerOf (concluded p s)) → proofAfter limits (concluded p s) book ≡ bookOf limits (stepsOf s) book
+pub proof-holds : (limits : Limits) (p : Problem) (proof : List ℕ) (s : State) (v : Verdict) → Comes v (answerOf (concluded p s)) → proofAfter limits (concluded p s) proof ≡ proofOf limits (stepsOf s) proof
 unfolding concluded said proofAfter stepsOf
-book-holds limits p book (running steps n) v h = rw (concluded-running p steps n) (finished-book limits book steps n (walkSheet p steps))
-book-holds limits p book (ended empty steps n) v h = refl
-book-holds limits p book (ended overflow steps n) v h = absurd h
-book-holds limits p book (ended outOfSteps steps n) v h = absurd h
+proof-holds limits p proof (running steps n) v h = rw (concluded-running p steps n) (finished-proof limits proof steps n (walkModel p steps))
+proof-holds limits p proof (ended empty steps n) v h = refl
+proof-holds limits p proof (ended overflow steps n) v h = absurd h
+proof-holds limits p proof (ended outOfSteps steps n) v h = absurd h

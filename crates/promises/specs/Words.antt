@@ -18,26 +18,26 @@ use Rattle.rules.specs.Problem.{Problem, got}
 use Rattle.rules.specs.Meaning.{Assignment, Satisfies}
 use Rattle.rules.specs.Lines.{Line, isEmpty}
 use Rattle.rules.specs.Steps.{Step}
-use Rattle.rules.specs.Elimination.{Stops, End, unlimited, order, course}
+use Rattle.rules.specs.Elimination.{Stops, End, unlimited, order, elimination}
 use Rattle.rules.specs.Needs.{stepsOf}
 use Rattle.rules.specs.Values.{walk}
 use Rattle.rules.specs.Model.{written, model}
 use Rattle.rules.specs.Calls.{Solving}
-use Rattle.course.specs.Events.{Event}
-use Rattle.course.specs.Cut.{stopAt}
+use Rattle.elimination.specs.Events.{Event}
+use Rattle.elimination.specs.Cut.{stopAt}
 use Rattle.encoding.specs.Following.{Follows}
 
 -- "one does", for: some choice satisfies Q
-abbrev pub SomeChoice : Problem → Type 0
-SomeChoice p = (χ : Assignment) × Satisfies χ p
+abbrev pub SomeAssignment : Problem → Type 0
+SomeAssignment p = (χ : Assignment) × Satisfies χ p
 
 -- what 01's value rule gives for Q: a sheet, or none where it says "unwritten"
-unfoldable pub sheetOf : Problem → Option (List ℕ)
-sheetOf p = written (p .booleans) (p .rationals) (walk order (map (λ s. s .line) (stepsOf (course unlimited p))))
+unfoldable pub modelOf : Problem → Option (List ℕ)
+modelOf p = written (p .booleans) (p .rationals) (walk order (map (λ s. s .line) (stepsOf (elimination unlimited p))))
 
 -- "gives a sheet"
-abbrev pub GivesSheet : Problem → Type 0
-GivesSheet p = (bytes : List ℕ) × (sheetOf p ≡ some bytes)
+abbrev pub GivesModel : Problem → Type 0
+GivesModel p = (bytes : List ℕ) × (modelOf p ≡ some bytes)
 
 -- a verdict "comes"; a refusal does
 abbrev pub Comes : Verdict → Answer → Type 0
@@ -49,8 +49,8 @@ IsRefused f (Decided v n) = ⊥
 IsRefused f (Refused g n) = g ≡ f
 
 -- "wide" or "full" comes
-abbrev pub WideOrFull : Answer → Type 0
-WideOrFull a = IsRefused refusal.Overflow a ⊎ IsRefused refusal.OutOfSteps a
+abbrev pub LimitMet : Answer → Type 0
+LimitMet a = IsRefused refusal.Overflow a ⊎ IsRefused refusal.OutOfSteps a
 
 -- "whichever the course meets first": what stops it, where anything does
 unfoldable pub firstStop : Stops → List Event → Option End
@@ -59,29 +59,29 @@ firstStop stops (e ∷ es) = elim (stopAt stops e) [ none ↦ firstStop stops es
 
 -- "full-size buffers": 1 and 2 do not refuse them
 pub record FullSize (limits : Limits) (proof model : List ℕ) : Type 0 where
-  pub book : limit.proofBytes limits ≤ length proof
-  pub sheet : limit.modelBytes ≤ length model
+  pub proofSize : limit.proofBytes limits ≤ length proof
+  pub modelSize : limit.modelBytes ≤ length model
 
 -- "ours is that sheet, and the choice on it satisfies Q": `ours` is what solving leaves, `sheet` what the lent sheet held before
-pub record OurSheet (p : Problem) (ours : Solving) (sheet : List ℕ) : Type 0 where
+pub record OurModel (p : Problem) (ours : Solving) (lentModel : List ℕ) : Type 0 where
   pub bytes : List ℕ
   pub size : length bytes ≡ limit.modelBytes
-  pub rule : sheetOf p ≡ some bytes
-  pub written : ours .model ≡ bytes ++ drop limit.modelBytes sheet
-  pub choice : Assignment
+  pub rule : modelOf p ≡ some bytes
+  pub written : ours .model ≡ bytes ++ drop limit.modelBytes lentModel
+  pub assignment : Assignment
   pub rest : List ℕ
   pub place : ℕ
-  pub stated : model (p .booleans) (p .rationals) bytes 0 ≡ got choice rest place
-  pub satisfies : Satisfies choice p
+  pub stated : model (p .booleans) (p .rationals) bytes 0 ≡ got assignment rest place
+  pub satisfies : Satisfies assignment p
 
 -- "every clause holds": bytes enough for a sheet, and the choice that they write satisfies Q
-pub record WritesChoice (p : Problem) (bytes : List ℕ) : Type 0 where
+pub record WritesAssignment (p : Problem) (bytes : List ℕ) : Type 0 where
   pub size : limit.modelBytes ≤ length bytes
-  pub choice : Assignment
+  pub assignment : Assignment
   pub rest : List ℕ
   pub place : ℕ
-  pub stated : model (p .booleans) (p .rationals) bytes 0 ≡ got choice rest place
-  pub satisfies : Satisfies choice p
+  pub stated : model (p .booleans) (p .rationals) bytes 0 ≡ got assignment rest place
+  pub satisfies : Satisfies assignment p
 
 -- "its lines follow and the last is empty": k lines of 64 bytes, the first of them after `earlier`; `ends` says whether the last of
 -- those is empty

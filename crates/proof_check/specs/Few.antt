@@ -8,7 +8,7 @@ use Rattle.reader.specs.Values.{clauseAt, clauseEnd}
 use Rattle.reading.specs.Clauses.{clausesAt}
 use Rattle.reading.specs.Readable.{Ahead, ahead-few, ahead-next}
 use Rattle.checking.specs.Named.{Few}
-use Rattle.pieces.specs.Count.{parts-length}
+use Rattle.parts.specs.Count.{parts-length}
 
 pub few-parts : (q : List ℕ) (r n at k : ℕ) → Ahead q r n at k → Few (clausesAt q r n at)
 unfolding clausesAt
@@ -16,4 +16,4 @@ few-parts q r zero at k ahead = tt
 few-parts q r (suc n) at k ahead =
     let e : suc n - 1 ≡ n = omega arith in
     let next : Ahead q r n (clauseEnd q r at) (k + splitsOf (clauseAt q r at)) = rw e at (ahead-next ahead (omega arith)) in
-    (λ link. omega (arith, parts-length link (clauseAt q r at), ahead-few ahead (omega arith)), few-parts q r n (clauseEnd q r at) (k + splitsOf (clauseAt q r at)) next)
+    (λ base. omega (arith, parts-length base (clauseAt q r at), ahead-few ahead (omega arith)), few-parts q r n (clauseEnd q r at) (k + splitsOf (clauseAt q r at)) next)

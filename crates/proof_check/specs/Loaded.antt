@@ -14,7 +14,7 @@ use Rattle.rules.specs.Lines.{Line}
 use Rattle.rules.specs.Split.{partsOf}
 use Rattle.rules.specs.Steps.{Step, loaded, header, encodeStep}
 use Rattle.rules.specs.Elimination.{loadableOf}
-use Rattle.rules.specs.Checker.{lineAmong, variableNamed, resultNamed, statedLine}
+use Rattle.rules.specs.Checker.{lineAmong, variableNamed, resolventNamed, statedLine}
 use Rattle.lists.specs.Tests.{of-true}
 use Rattle.lists.specs.Equal.{same-yes}
 use Rattle.layout.specs.Headers.{how-back}
@@ -23,10 +23,10 @@ use Rattle.line_bytes.specs.Encoding.{headerOf}
 use Rattle.reading.specs.Clauses.{clausesAt, length-clausesAt}
 use Rattle.reading.specs.Parsed.{problemAt}
 use Rattle.reading.specs.Readable.{Readable, ahead-start}
-use Rattle.pieces.specs.declared.part.Found.{Found}
-use Rattle.pieces.specs.Part.{partOf}
+use Rattle.parts.specs.declared.part.Found.{Found}
+use Rattle.parts.specs.Part.{partOf}
 use Rattle.checking.specs.Stated.{lineFound, matched, among-one}
-use Rattle.checking.specs.Derived.{resultStated}
+use Rattle.checking.specs.Derived.{resolventStated}
 use Rattle.checking.specs.Named.{partNamed, ownStep, among-named}
 use Rattle.proof_check.specs.Few.{few-parts}
 use Rattle.proof_check.specs.Index.{Entry}
@@ -40,11 +40,11 @@ found-part f = by (f .found)
     by true = refl
     by false = refl
 
-named-beyond : (link : ℕ) (xs : List Clause) (c k : ℕ) → length xs ≤ c → partNamed link xs c k ≡ none
+named-beyond : (base : ℕ) (xs : List Clause) (c k : ℕ) → length xs ≤ c → partNamed base xs c k ≡ none
 unfolding partNamed
-named-beyond link [] c k h = refl
-named-beyond link (x ∷ xs) zero k h = absurd (omega arith)
-named-beyond link (x ∷ xs) (suc c) k h = named-beyond _ xs c k (omega arith)
+named-beyond base [] c k h = refl
+named-beyond base (x ∷ xs) zero k h = absurd (omega arith)
+named-beyond base (x ∷ xs) (suc c) k h = named-beyond _ xs c k (omega arith)
 
 module _ (bytes : List ℕ) (c k : ℕ) where
   own-matched : (o : Option Line) → ownStep bytes c k o ≡ matched (headerOf 0 0 c k) bytes o
@@ -92,13 +92,13 @@ module _ {q : List ℕ} {b r n : ℕ} (read : Readable q b r n) (bytes : List �
 -- ---- a part, or else a result
 module _ (parts : List Step) (earlier : List Line) (bytes : List ℕ) where
   pub stated-loaded : fieldAt 0 1 bytes ≡ 0 → statedLine parts earlier bytes ≡ lineAmong parts bytes
-  unfolding statedLine resultNamed variableNamed
+  unfolding statedLine resolventNamed variableNamed
   stated-loaded e = by (lineAmong parts bytes)
     where
-      by : (o : Option Line) → _≡_ {A = Option Line} (elim o [ some l ↦ some l | none ↦ elim (resultNamed earlier bytes) [ none ↦ none | some s ↦ lineAmong (s ∷ []) bytes ] ]) o
-      by none = rw (e, resultNamed)
+      by : (o : Option Line) → _≡_ {A = Option Line} (elim o [ some l ↦ some l | none ↦ elim (resolventNamed earlier bytes) [ none ↦ none | some s ↦ lineAmong (s ∷ []) bytes ] ]) o
+      by none = rw (e, resolventNamed)
       by (some l) = refl
 
-  pub stated-derived : lineAmong parts bytes ≡ none → statedLine parts earlier bytes ≡ resultStated earlier bytes
-  unfolding statedLine resultStated
+  pub stated-derived : lineAmong parts bytes ≡ none → statedLine parts earlier bytes ≡ resolventStated earlier bytes
+  unfolding statedLine resolventStated
   stated-derived e = rw (e, statedLine)

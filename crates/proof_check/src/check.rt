@@ -28,20 +28,20 @@ fn whole_steps(limits: Limits, n: usize) -> bool
 }
 
 // Of a question that is read without fault.
-fn check_readable(question: &[u8], sizes: Sizes, proof: &[u8]) -> Checked
-    requires { ⌜ Readable (now question) (sizes .booleans) (sizes .rationals) (sizes .clauses) ⌝ }
-    ensures { λ c. ⌜ c ≡ checkProof (problemOf (now (question .entry)) sizes) (now (proof .entry)) ⌝ }
+fn check_readable(input: &[u8], sizes: Sizes, proof: &[u8]) -> Checked
+    requires { ⌜ Readable (now input) (sizes .booleans) (sizes .rationals) (sizes .clauses) ⌝ }
+    ensures { λ c. ⌜ c ≡ checkProof (problemOf (now (input .entry)) sizes) (now (proof .entry)) ⌝ }
 {
     let mut places = [0u16; 256];
     let mut variables = [0u8; 256];
-    index(question, sizes, &mut places, &mut variables);
-    check_steps(question, sizes, &places, &variables, proof)
+    index(input, sizes, &mut places, &mut variables);
+    check_steps(input, sizes, &places, &variables, proof)
 }
 
-pub fn check_proof(question: &[u8], proof: &[u8], limits: Limits) -> Checked
-    ensures { λ c. ⌜ c ≡ proofChecked limits (now (question .entry)) (now (proof .entry)) ⌝ }
+pub fn check_proof(input: &[u8], proof: &[u8], limits: Limits) -> Checked
+    ensures { λ c. ⌜ c ≡ proofChecked limits (now (input .entry)) (now (proof .entry)) ⌝ }
 {
-    let s = read(question);
+    let s = read(input);
     match s {
         Scan::Fault(f, place) => Checked::Refused(f, place),
         Scan::Sound(b, r, n) => {
@@ -53,14 +53,14 @@ pub fn check_proof(question: &[u8], proof: &[u8], limits: Limits) -> Checked
                 rationals: r,
                 clauses: n,
             };
-            check_readable(question, sizes, proof)
+            check_readable(input, sizes, proof)
         }
     }
 }
 
 // With the limits of a caller who lends the whole proof.
-pub fn check_standard(question: &[u8], proof: &[u8]) -> Checked
-    ensures { λ c. ⌜ c ≡ proofChecked standard (now (question .entry)) (now (proof .entry)) ⌝ }
+pub fn check_standard(input: &[u8], proof: &[u8]) -> Checked
+    ensures { λ c. ⌜ c ≡ proofChecked standard (now (input .entry)) (now (proof .entry)) ⌝ }
 {
-    check_proof(question, proof, Limits::standard())
+    check_proof(input, proof, Limits::standard())
 }

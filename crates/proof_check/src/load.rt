@@ -4,7 +4,7 @@ use checking::compare::Stated;
 use checking::compare::compared;
 use checking::compare::unstated;
 use fields::u16_at;
-use pieces::part::part;
+use parts::part::part;
 ghost use Rattle.rules.specs.Elimination.{loadableOf};
 ghost use Rattle.rules.specs.Checker.{lineAmong};
 ghost use Rattle.checking.specs.Stated.{States};

@@ -10,18 +10,18 @@ use Rattle.lines.specs.declared.line.Line.{Line}
 use Rattle.lines.specs.Line.{meaning, Shaped, Ready}
 use Rattle.lines.specs.Ready.{narrow-ready}
 use Rattle.resolvents.specs.declared.resolve.Outcome.{Outcome}
-use Rattle.resolvents.specs.declared.resolve.Outcome.the-variants.{Dropped, Wide, Made}
+use Rattle.resolvents.specs.declared.resolve.Outcome.the-variants.{Dropped, Overflows, Made}
 use Rattle.resolvents.specs.declared.resolve.Resolved.{Resolved}
 
 -- "wide if an amount exceeds 1,000,000,000 in size"
 unfoldable pub outcomeOf : Option rules.Line → Outcome
 outcomeOf none = Dropped
-outcomeOf (some l) = cond (overflows l) Wide Made
+outcomeOf (some l) = cond (overflows l) Overflows Made
 
 -- the line that is left
 unfoldable pub lineOf : Outcome → Line → Option rules.Line
 lineOf Dropped l = none
-lineOf Wide l = some (meaning l)
+lineOf Overflows l = some (meaning l)
 lineOf Made l = some (meaning l)
 
 pub record Gives (o : Option rules.Line) (r : Resolved) : Type 0 where
@@ -36,13 +36,13 @@ module _ {o : Option rules.Line} (l : Line) (h : Shaped l) where
   gives-dropped e = record { outcome = ap outcomeOf e; line = e; shaped = h; ready = λ k. let z : _≡_ {A = ℕ} 0 1 = cc in absurd (omega arith) }
 
   module _ (e : some (meaning l) ≡ o) where
-    outcome-is : outcomeOf o ≡ cond (overflows (meaning l)) Wide Made
+    outcome-is : outcomeOf o ≡ cond (overflows (meaning l)) Overflows Made
     unfolding outcomeOf
     outcome-is = sym (ap outcomeOf e)
 
-    pub gives-wide : overflows (meaning l) ≡ true → Gives o (record { outcome = Wide; line = l })
+    pub gives-overflow : overflows (meaning l) ≡ true → Gives o (record { outcome = Overflows; line = l })
     unfolding lineOf
-    gives-wide w = record { outcome = sym (outcome-is ∙ rw w); line = e; shaped = h; ready = λ k. let z : _≡_ {A = ℕ} 0 1 = cc in absurd (omega arith) }
+    gives-overflow w = record { outcome = sym (outcome-is ∙ rw w); line = e; shaped = h; ready = λ k. let z : _≡_ {A = ℕ} 0 1 = cc in absurd (omega arith) }
 
     pub gives-made : overflows (meaning l) ≡ false → Gives o (record { outcome = Made; line = l })
     unfolding lineOf

@@ -15,7 +15,7 @@ ghost use Rattle.resolvents.specs.Resolved.{Gives};
 
 pub enum Outcome {
     Dropped,
-    Wide,
+    Overflows,
     Made,
 }
 
@@ -41,7 +41,7 @@ pub fn finish(line: Line) -> Resolved
     }
     if left.overflows() {
         return Resolved {
-            outcome: Outcome::Wide,
+            outcome: Outcome::Overflows,
             line: left,
         };
     }

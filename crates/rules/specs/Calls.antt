@@ -21,7 +21,7 @@ use Rattle.types.specs.Answers.{verdictNumber}
 use Rattle.rules.specs.Problem.{Problem, Read, fault, got, problem}
 use Rattle.rules.specs.Split.{overSplit}
 use Rattle.rules.specs.Steps.{Step, encodeProof}
-use Rattle.rules.specs.Elimination.{State, running, ended, empty, overflow, outOfSteps, order, limited, course}
+use Rattle.rules.specs.Elimination.{State, running, ended, empty, overflow, outOfSteps, order, limited, elimination}
 use Rattle.rules.specs.Values.{walk}
 use Rattle.rules.specs.Model.{written, model}
 use Rattle.rules.specs.Checker.{checkProof, checkClauses}
@@ -66,7 +66,7 @@ concluded p (running steps pairs) =
     ]
 
 unfoldable pub outcome : Limits → List ℕ → Outcome
-outcome limits input = elim (read input) [ faulty f place ↦ faulted f place | sound p ↦ concluded p (course (limited limits) p) ]
+outcome limits input = elim (read input) [ faulty f place ↦ faulted f place | sound p ↦ concluded p (elimination (limited limits) p) ]
 
 -- ---- solving
 -- 1 and 2, before the question is looked at

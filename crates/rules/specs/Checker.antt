@@ -38,8 +38,8 @@ unfoldable pub variableNamed : ℕ → ℕ → Option Variable
 variableNamed how which = cond (eqb how 1) (some (rational which)) (cond (eqb how 2) (some (boolean which)) none)
 
 -- the result that these bytes name, by their first six: its line is computed from its parents
-unfoldable pub resultNamed : List Line → List ℕ → Option Step
-resultNamed earlier bytes =
+unfoldable pub resolventNamed : List Line → List ℕ → Option Step
+resolventNamed earlier bytes =
     let first = fieldAt 2 2 bytes in
     let second = fieldAt 4 2 bytes in
     elim (variableNamed (fieldAt 0 1 bytes) (fieldAt 1 1 bytes)) [
@@ -60,7 +60,7 @@ unfoldable pub statedLine : List Step → List Line → List ℕ → Option Line
 statedLine parts earlier bytes =
     elim (lineAmong parts bytes) [
       | some l ↦ some l
-      | none ↦ elim (resultNamed earlier bytes) [ none ↦ none | some s ↦ lineAmong (s ∷ []) bytes ]
+      | none ↦ elim (resolventNamed earlier bytes) [ none ↦ none | some s ↦ lineAmong (s ∷ []) bytes ]
     ]
 
 -- k lines are left, `earlier` follow, and `ends` says whether the last of those is empty:

@@ -19,17 +19,17 @@ use Rattle.rules.specs.Normalize.{membersOf, reduced, settled, settledAl
 use Rattle.rules.specs.Split.{chain, parts, partsOf, splitsOf, overSplit}
 use Rattle.rules.specs.Resolve.{combination, combinationOf, oneOf, resolvent, resolve}
 use Rattle.rules.specs.Steps.{Origin, header, headerBytes, relationByte, mask, row, lineBytes, encodeStep, encodeProof}
-use Rattle.rules.specs.Elimination.{order, roundOf, overflows, limited, unlimited, placed, covered, select, pairUp, sideOf, roundPairs, partSteps, loadable, loadableOf, add, load, tried, tryAll, rounds, eliminate, course}
+use Rattle.rules.specs.Elimination.{order, roundOf, overflows, limited, unlimited, placed, covered, select, pairUp, sideOf, roundPairs, partSteps, loadable, loadableOf, add, load, tried, tryAll, rounds, eliminate, elimination}
 use Rattle.rules.specs.Values.{reduce, quotient, less, midpoint, plus, beyond, tighter, value, boundOf, boundsOf, gather, tightest, rationalValue, withoutBoolean, booleanValue, withRational, withBoolean, assign, exceeds, start, walkFrom, walk}
 use Rattle.rules.specs.Model.{booleanByte, encodeModel, tooLarge, written, model}
-use Rattle.rules.specs.Checker.{pairable, derived, variableNamed, resultNamed, lineAmong, statedLine, checkSteps, checkProof, checkClauses}
+use Rattle.rules.specs.Checker.{pairable, derived, variableNamed, resolventNamed, lineAmong, statedLine, checkSteps, checkProof, checkClauses}
 use Rattle.rules.specs.Calls.{Outcome, faulted, stopped, decided, withinSplits, read, noModel, concluded, outcome, lent, said, proofAfter, modelAfter, solve, wholeSteps, proofChecked, modelChecked, evidence, evidenceBytes}
 use Rattle.rules.specs.Print.{ascii, digitsWithin, decimal, signedDecimal, printLine, printStep, printProof, printModel, printRefusal, printed}
-use Rattle.rules.specs.Needs.{stepsOf, pairsOf, needs, listed, triedResults, roundResults, results}
+use Rattle.rules.specs.Needs.{stepsOf, pairsOf, needs, listed, triedResolvents, roundResolvents, resolvents}
 
 -- `unfolding definitions` lets a theorem compute
 unfoldable abbrev pub definitions : Unit {0}
-unfolding any all filter concat same tabulate put gcdWithin gcd gcdAll lcm sum scale combine related isPositive isNegative isZero equal toBytes fromBytes fromUnsigned toUnsigned amountBytes fieldAt padded after repeat byte number tested field inRange amount literal constraint clause end problem literalHolds constraintHolds clauseHolds noBooleans including excluding union meet someYes aLiteralHolds theConstraintHolds lineHolds coefficient positively negatively contains noConstraint isEmpty sameConstraint sameLine membersOf reduced settled settledAll normalClause settledLine normalLine chain parts partsOf splitsOf overSplit combination combinationOf oneOf resolvent resolve header headerBytes relationByte mask row lineBytes encodeStep encodeProof order roundOf overflows limited unlimited placed covered select pairUp sideOf roundPairs partSteps loadable loadableOf add load tried tryAll rounds eliminate course reduce quotient less midpoint plus beyond tighter value boundOf boundsOf gather tightest rationalValue withoutBoolean booleanValue withRational withBoolean assign exceeds start walkFrom walk booleanByte encodeModel tooLarge written model pairable derived variableNamed resultNamed lineAmong statedLine checkSteps checkProof checkClauses withinSplits read noModel concluded outcome lent said proofAfter modelAfter solve wholeSteps proofChecked modelChecked evidence evidenceBytes ascii digitsWithin decimal signedDecimal printLine printStep printProof printModel printRefusal printed stepsOf pairsOf needs listed triedResults roundResults results refusalNumber verdictNumber answerNumber answerValue checkedNumber checkedValue evidenceNumber evidenceLength
+unfolding any all filter concat same tabulate put gcdWithin gcd gcdAll lcm sum scale combine related isPositive isNegative isZero equal toBytes fromBytes fromUnsigned toUnsigned amountBytes fieldAt padded after repeat byte number tested field inRange amount literal constraint clause end problem literalHolds constraintHolds clauseHolds noBooleans including excluding union meet someYes aLiteralHolds theConstraintHolds lineHolds coefficient positively negatively contains noConstraint isEmpty sameConstraint sameLine membersOf reduced settled settledAll normalClause settledLine normalLine chain parts partsOf splitsOf overSplit combination combinationOf oneOf resolvent resolve header headerBytes relationByte mask row lineBytes encodeStep encodeProof order roundOf overflows limited unlimited placed covered select pairUp sideOf roundPairs partSteps loadable loadableOf add load tried tryAll rounds eliminate elimination reduce quotient less midpoint plus beyond tighter value boundOf boundsOf gather tightest rationalValue withoutBoolean booleanValue withRational withBoolean assign exceeds start walkFrom walk booleanByte encodeModel tooLarge written model pairable derived variableNamed resolventNamed lineAmong statedLine checkSteps checkProof checkClauses withinSplits read noModel concluded outcome lent said proofAfter modelAfter solve wholeSteps proofChecked modelChecked evidence evidenceBytes ascii digitsWithin decimal signedDecimal printLine printStep printProof printModel printRefusal printed stepsOf pairsOf needs listed triedResolvents roundResolvents resolvents refusalNumber verdictNumber answerNumber answerValue checkedNumber checkedValue evidenceNumber evidenceLength
 definitions = tt
 
 -- the answer with its pairs; the lines' origins; and the sheet's booleans, numerators and denominator (0 without a sheet)

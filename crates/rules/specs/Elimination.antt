@@ -139,5 +139,5 @@ module _ (stops : Stops) where
   eliminate variables parts = rounds variables 0 variables (load parts (running [] 0))
 
 -- a question's course
-unfoldable pub course : Stops → Problem → State
-course stops p = eliminate stops order (loadableOf p)
+unfoldable pub elimination : Stops → Problem → State
+elimination stops p = eliminate stops order (loadableOf p)

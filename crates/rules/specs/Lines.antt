@@ -48,8 +48,8 @@ pub record Line : Type 0 where
 -- ---- when it holds
 -- some member is yes under the choice
 unfoldable pub someYes : Booleans → (ℕ → Bool) → Bool
-someYes [] choice = false
-someYes (a ∷ s) choice = a && choice 0 || someYes s (λ i. choice (suc i))
+someYes [] assignment = false
+someYes (a ∷ s) assignment = a && assignment 0 || someYes s (λ i. assignment (suc i))
 
 unfoldable pub aLiteralHolds : Assignment → Line → Bool
 aLiteralHolds χ l = someYes (l .positive) (χ .booleans) || someYes (l .negative) (λ i. not (χ .booleans i))

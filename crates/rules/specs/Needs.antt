@@ -11,7 +11,7 @@ use Rattle.rules.specs.Problem.{Problem}
 use Rattle.rules.specs.Lines.{Line, Variable}
 use Rattle.rules.specs.Resolve.{resolve}
 use Rattle.rules.specs.Steps.{Step}
-use Rattle.rules.specs.Elimination.{State, running, ended, Pair, order, overflows, unlimited, roundPairs, loadableOf, load, tried, tryAll, course}
+use Rattle.rules.specs.Elimination.{State, running, ended, Pair, order, overflows, unlimited, roundPairs, loadableOf, load, tried, tryAll, elimination}
 
 -- the lines that a course holds, and the pairs that it has tried
 unfoldable pub stepsOf : State → List Step
@@ -24,30 +24,30 @@ pairsOf (ended e steps n) = n
 
 -- "The course needs every line it would add without limits on lines or amounts, up to its first empty line, which counts, or its end."
 unfoldable pub needs : Problem → ℕ
-needs p = length (stepsOf (course unlimited p))
+needs p = length (stepsOf (elimination unlimited p))
 
 -- every tidied result that it comes to, also one that an earlier line covers
 unfoldable pub listed : Option Line → List Line
 listed none = []
 listed (some l) = l ∷ []
 
-unfoldable pub triedResults : Variable → List Pair → State → List Line
-triedResults v [] state = []
-triedResults v (p ∷ ps) (ended e steps n) = []
-triedResults v (p ∷ ps) (running steps n) =
-    let m = resolve v (p .upper .line) (p .lower .line) in listed m ++ triedResults v ps (tried unlimited v p m steps (suc n))
+unfoldable pub triedResolvents : Variable → List Pair → State → List Line
+triedResolvents v [] state = []
+triedResolvents v (p ∷ ps) (ended e steps n) = []
+triedResolvents v (p ∷ ps) (running steps n) =
+    let m = resolve v (p .upper .line) (p .lower .line) in listed m ++ triedResolvents v ps (tried unlimited v p m steps (suc n))
 
-unfoldable pub roundResults : List Variable → ℕ → List Variable → State → List Line
-roundResults variables t [] state = []
-roundResults variables t (v ∷ vs) (ended e steps n) = []
-roundResults variables t (v ∷ vs) (running steps n) =
+unfoldable pub roundResolvents : List Variable → ℕ → List Variable → State → List Line
+roundResolvents variables t [] state = []
+roundResolvents variables t (v ∷ vs) (ended e steps n) = []
+roundResolvents variables t (v ∷ vs) (running steps n) =
     let ps = roundPairs variables v t steps in
-    triedResults v ps (running steps n) ++ roundResults variables (suc t) vs (tryAll unlimited v ps (running steps n))
+    triedResolvents v ps (running steps n) ++ roundResolvents variables (suc t) vs (tryAll unlimited v ps (running steps n))
 
-unfoldable pub results : Problem → List Line
-results p = roundResults order 0 order (load unlimited (loadableOf p) (running [] 0))
+unfoldable pub resolvents : Problem → List Line
+resolvents p = roundResolvents order 0 order (load unlimited (loadableOf p) (running [] 0))
 
 -- "needs at most 1,024 lines and no amount in a tidied result beyond 1,000,000,000 in size"
 pub record Fits (limits : Limits) (p : Problem) : Type 0 where
   pub steps : needs p ≤ limits .steps
-  pub amounts : T (all (λ l. not (overflows l)) (results p))
+  pub amounts : T (all (λ l. not (overflows l)) (resolvents p))

@@ -56,13 +56,13 @@ unfolding definitions
 the-upper-end-is-closer = refl
 
 -- "reusing one link in two clauses": x ≤ 1 or -x ≤ -9; -x ≤ -8 or x ≤ 2. With one link for both no x would do.
-pub each-clause-has-its-links : shown (problemOf 0 1 (clauseOf [] (atMost (pos 1 ∷ []) (pos 1) ∷ atMost (negsuc 0 ∷ []) (negsuc 8) ∷ []) ∷ clauseOf [] (atMost (negsuc 0 ∷ []) (negsuc 7) ∷ atMost (pos 1 ∷ []) (pos 2) ∷ []) ∷ []))
+pub each-clause-has-its-split-variables : shown (problemOf 0 1 (clauseOf [] (atMost (pos 1 ∷ []) (pos 1) ∷ atMost (negsuc 0 ∷ []) (negsuc 8) ∷ []) ∷ clauseOf [] (atMost (negsuc 0 ∷ []) (negsuc 7) ∷ atMost (pos 1 ∷ []) (pos 2) ∷ []) ∷ []))
     ≡ satisfiable 6 5 (loaded 0 0 ∷ loaded 0 1 ∷ loaded 1 0 ∷ loaded 1 1 ∷ resolved (rational 0) 0 2 ∷ resolved (rational 0) 3 1 ∷ []) [] (pos 9 ∷ []) 1
 unfolding definitions
-each-clause-has-its-links = refl
+each-clause-has-its-split-variables = refl
 
 -- the same within one clause: x ≤ 0 or -x ≤ -5 or x ≤ -10; -x ≤ -6
-pub each-condition-has-its-link : shown (problemOf 0 1 (clauseOf [] (atMost (pos 1 ∷ []) (pos 0) ∷ atMost (negsuc 0 ∷ []) (negsuc 4) ∷ atMost (pos 1 ∷ []) (negsuc 9) ∷ []) ∷ alone (atMost (negsuc 0 ∷ []) (negsuc 5)) ∷ []))
+pub each-constraint-has-its-split-variable : shown (problemOf 0 1 (clauseOf [] (atMost (pos 1 ∷ []) (pos 0) ∷ atMost (negsuc 0 ∷ []) (negsuc 4) ∷ atMost (pos 1 ∷ []) (negsuc 9) ∷ []) ∷ alone (atMost (negsuc 0 ∷ []) (negsuc 5)) ∷ []))
     ≡ satisfiable 6 4 (loaded 0 0 ∷ loaded 0 1 ∷ loaded 0 2 ∷ loaded 1 0 ∷ resolved (rational 0) 0 3 ∷ resolved (rational 0) 2 3 ∷ []) [] (pos 6 ∷ []) 1
 unfolding definitions
-each-condition-has-its-link = refl
+each-constraint-has-its-split-variable = refl

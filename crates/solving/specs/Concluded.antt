@@ -13,9 +13,9 @@ use Rattle.rules.specs.Needs.{stepsOf, pairsOf}
 use Rattle.rules.specs.Values.{walk}
 use Rattle.rules.specs.Model.{written}
 use Rattle.rules.specs.Calls.{Outcome, stopped, decided, noModel, concluded}
-use Rattle.elimination.specs.declared.End.{End}
-use Rattle.elimination.specs.declared.End.the-variants.{Saturated, Empty, Overflow, OutOfSteps}
-use Rattle.elimination.specs.Ends.{endOf}
+use Rattle.eliminating.specs.declared.End.{End}
+use Rattle.eliminating.specs.declared.End.the-variants.{Saturated, Empty, Overflow, OutOfSteps}
+use Rattle.eliminating.specs.Ends.{endOf}
 
 module _ (p : Problem) where
   -- by the sheet of the walk
@@ -23,20 +23,20 @@ module _ (p : Problem) where
   finished s none = decided Unwritten (stepsOf s) (pairsOf s) noModel
   finished s (some bytes) = decided Satisfiable (stepsOf s) (pairsOf s) bytes
 
-  abbrev pub sheetOf : List Step → Option (List ℕ)
-  sheetOf steps = written (p .booleans) (p .rationals) (walk order (map (λ s. s .line) steps))
+  abbrev pub modelOf : List Step → Option (List ℕ)
+  modelOf steps = written (p .booleans) (p .rationals) (walk order (map (λ s. s .line) steps))
 
   abbrev pub Concludes : State → End → Type 0
   Concludes s Overflow = concluded p s ≡ stopped refusal.Overflow (length (stepsOf s)) (pairsOf s)
   Concludes s OutOfSteps = concluded p s ≡ stopped refusal.OutOfSteps (length (stepsOf s)) (pairsOf s)
   Concludes s Empty = concluded p s ≡ decided Unsatisfiable (stepsOf s) (pairsOf s) noModel
-  Concludes s Saturated = (o : Option (List ℕ)) → sheetOf (stepsOf s) ≡ o → concluded p s ≡ finished s o
+  Concludes s Saturated = (o : Option (List ℕ)) → modelOf (stepsOf s) ≡ o → concluded p s ≡ finished s o
 
   pub concludes : (s : State) → Concludes s (endOf s)
   unfolding concluded endOf stepsOf pairsOf
   concludes (running steps n) = by
     where
-      by : (o : Option (List ℕ)) → sheetOf steps ≡ o → concluded p (running steps n) ≡ finished (running steps n) o
+      by : (o : Option (List ℕ)) → modelOf steps ≡ o → concluded p (running steps n) ≡ finished (running steps n) o
       by none e = rw (e, concluded)
       by (some bytes) e = rw (e, concluded)
   concludes (ended empty steps n) = refl

@@ -14,26 +14,26 @@ use Rattle.rules.specs.Values.{walk}
 use Rattle.rules.specs.Model.{written}
 use Rattle.line_bytes.specs.Places.{zeroed}
 use Rattle.proof_lines.specs.Held.{linesIn}
-use Rattle.elimination.specs.declared.Course.{Course}
+use Rattle.eliminating.specs.declared.Elimination.{Elimination}
 
-abbrev pub refusedBy : Refusal → Course → Solved
+abbrev pub refusedBy : Refusal → Elimination → Solved
 refusedBy f c = record { answer = Refused f (c .steps); pairs = c .pairs }
 
-abbrev pub decidedBy : Verdict → Course → Solved
+abbrev pub decidedBy : Verdict → Elimination → Solved
 decidedBy v c = record { answer = Decided v (c .steps); pairs = c .pairs }
 
 -- the walk's sheet, or none
-pub record Agrees (c : Course) (bytes model after : List ℕ) (s : Solved) : Type 0 where
+pub record WithModel (c : Elimination) (bytes model after : List ℕ) (s : Solved) : Type 0 where
   pub said : s ≡ decidedBy Satisfiable c
   pub left : after ≡ bytes ++ drop 64 model
 
-pub record Unagreed (c : Course) (model after : List ℕ) (s : Solved) : Type 0 where
+pub record WithoutModel (c : Elimination) (model after : List ℕ) (s : Solved) : Type 0 where
   pub said : s ≡ decidedBy Unwritten c
   pub left : after ≡ zeroed 0 1 model
 
-abbrev pub WrittenBy : Option (List ℕ) → Course → List ℕ → List ℕ → Solved → Type 0
-WrittenBy none c model after s = Unagreed c model after s
-WrittenBy (some bytes) c model after s = Agrees c bytes model after s
+abbrev pub WrittenBy : Option (List ℕ) → Elimination → List ℕ → List ℕ → Solved → Type 0
+WrittenBy none c model after s = WithoutModel c model after s
+WrittenBy (some bytes) c model after s = WithModel c bytes model after s
 
-abbrev pub Written : ℕ → ℕ → Course → List ℕ → List ℕ → List ℕ → Solved → Type 0
+abbrev pub Written : ℕ → ℕ → Elimination → List ℕ → List ℕ → List ℕ → Solved → Type 0
 Written b r c proof model after s = WrittenBy (written b r (walk order (linesIn proof (c .steps)))) c model after s

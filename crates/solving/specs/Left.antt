@@ -16,45 +16,45 @@ use Rattle.types.specs.declared.limits.Limits.{Limits}
 use Rattle.types.specs.Limits as limit
 use Rattle.rules.specs.Problem.{Problem}
 use Rattle.rules.specs.Steps.{Step, encodeProof}
-use Rattle.rules.specs.Elimination.{State, limited, order, loadableOf, course}
+use Rattle.rules.specs.Elimination.{State, limited, order, loadableOf, elimination}
 use Rattle.rules.specs.Needs.{stepsOf, pairsOf}
 use Rattle.rules.specs.Values.{walk}
 use Rattle.rules.specs.Model.{written}
 use Rattle.rules.specs.Calls.{stopped, decided, noModel, concluded, said, proofAfter, modelAfter}
 use Rattle.lists.specs.All.{all-map}
 use Rattle.soundness.specs.WellFormed.{WellFormed}
-use Rattle.course.specs.Held.{limited-held}
-use Rattle.course.specs.Sound.{Sound, course-sound}
+use Rattle.elimination.specs.Held.{limited-held}
+use Rattle.elimination.specs.Sound.{Sound, elimination-sound}
 use Rattle.resolution.specs.Formed.{Formed}
 use Rattle.encoding.specs.Steps.{proof-length}
 use Rattle.line_bytes.specs.Places.{zeroed, zeroed-behind}
 use Rattle.proof_lines.specs.Held.{linesIn}
 use Rattle.walk.specs.Narrow.{Narrow}
-use Rattle.elimination.specs.declared.End.{End}
-use Rattle.elimination.specs.declared.End.the-variants.{Saturated, Empty, Overflow, OutOfSteps}
-use Rattle.elimination.specs.declared.Course.{Course}
-use Rattle.elimination.specs.Eliminated.{Eliminated}
+use Rattle.eliminating.specs.declared.End.{End}
+use Rattle.eliminating.specs.declared.End.the-variants.{Saturated, Empty, Overflow, OutOfSteps}
+use Rattle.eliminating.specs.declared.Elimination.{Elimination}
+use Rattle.eliminating.specs.Eliminated.{Eliminated}
 use Rattle.solving.specs.Ends.{refusedBy, decidedBy, Written, WrittenBy}
 use Rattle.solving.specs.Leaves.{Leaves}
 use Rattle.solving.specs.Concluded.{finished, Concludes, concludes}
 
-module _ {limits : Limits} {p : Problem} (w : WellFormed p) {before after : List ℕ} {c : Course} (e : Eliminated limits p before after c) where
+module _ {limits : Limits} {p : Problem} (w : WellFormed p) {before after : List ℕ} {c : Elimination} (e : Eliminated limits p before after c) where
   abbrev state : State
-  state = course (limited limits) p
+  state = elimination (limited limits) p
 
   abbrev steps : List Step
   steps = stepsOf state
 
   few : length steps ≤ limits .steps
-  unfolding course
+  unfolding elimination
   few = limited-held limits order (loadableOf p)
 
   pub few-steps : c .steps ≤ limits .steps
   few-steps = omega (arith, e .steps, few)
 
   used : length (encodeProof steps) ≡ 64 * length steps
-  unfolding course
-  used = proof-length steps (all-map (λ s. Sound (s .line)) (λ s. Formed (s .line)) steps (λ s h. h .formed) (course-sound p w (limited limits) order))
+  unfolding elimination
+  used = proof-length steps (all-map (λ s. Sound (s .line)) (λ s. Formed (s .line)) steps (λ s h. h .formed) (elimination-sound p w (limited limits) order))
 
   -- no line has a variable that the question does not have
   pub narrow : Narrow after (c .steps) (p .rationals)

@@ -1,5 +1,5 @@
 // What each end of a course leaves: the answer, the proof's bytes and the model's.
-use elimination::Course;
+use eliminating::Elimination;
 use line_bytes::steps::zero;
 use model_bytes::write_model;
 use types::answers::Answer;
@@ -17,7 +17,7 @@ ghost use Rattle.walk.specs.Narrow.{Narrow};
 ghost use Rattle.solving.specs.Ends.{refusedBy, decidedBy, Written};
 
 // "zero the book's 65,536 bytes and leave the sheet"
-pub fn refuse(proof: &mut [u8], f: Refusal, c: Course, limits: Limits) -> Solved
+pub fn refuse(proof: &mut [u8], f: Refusal, c: Elimination, limits: Limits) -> Solved
     requires { ⌜ 64 * limits .steps ≤ length (now proof) ⌝ }
     ensures { λ s. ⌜ s ≡ refusedBy f c ⌝ }
     ensures { λ _. ⌜ now (proof .exit) ≡ zeroed 0 (limits .steps) (now (proof .entry)) ⌝ }
@@ -29,7 +29,7 @@ pub fn refuse(proof: &mut [u8], f: Refusal, c: Course, limits: Limits) -> Solved
     }
 }
 
-fn decided(v: Verdict, c: Course) -> Solved
+fn decided(v: Verdict, c: Elimination) -> Solved
     ensures { λ s. ⌜ s ≡ decidedBy v c ⌝ }
 {
     Solved {
@@ -43,7 +43,7 @@ pub fn without_model(
     proof: &mut [u8],
     model: &mut [u8],
     v: Verdict,
-    c: Course,
+    c: Elimination,
     limits: Limits,
 ) -> Solved
     requires { ⌜ c .steps ≤ limits .steps ⌝ }
@@ -64,7 +64,7 @@ pub fn saturated(
     r: u8,
     proof: &mut [u8],
     model: &mut [u8],
-    c: Course,
+    c: Elimination,
     limits: Limits,
 ) -> Solved
     requires { ⌜ b ≤ 16 ⌝ }

@@ -2,22 +2,22 @@
 use crate::conclude::refuse;
 use crate::conclude::saturated;
 use crate::conclude::without_model;
-use elimination::End;
-use elimination::eliminate;
+use eliminating::End;
+use eliminating::eliminate;
 use types::answers::Refusal;
 use types::answers::Solved;
 use types::answers::Verdict;
 use types::limits::Limits;
 ghost use Prim.Native.Nat.{_*_, _≤_};
 ghost use lib.ListN.{length};
-ghost use Rattle.rules.specs.Elimination.{limited, course};
+ghost use Rattle.rules.specs.Elimination.{limited, elimination};
 ghost use Rattle.rules.specs.Calls.{concluded};
 ghost use Rattle.reading.specs.Parsed.{problemAt};
 ghost use Rattle.reading.specs.Readable.{Readable};
 ghost use Rattle.solving.specs.Leaves.{Leaves};
 
 pub fn decide(
-    question: &[u8],
+    input: &[u8],
     b: u8,
     r: u8,
     n: u64,
@@ -25,13 +25,13 @@ pub fn decide(
     model: &mut [u8],
     limits: Limits,
 ) -> Solved
-    requires { ⌜ Readable (now question) b r n ⌝ }
+    requires { ⌜ Readable (now input) b r n ⌝ }
     requires { ⌜ 64 * limits .steps ≤ length (now proof) ⌝ }
     requires { ⌜ 64 ≤ length (now model) ⌝ }
     requires { ⌜ limits .steps ≤ 65536 ⌝ }
-    ensures { λ s. ⌜ Leaves limits (concluded (problemAt (now (question .entry)) b r n) (course (limited limits) (problemAt (now (question .entry)) b r n))) (now (proof .entry)) (now (model .entry)) (now (proof .exit)) (now (model .exit)) s ⌝ }
+    ensures { λ s. ⌜ Leaves limits (concluded (problemAt (now (input .entry)) b r n) (elimination (limited limits) (problemAt (now (input .entry)) b r n))) (now (proof .entry)) (now (model .entry)) (now (proof .exit)) (now (model .exit)) s ⌝ }
 {
-    let c = eliminate(question, b, r, n, proof, limits);
+    let c = eliminate(input, b, r, n, proof, limits);
     let end = c.end;
     match end {
         End::Overflow => refuse(proof, Refusal::Overflow, c, limits),

@@ -22,9 +22,9 @@ fn faulted(f: Refusal, place: usize) -> Solved
 }
 
 // With every limit of lines up to 65,536.
-pub fn solve_within(question: &[u8], proof: &mut [u8], model: &mut [u8], limits: Limits) -> Solved
+pub fn solve_within(input: &[u8], proof: &mut [u8], model: &mut [u8], limits: Limits) -> Solved
     requires { ⌜ limits .steps ≤ 65536 ⌝ }
-    ensures { λ s. ⌜ Leaves limits (lent limits (now (question .entry)) (now (proof .entry)) (now (model .entry))) (now (proof .entry)) (now (model .entry)) (now (proof .exit)) (now (model .exit)) s ⌝ }
+    ensures { λ s. ⌜ Leaves limits (lent limits (now (input .entry)) (now (proof .entry)) (now (model .entry))) (now (proof .entry)) (now (model .entry)) (now (proof .exit)) (now (model .exit)) s ⌝ }
 {
     if proof.len() < limits.proof_bytes() {
         return faulted(Refusal::ShortProof, 0);
@@ -32,18 +32,18 @@ pub fn solve_within(question: &[u8], proof: &mut [u8], model: &mut [u8], limits:
     if model.len() < Limits::MODEL_BYTES {
         return faulted(Refusal::ShortModel, 0);
     }
-    let s = read(question);
+    let s = read(input);
     match s {
         Scan::Fault(f, place) => faulted(f, place),
-        Scan::Sound(b, r, n) => decide(question, b, r, n, proof, model, limits),
+        Scan::Sound(b, r, n) => decide(input, b, r, n, proof, model, limits),
     }
 }
 
 // With the limits of a caller who lends the whole proof.
-pub fn solve(question: &[u8], proof: &mut [u8], model: &mut [u8]) -> Solved
-    ensures { λ s. ⌜ s ≡ solve standard (now (question .entry)) (now (proof .entry)) (now (model .entry)) .solved ⌝ }
-    ensures { λ _. ⌜ now (proof .exit) ≡ solve standard (now (question .entry)) (now (proof .entry)) (now (model .entry)) .proof ⌝ }
-    ensures { λ _. ⌜ now (model .exit) ≡ solve standard (now (question .entry)) (now (proof .entry)) (now (model .entry)) .model ⌝ }
+pub fn solve(input: &[u8], proof: &mut [u8], model: &mut [u8]) -> Solved
+    ensures { λ s. ⌜ s ≡ solve standard (now (input .entry)) (now (proof .entry)) (now (model .entry)) .solved ⌝ }
+    ensures { λ _. ⌜ now (proof .exit) ≡ solve standard (now (input .entry)) (now (proof .entry)) (now (model .entry)) .proof ⌝ }
+    ensures { λ _. ⌜ now (model .exit) ≡ solve standard (now (input .entry)) (now (proof .entry)) (now (model .entry)) .model ⌝ }
 {
-    solve_within(question, proof, model, Limits::standard())
+    solve_within(input, proof, model, Limits::standard())
 }

@@ -17,7 +17,7 @@ use Rattle.rules.specs.Lines.{Line, Variable, positively, negatively}
 use Rattle.rules.specs.Resolve.{resolve}
 use Rattle.rules.specs.Steps.{Step, encodeStep}
 use Rattle.rules.specs.Elimination.{overflows}
-use Rattle.rules.specs.Checker.{pairable, derived, variableNamed, resultNamed, lineAmong, statedLine}
+use Rattle.rules.specs.Checker.{pairable, derived, variableNamed, resolventNamed, lineAmong, statedLine}
 use Rattle.lists.specs.Dropped.{DroppedOr, dropped-then}
 
 -- the resolvents of two such lines that the check admits are such lines
@@ -63,9 +63,9 @@ module _ (P : Line → Type 0) where
     any-variable none = tt
     any-variable (some v) = tt
 
-    result-so : (earlier : List Line) (bytes : List ℕ) → All P earlier → DroppedOr StepSo (resultNamed earlier bytes)
-    unfolding resultNamed
-    result-so earlier bytes h =
+    resolvent-so : (earlier : List Line) (bytes : List ℕ) → All P earlier → DroppedOr StepSo (resolventNamed earlier bytes)
+    unfolding resolventNamed
+    resolvent-so earlier bytes h =
         let first = getElem? earlier (fieldAt 2 2 bytes) in
         let second = getElem? earlier (fieldAt 4 2 bytes) in
         let named = variableNamed (fieldAt 0 1 bytes) (fieldAt 1 1 bytes) in
@@ -77,5 +77,5 @@ module _ (P : Line → Type 0) where
     stated-so parts earlier bytes h k = by (lineAmong parts bytes) refl (among parts bytes h)
       where
         by : (o : Option Line) → lineAmong parts bytes ≡ o → DroppedOr P o → DroppedOr P (statedLine parts earlier bytes)
-        by none e r = rw (e, statedLine) (dropped-then StepSo P _ (resultNamed earlier bytes) (result-so earlier bytes k) (λ s p. among (s ∷ []) bytes (p, tt)))
+        by none e r = rw (e, statedLine) (dropped-then StepSo P _ (resolventNamed earlier bytes) (resolvent-so earlier bytes k) (λ s p. among (s ∷ []) bytes (p, tt)))
         by (some l) e r = rw (e, statedLine) r

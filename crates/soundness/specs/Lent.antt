@@ -9,7 +9,7 @@ use Rattle.types.specs.declared.answers.Refusal.the-variants as refusal
 use Rattle.types.specs.declared.limits.Limits.{Limits}
 use Rattle.types.specs.Limits as limit
 use Rattle.rules.specs.Problem.{Problem}
-use Rattle.rules.specs.Elimination.{limited, course}
+use Rattle.rules.specs.Elimination.{limited, elimination}
 use Rattle.rules.specs.Calls.{faulted, faulty, sound, read, concluded, outcome, lent}
 
 module _ (limits : Limits) (input proof model : List ℕ) where
@@ -31,6 +31,6 @@ module _ (limits : Limits) (input proof model : List ℕ) where
       unfolding outcome
       lent-fault f place e = lent-full ∙ rw (e, outcome)
 
-      pub lent-sound : (p : Problem) → read input ≡ sound p → lent limits input proof model ≡ concluded p (course (limited limits) p)
+      pub lent-sound : (p : Problem) → read input ≡ sound p → lent limits input proof model ≡ concluded p (elimination (limited limits) p)
       unfolding outcome
       lent-sound p e = lent-full ∙ rw (e, outcome)

@@ -2,7 +2,7 @@ pub mod WellFormed
 pub mod NormalClause
 pub mod NormalForm
 pub mod Choosing
-pub mod Pieces
+pub mod Parts
 pub mod PartsGive
 pub mod PartsChosen
 pub mod PartsForm

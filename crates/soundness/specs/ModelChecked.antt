@@ -49,9 +49,9 @@ model-denominator b r =
     repeat-then Whole Small _ _ _ (amount-yields refusal.BadModel) (λ zs u e bytes place. leb→le 1 d (and-yes (leb 1 d) (leb d limit.amount) h .0))))))
 
 -- ---- the call
-pub record CheckedModel (question bytes : List ℕ) : Type 0 where
+pub record CheckedModel (input bytes : List ℕ) : Type 0 where
   pub problem : Problem
-  pub reads : read question ≡ sound problem
+  pub reads : read input ≡ sound problem
   pub size : limit.modelBytes ≤ length bytes
   pub assignment : Assignment
   pub rest : List ℕ
@@ -64,26 +64,26 @@ read-model : (p : Problem) (bytes : List ℕ) (χ : Assignment) (rest : List ℕ
 read-model p bytes χ rest place e a =
     record { denominator = subst (Gives (λ χ. 1 ≤ χ .denominator)) e (model-denominator (p .booleans) (p .rationals) bytes 0); clauses = accepted-clauses χ 0 (p .clauses) .0 a }
 
-pub model-checked-satisfies : (question bytes : List ℕ) → modelChecked question bytes ≡ checked.Accepted → CheckedModel question bytes
+pub model-checked-satisfies : (input bytes : List ℕ) → modelChecked input bytes ≡ checked.Accepted → CheckedModel input bytes
 unfolding modelChecked
-model-checked-satisfies question bytes a = by (read question) refl
+model-checked-satisfies input bytes a = by (read input) refl
   where
     short : Bool
     short = ltb (length bytes) limit.modelBytes
 
-    stated : (p : Problem) → read question ≡ sound p → T (not short) → (m : Read Assignment) → model (p .booleans) (p .rationals) bytes 0 ≡ m → CheckedModel question bytes
+    stated : (p : Problem) → read input ≡ sound p → T (not short) → (m : Read Assignment) → model (p .booleans) (p .rationals) bytes 0 ≡ m → CheckedModel input bytes
     stated p e t (fault f place) d = absurd (refused-not f place (rw (e, modelChecked, is-false short t, d) at a))
     stated p e t (got χ rest place) d =
         record { problem = p; reads = e; size = nltb→le (length bytes) limit.modelBytes t; assignment = χ; rest = rest; place = place; states = d; satisfies = read-model p bytes χ rest place d (rw (e, modelChecked, is-false short t, d) at a) }
 
-    by : (r : Reading) → read question ≡ r → CheckedModel question bytes
+    by : (r : Reading) → read input ≡ r → CheckedModel input bytes
     by (faulty f place) e = absurd (refused-not f place (rw (e, modelChecked) at a))
     by (sound p) e =
         ⊎-elim (λ t. absurd (refused-not refusal.ShortModel 0 (rw (e, modelChecked, is-true short t) at a))) (λ t. stated p e t (model (p .booleans) (p .rationals) bytes 0) refl) (split short)
 
 -- and a full-size model that states a satisfying assignment is accepted
-pub satisfying-model-checked : (question bytes : List ℕ) (p : Problem) (χ : Assignment) (rest : List ℕ) (place : ℕ) → read question ≡ sound p → limit.modelBytes ≤ length bytes
-    → model (p .booleans) (p .rationals) bytes 0 ≡ got χ rest place → Satisfies χ p → modelChecked question bytes ≡ checked.Accepted
+pub satisfying-model-checked : (input bytes : List ℕ) (p : Problem) (χ : Assignment) (rest : List ℕ) (place : ℕ) → read input ≡ sound p → limit.modelBytes ≤ length bytes
+    → model (p .booleans) (p .rationals) bytes 0 ≡ got χ rest place → Satisfies χ p → modelChecked input bytes ≡ checked.Accepted
 unfolding modelChecked
-satisfying-model-checked question bytes p χ rest place e z d s =
+satisfying-model-checked input bytes p χ rest place e z d s =
     rw (e, modelChecked, is-false (ltb (length bytes) limit.modelBytes) (no-ltb {a = length bytes} {b = limit.modelBytes} z), d) (accepted-clauses χ 0 (p .clauses) .1 (s .clauses))

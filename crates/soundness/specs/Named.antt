@@ -17,67 +17,67 @@ use Rattle.soundness.specs.WellFormed.{WellFormedClause, splitsIn, WellF
 use Rattle.soundness.specs.SplitClause.{splits-apart}
 
 -- a piece of these, the first of which is named `from`
-pub record PieceOf (c from : ℕ) (ls : List Line) (s : Step) : Type 0 where
-  pub piece : ℕ
-  pub origin : s .origin ≡ loaded c (from + piece)
-  pub at : getElem? ls piece ≡ some (s .line)
+pub record PartOf (c from : ℕ) (ls : List Line) (s : Step) : Type 0 where
+  pub part : ℕ
+  pub origin : s .origin ≡ loaded c (from + part)
+  pub at : getElem? ls part ≡ some (s .line)
 
-parts-named : (c from : ℕ) (ls : List Line) → All (PieceOf c from ls) (partSteps c from ls)
+parts-named : (c from : ℕ) (ls : List Line) → All (PartOf c from ls) (partSteps c from ls)
 unfolding partSteps
 parts-named c from [] = tt
 parts-named c from (l ∷ ls) = (
-  record { piece = 0; origin = ap (loaded c) (let z : from ≡ from + 0 = omega arith in z); at = refl },
-  all-map (PieceOf c (suc from) ls) (PieceOf c from (l ∷ ls)) (partSteps c (suc from) ls)
-      (λ s h. record { piece = suc (h .piece); origin = h .origin ∙ ap (loaded c) (let z : suc from + h .piece ≡ from + suc (h .piece) = omega arith in z); at = h .at }) (parts-named c (suc from) ls),
+  record { part = 0; origin = ap (loaded c) (let z : from ≡ from + 0 = omega arith in z); at = refl },
+  all-map (PartOf c (suc from) ls) (PartOf c from (l ∷ ls)) (partSteps c (suc from) ls)
+      (λ s h. record { part = suc (h .part); origin = h .origin ∙ ap (loaded c) (let z : suc from + h .part ≡ from + suc (h .part) = omega arith in z); at = h .at }) (parts-named c (suc from) ls),
 )
 
 -- a piece of one of these clauses, the first of which is clause c and has links from k on
-pub record PieceAmong (c k : ℕ) (clauses : List Clause) (s : Step) : Type 0 where
+pub record PartAmong (c k : ℕ) (clauses : List Clause) (s : Step) : Type 0 where
   pub number : ℕ
   pub clause : Clause
   pub at : getElem? clauses number ≡ some clause
-  pub piece : PieceOf (c + number) 0 (partsOf (k + splitsIn (take number clauses)) clause) s
+  pub part : PartOf (c + number) 0 (partsOf (k + splitsIn (take number clauses)) clause) s
 
-loadable-named : (c k : ℕ) (clauses : List Clause) → All (PieceAmong c k clauses) (loadable c k clauses)
+loadable-named : (c k : ℕ) (clauses : List Clause) → All (PartAmong c k clauses) (loadable c k clauses)
 unfolding loadable
 loadable-named c k [] = tt
 loadable-named c k (x ∷ xs) =
-    all-append (PieceAmong c k (x ∷ xs)) (partSteps c 0 (partsOf k x)) (loadable (suc c) (k + splitsOf x) xs)
-    (all-map (PieceOf c 0 (partsOf k x)) (PieceAmong c k (x ∷ xs)) (partSteps c 0 (partsOf k x)) first (parts-named c 0 (partsOf k x)))
-    (all-map (PieceAmong (suc c) (k + splitsOf x) xs) (PieceAmong c k (x ∷ xs)) (loadable (suc c) (k + splitsOf x) xs) later (loadable-named (suc c) (k + splitsOf x) xs))
+    all-append (PartAmong c k (x ∷ xs)) (partSteps c 0 (partsOf k x)) (loadable (suc c) (k + splitsOf x) xs)
+    (all-map (PartOf c 0 (partsOf k x)) (PartAmong c k (x ∷ xs)) (partSteps c 0 (partsOf k x)) first (parts-named c 0 (partsOf k x)))
+    (all-map (PartAmong (suc c) (k + splitsOf x) xs) (PartAmong c k (x ∷ xs)) (loadable (suc c) (k + splitsOf x) xs) later (loadable-named (suc c) (k + splitsOf x) xs))
   where
-    first : (s : Step) → PieceOf c 0 (partsOf k x) s → PieceAmong c k (x ∷ xs) s
+    first : (s : Step) → PartOf c 0 (partsOf k x) s → PartAmong c k (x ∷ xs) s
     first s h =
         let e : c + 0 ≡ c = omega arith in
         let f : k + 0 ≡ k = omega arith in
-        record { number = 0; clause = x; at = refl; piece = rw (e, f) h }
+        record { number = 0; clause = x; at = refl; part = rw (e, f) h }
 
-    later : (s : Step) → PieceAmong (suc c) (k + splitsOf x) xs s → PieceAmong c k (x ∷ xs) s
+    later : (s : Step) → PartAmong (suc c) (k + splitsOf x) xs s → PartAmong c k (x ∷ xs) s
     later s h =
         let n = h .number in
         let e : c + suc n ≡ suc c + n = omega arith in
         let f : k + (splitsOf x + splitsIn (take n xs)) ≡ k + splitsOf x + splitsIn (take n xs) = omega arith in
-        record { number = suc n; clause = h .clause; at = h .at; piece = rw (e, f) (h .piece) }
+        record { number = suc n; clause = h .clause; at = h .at; part = rw (e, f) (h .part) }
 
-pub loadable-pieces : (p : Problem) → All (PieceAmong 0 (p .booleans) (p .clauses)) (loadableOf p)
+pub loadable-parts : (p : Problem) → All (PartAmong 0 (p .booleans) (p .clauses)) (loadableOf p)
 unfolding loadableOf
-loadable-pieces p = loadable-named 0 (p .booleans) (p .clauses)
+loadable-parts p = loadable-named 0 (p .booleans) (p .clauses)
 
 -- ---- so the links of different clauses never meet
 -- a later clause's links begin after this one's
-links-before : (clauses : List Clause) (i j : ℕ) (x : Clause) → getElem? clauses i ≡ some x → i < j → splitsIn (take i clauses) + splitsOf x ≤ splitsIn (take j clauses)
-links-before [] i j x e h = absurd (let z : _≡_ {A = ℕ} 0 1 = cc in omega arith)
-links-before (c ∷ cs) zero zero x e h = absurd (omega arith)
-links-before (c ∷ cs) zero (suc j) x e h = let q : c ≡ x = cc in rw q (omega arith)
-links-before (c ∷ cs) (suc i) zero x e h = absurd (omega arith)
-links-before (c ∷ cs) (suc i) (suc j) x e h = let r = links-before cs i j x e (omega arith) in omega arith
+split-variables-before : (clauses : List Clause) (i j : ℕ) (x : Clause) → getElem? clauses i ≡ some x → i < j → splitsIn (take i clauses) + splitsOf x ≤ splitsIn (take j clauses)
+split-variables-before [] i j x e h = absurd (let z : _≡_ {A = ℕ} 0 1 = cc in omega arith)
+split-variables-before (c ∷ cs) zero zero x e h = absurd (omega arith)
+split-variables-before (c ∷ cs) zero (suc j) x e h = let q : c ≡ x = cc in rw q (omega arith)
+split-variables-before (c ∷ cs) (suc i) zero x e h = absurd (omega arith)
+split-variables-before (c ∷ cs) (suc i) (suc j) x e h = let r = split-variables-before cs i j x e (omega arith) in omega arith
 
 -- what occurs in pieces of two clauses is a variable of the problem
-pub links-apart : (p : Problem) → WellFormed p → (s t : Step) (h : PieceAmong 0 (p .booleans) (p .clauses) s) (k : PieceAmong 0 (p .booleans) (p .clauses) t) → h .number < k .number
+pub split-variables-apart : (p : Problem) → WellFormed p → (s t : Step) (h : PartAmong 0 (p .booleans) (p .clauses) s) (k : PartAmong 0 (p .booleans) (p .clauses) t) → h .number < k .number
     → (i : ℕ) → T (contains (boolean i) (s .line)) → T (contains (boolean i) (t .line)) → i < p .booleans
-links-apart p w s t h k less i a b =
-    let z = links-before (p .clauses) (h .number) (k .number) (h .clause) (h .at) less in
+split-variables-apart p w s t h k less i a b =
+    let z = split-variables-before (p .clauses) (h .number) (k .number) (h .clause) (h .at) less in
     let occurs : Line → Type 0 = λ l. T (contains (boolean i) l) in
     let before : ℕ → ℕ = λ n. p .booleans + splitsIn (take n (p .clauses)) in
     splits-apart (p .booleans) (p .rationals) (h .clause) (k .clause) (element-all (WellFormedClause (p .booleans) (p .rationals)) (p .clauses) (h .number) (h .clause) (h .at) (w .clauses)) (element-all (WellFormedClause (p .booleans) (p .rationals)) (p .clauses) (k .number) (k .clause) (k .at) (w .clauses)) (before (h .number)) (before (k .number)) (omega arith) (omega arith) i
-    (element-any occurs (partsOf (before (h .number)) (h .clause)) (h .piece .piece) (s .line) (h .piece .at) a) (element-any occurs (partsOf (before (k .number)) (k .clause)) (k .piece .piece) (t .line) (k .piece .at) b)
+    (element-any occurs (partsOf (before (h .number)) (h .clause)) (h .part .part) (s .line) (h .part .at) a) (element-any occurs (partsOf (before (k .number)) (k .clause)) (k .part .part) (t .line) (k .part .at) b)

@@ -34,8 +34,8 @@ Below k = Within (λ i. i < k)
 pub below-none : (k : ℕ) → Below k noBooleans
 below-none k = within-none (λ i. i < k)
 
-pub below-link : (k : ℕ) → Below (suc k) (including k noBooleans)
-below-link k = within-including (λ i. i < suc k) k noBooleans (omega arith) (below-none (suc k))
+pub below-split : (k : ℕ) → Below (suc k) (including k noBooleans)
+below-split k = within-including (λ i. i < suc k) k noBooleans (omega arith) (below-none (suc k))
 
 -- ---- literals
 one-member : (P : ℕ → Type 0) (i : ℕ) (a : Bool) (s : Booleans) → P i → Within P s → Within P (elim a [ true ↦ including i s | false ↦ s ])

@@ -23,8 +23,8 @@ use Rattle.resolution.specs.Members.{length-none, yes-including}
 use Rattle.resolution.specs.Choosing.{choosing, line-choosing}
 use Rattle.soundness.specs.Choosing.{constraints-choosing}
 use Rattle.soundness.specs.NormalClause.{normalHolds}
-use Rattle.soundness.specs.NormalForm.{NormalForm, Below, below-none, below-link}
-use Rattle.soundness.specs.Pieces.{piece, whole, normal-cases, by-literals, by-constraints, piece-cases, piece-literal, piece-constraint}
+use Rattle.soundness.specs.NormalForm.{NormalForm, Below, below-none, below-split}
+use Rattle.soundness.specs.Parts.{part, whole, normal-cases, by-literals, by-constraints, part-cases, part-literal, part-constraint}
 
 -- values for the Boolean variables from k to m - 1, under which the claim is true
 pub record Chosen (χ : Assignment) (k m : ℕ) (Claim : Assignment → Type 0) : Type 0 where
@@ -45,7 +45,7 @@ others k s f z h = rw (yes-including k s f z) (or-r (f k) (someYes s f) h)
 
 module _ (χ : Assignment) (k : ℕ) (p n : Booleans) (c : Constraint) where
   abbrev without : Bool
-  without = lineHolds χ (piece p n (some c))
+  without = lineHolds χ (part p n (some c))
 
   abbrev next : Bool → Assignment
   next b = choosing (put k (not b) (χ .booleans)) χ
@@ -63,21 +63,21 @@ module _ (χ : Assignment) (k : ℕ) (p n : Booleans) (c : Constraint) where
       let fails : T (not without) = of-false without e in
       by-constraints (next false) noBooleans (including k noBooleans) ds
       (rw (← constraints-choosing χ (put k true (χ .booleans)) ds)
-      (⊎-elim (λ t. clash without (piece-literal χ p n (some c) t) fails)
-      (λ t. ⊎-elim (λ y. clash without (piece-constraint χ p n (some c) y) fails) (λ y. y) (or-yes C D t)) (normal-cases χ p n (c ∷ ds) h)))
+      (⊎-elim (λ t. clash without (part-literal χ p n (some c) t) fails)
+      (λ t. ⊎-elim (λ y. clash without (part-constraint χ p n (some c) y) fails) (λ y. y) (or-yes C D t)) (normal-cases χ p n (c ∷ ds) h)))
 
   -- the part with the variable
   this-holds : (g : ℕ → Bool) (b : Bool) → without ≡ b → not b ≡ g k → ((i : ℕ) → i < k → χ .booleans i ≡ g i) → k < length p → Below k p → Below k n
-      → T (lineHolds (choosing g χ) (piece (including k p) n (some c)))
+      → T (lineHolds (choosing g χ) (part (including k p) n (some c)))
   this-holds g true e v a z wp wn =
       let ψ = choosing g χ in
       let P = someYes p g in
       let N = someYes n (λ i. not (g i)) in
-      let h = subst T (line-choosing χ g (piece p n (some c)) (λ i m. a i (wp i m)) (λ i m. a i (wn i m))) (of-true without e) in
-      ⊎-elim (λ t. piece-literal ψ (including k p) n (some c) (or-map P N (someYes (including k p) g) N (others k p g z) (λ y. y) t))
-      (piece-constraint ψ (including k p) n (some c)) (piece-cases ψ p n (some c) h)
+      let h = subst T (line-choosing χ g (part p n (some c)) (λ i m. a i (wp i m)) (λ i m. a i (wn i m))) (of-true without e) in
+      ⊎-elim (λ t. part-literal ψ (including k p) n (some c) (or-map P N (someYes (including k p) g) N (others k p g z) (λ y. y) t))
+      (part-constraint ψ (including k p) n (some c)) (part-cases ψ p n (some c) h)
   this-holds g false e v a z wp wn =
-      piece-literal (choosing g χ) (including k p) n (some c) (or-l (someYes (including k p) g) (someYes n (λ i. not (g i))) (included k p g z (subst T v tt)))
+      part-literal (choosing g χ) (including k p) n (some c) (or-l (someYes (including k p) g) (someYes n (λ i. not (g i))) (included k p g z (subst T v tt)))
 
 chain-chosen : (χ : Assignment) (k : ℕ) (p n : Booleans) (c : Constraint) (cs : List Constraint) → length p ≡ 32 → k + length cs ≤ 32 → Below k p → Below k n
     → T (normalHolds χ (whole p n (c ∷ cs)))
@@ -85,11 +85,11 @@ chain-chosen : (χ : Assignment) (k : ℕ) (p n : Booleans) (c : Constraint) (cs
 unfolding chain any theConstraintHolds
 chain-chosen χ k p n c [] e z wp wn h =
     chosen-same χ k (k + 0) (λ ψ. All (λ l. T (lineHolds ψ l)) (chain k p n c []))
-    (⊎-elim (piece-literal χ p n (some c)) (λ t. piece-constraint χ p n (some c) (⊎-elim (λ y. y) (λ y. absurd y) (or-yes (constraintHolds χ c) false t))) (normal-cases χ p n (c ∷ []) h), tt)
+    (⊎-elim (part-literal χ p n (some c)) (λ t. part-constraint χ p n (some c) (⊎-elim (λ y. y) (λ y. absurd y) (or-yes (constraintHolds χ c) false t))) (normal-cases χ p n (c ∷ []) h), tt)
 chain-chosen χ k p n c (d ∷ ds) e z wp wn h =
-    let b = lineHolds χ (piece p n (some c)) in
+    let b = lineHolds χ (part p n (some c)) in
     let r =
-    chain-chosen (next χ k p n c b) (suc k) noBooleans (including k noBooleans) d ds length-none (omega arith) (below-none (suc k)) (below-link k)
+    chain-chosen (next χ k p n c b) (suc k) noBooleans (including k noBooleans) d ds length-none (omega arith) (below-none (suc k)) (below-split k)
     (next-holds χ k p n c (d ∷ ds) b refl (omega arith) h) in
     let a : (i : ℕ) → i < k → χ .booleans i ≡ r .values i = λ i l. sym (put-other k (not b) (χ .booleans) i (λ q. omega arith)) ∙ r .before i (omega arith) in
     record {
@@ -103,7 +103,7 @@ parts-of : (χ : Assignment) (k : ℕ) (p n : Booleans) (cs : List Constraint) �
     → Chosen χ k (k + (length cs - 1)) (λ ψ. All (λ l. T (lineHolds ψ l)) (parts k (whole p n cs)))
 unfolding parts any
 parts-of χ k p n [] e z wp wn h =
-    chosen-same χ k (k + (0 - 1)) (λ ψ. All (λ l. T (lineHolds ψ l)) (parts k (whole p n []))) (⊎-elim (piece-literal χ p n none) (λ t. absurd t) (normal-cases χ p n [] h), tt)
+    chosen-same χ k (k + (0 - 1)) (λ ψ. All (λ l. T (lineHolds ψ l)) (parts k (whole p n []))) (⊎-elim (part-literal χ p n none) (λ t. absurd t) (normal-cases χ p n [] h), tt)
 parts-of χ k p n (c ∷ cs) e z wp wn h =
     let r = chain-chosen χ k p n c cs e (omega arith) wp wn h in
     record { values = r .values; before = r .before; after = λ i l. r .after i (omega arith); holds = r .holds }

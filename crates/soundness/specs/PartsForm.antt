@@ -19,8 +19,8 @@ use Rattle.resolution.specs.Members.{Within, Common, none-has, including-has, l
 use Rattle.resolution.specs.Holds.{Consistent}
 use Rattle.resolution.specs.Formed.{Formed}
 use Rattle.resolution.specs.Proper.{Proper}
-use Rattle.soundness.specs.NormalForm.{Kept, Below, below-link, within-none, within-including, NormalForm}
-use Rattle.soundness.specs.Pieces.{whole}
+use Rattle.soundness.specs.NormalForm.{Kept, Below, below-split, within-none, within-including, NormalForm}
+use Rattle.soundness.specs.Parts.{whole}
 
 -- a line whose Boolean variables are so
 pub record LineForm (P : ℕ → Type 0) (l : Line) : Type 0 where
@@ -56,7 +56,7 @@ chain-form P k p n c (d ∷ ds) lp ln a w wp wn q e =
         positive = within-including P k p y wp;
         negative = wn;
       },
-      chain-form P (suc k) noBooleans (including k noBooleans) d ds length-none (length-including k noBooleans ∙ length-none) (none-apart (including k noBooleans)) (below-link k)
+      chain-form P (suc k) noBooleans (including k noBooleans) d ds length-none (length-including k noBooleans ∙ length-none) (none-apart (including k noBooleans)) (below-split k)
           (within-none P) (within-including P k noBooleans y (within-none P)) (λ i h l. q i (omega arith) (omega arith)) (e .1),
     )
 

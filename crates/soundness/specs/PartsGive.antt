@@ -18,7 +18,7 @@ use Rattle.rules.specs.Split.{chain, parts}
 use Rattle.resolution.specs.Members.{none-yes, including-has, yes-member, member-yes}
 use Rattle.resolution.specs.Holds.{no-constraint}
 use Rattle.soundness.specs.NormalClause.{normalHolds}
-use Rattle.soundness.specs.Pieces.{piece, whole, literal, normal-cases, by-literals, by-constraints, piece-cases}
+use Rattle.soundness.specs.Parts.{part, whole, literal, normal-cases, by-literals, by-constraints, part-cases}
 
 including-yes : (i : ℕ) (s : Booleans) (f : ℕ → Bool) → T (someYes (including i s) f) → T (f i) ⊎ T (someYes s f)
 including-yes i s f h =
@@ -35,7 +35,7 @@ module _ (χ : Assignment) (k : ℕ) where
       ⊎-elim (λ e. subst T (none-yes (χ .booleans)) e) (λ e. ⊎-elim (λ z. clash (χ .booleans k) y z) (λ z. subst T (none-yes no) z) (including-yes k noBooleans no e))
       (or-yes (someYes noBooleans (χ .booleans)) (someYes (including k noBooleans) no) h)
 
-  one-part : (p n : Booleans) (c : Constraint) (cs : List Constraint) → T (lineHolds χ (piece (including k p) n (some c)))
+  one-part : (p n : Booleans) (c : Constraint) (cs : List Constraint) → T (lineHolds χ (part (including k p) n (some c)))
       → T (normalHolds χ (whole noBooleans (including k noBooleans) cs)) → T (normalHolds χ (whole p n (c ∷ cs)))
   unfolding any theConstraintHolds
   one-part p n c cs h r =
@@ -47,16 +47,16 @@ module _ (χ : Assignment) (k : ℕ) where
       ⊎-elim
       (λ t. ⊎-elim (λ y. ⊎-elim (λ z. by-constraints χ p n (c ∷ cs) (or-r C D (left z))) (λ z. by-literals χ p n (c ∷ cs) (or-l P N z)) (including-yes k p (χ .booleans) y))
       (λ y. by-literals χ p n (c ∷ cs) (or-r P N y)) (or-yes (someYes (including k p) (χ .booleans)) N t))
-      (λ t. by-constraints χ p n (c ∷ cs) (or-l C D t)) (piece-cases χ (including k p) n (some c) h)
+      (λ t. by-constraints χ p n (c ∷ cs) (or-l C D t)) (part-cases χ (including k p) n (some c) h)
 
 chain-gives : (χ : Assignment) (k : ℕ) (p n : Booleans) (c : Constraint) (cs : List Constraint) → All (λ l. T (lineHolds χ l)) (chain k p n c cs) → T (normalHolds χ (whole p n (c ∷ cs)))
 unfolding chain any theConstraintHolds
-chain-gives χ k p n c [] h = ⊎-elim (by-literals χ p n (c ∷ [])) (λ t. by-constraints χ p n (c ∷ []) (or-l (constraintHolds χ c) false t)) (piece-cases χ p n (some c) (h .0))
+chain-gives χ k p n c [] h = ⊎-elim (by-literals χ p n (c ∷ [])) (λ t. by-constraints χ p n (c ∷ []) (or-l (constraintHolds χ c) false t)) (part-cases χ p n (some c) (h .0))
 chain-gives χ k p n c (d ∷ ds) h = one-part χ k p n c (d ∷ ds) (h .0) (chain-gives χ (suc k) noBooleans (including k noBooleans) d ds (h .1))
 
 parts-of : (χ : Assignment) (k : ℕ) (p n : Booleans) (cs : List Constraint) → All (λ l. T (lineHolds χ l)) (parts k (whole p n cs)) → T (normalHolds χ (whole p n cs))
 unfolding parts
-parts-of χ k p n [] h = ⊎-elim (by-literals χ p n []) (λ t. absurd (no-constraint χ t)) (piece-cases χ p n none (h .0))
+parts-of χ k p n [] h = ⊎-elim (by-literals χ p n []) (λ t. absurd (no-constraint χ t)) (part-cases χ p n none (h .0))
 parts-of χ k p n (c ∷ cs) h = chain-gives χ k p n c cs h
 
 pub parts-give : (χ : Assignment) (k : ℕ) (c : Normal) → All (λ l. T (lineHolds χ l)) (parts k c) → T (normalHolds χ c)

@@ -19,22 +19,22 @@ use Rattle.soundness.specs.Reading.{read-well-formed}
 use Rattle.soundness.specs.Refutation.{accepted-proof-refutes}
 
 -- the problem that was read, and that its check accepts the proof
-pub record CheckedProof (question proof : List ℕ) : Type 0 where
+pub record CheckedProof (input proof : List ℕ) : Type 0 where
   pub problem : Problem
-  pub reads : read question ≡ sound problem
+  pub reads : read input ≡ sound problem
   pub accepted : checkProof problem proof ≡ checked.Accepted
 
 pub refused-not : (f : Refusal) (n : ℕ) → checked.Refused f n ≡ checked.Accepted → ⊥
 refused-not f n e = let z : _≡_ {A = ℕ} 0 1 = cc in omega arith
 
-pub checked-proof : (limits : Limits) (question proof : List ℕ) → proofChecked limits question proof ≡ checked.Accepted → CheckedProof question proof
+pub checked-proof : (limits : Limits) (input proof : List ℕ) → proofChecked limits input proof ≡ checked.Accepted → CheckedProof input proof
 unfolding proofChecked
-checked-proof limits question proof a = by (read question) refl
+checked-proof limits input proof a = by (read input) refl
   where
     whole : Bool
     whole = wholeSteps limits (length proof)
 
-    by : (r : Reading) → read question ≡ r → CheckedProof question proof
+    by : (r : Reading) → read input ≡ r → CheckedProof input proof
     by (faulty f place) e = absurd (refused-not f place (rw (e, proofChecked) at a))
     by (sound p) e =
         ⊎-elim (λ t. record { problem = p; reads = e; accepted = rw (e, proofChecked, is-true whole t) at a })
@@ -43,8 +43,8 @@ checked-proof limits question proof a = by (read question) refl
 pub same-problem : (r : Reading) (p q : Problem) → r ≡ sound p → r ≡ sound q → p ≡ q
 same-problem r p q e f = cc
 
-pub proof-checked-refutes : (limits : Limits) (question proof : List ℕ) → proofChecked limits question proof ≡ checked.Accepted → (p : Problem) → read question ≡ sound p → (χ : Assignment)
+pub proof-checked-refutes : (limits : Limits) (input proof : List ℕ) → proofChecked limits input proof ≡ checked.Accepted → (p : Problem) → read input ≡ sound p → (χ : Assignment)
     → Satisfies χ p → ⊥
-proof-checked-refutes limits question proof a p e =
-    let c = checked-proof limits question proof a in
-    accepted-proof-refutes p (read-well-formed question p e) proof (rw (same-problem (read question) p (c .problem) e (c .reads)) (c .accepted))
+proof-checked-refutes limits input proof a p e =
+    let c = checked-proof limits input proof a in
+    accepted-proof-refutes p (read-well-formed input p e) proof (rw (same-problem (read input) p (c .problem) e (c .reads)) (c .accepted))

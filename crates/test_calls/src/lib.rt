@@ -16,10 +16,10 @@ pub struct ReadTold {
 }
 
 #[no_mangle]
-pub extern "C" fn test_read(question: &[u8]) -> ReadTold
-    ensures { λ r. ⌜ r ≡ told (read (now (question .entry))) ⌝ }
+pub extern "C" fn test_read(input: &[u8]) -> ReadTold
+    ensures { λ r. ⌜ r ≡ told (read (now (input .entry))) ⌝ }
 {
-    let s = read(question);
+    let s = read(input);
     match s {
         Scan::Sound(b, r, n) => ReadTold {
             number: 0,

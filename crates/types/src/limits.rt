@@ -53,7 +53,7 @@ impl Limits {
         ensures bytes { λ _. do ⌜ ((← ⟦Limits::PROBLEM_BYTES⟧ .entry) ≡ problemBytes) × ((← ⟦Limits::STEP_BYTES⟧ .entry) ≡ stepBytes) × ((← ⟦Limits::MODEL_BYTES⟧ .entry) ≡ modelBytes) ⌝ }
         ensures problem { λ _. do ⌜ ((← ⟦Limits::BOOLEANS⟧ .entry) ≡ booleans) × ((← ⟦Limits::RATIONALS⟧ .entry) ≡ rationals) × ((← ⟦Limits::CLAUSES⟧ .entry) ≡ clauses) ⌝ }
         ensures clause { λ _. do ⌜ ((← ⟦Limits::LITERALS⟧ .entry) ≡ literals) × ((← ⟦Limits::CONSTRAINTS⟧ .entry) ≡ constraints) × ((← ⟦Limits::SPLITS⟧ .entry) ≡ splits) ⌝ }
-        ensures course { λ _. do ⌜ ((← ⟦Limits::AMOUNT⟧ .entry) ≡ amount) × ((← ⟦Limits::STEPS⟧ .entry) ≡ steps) ⌝ }
+        ensures elimination { λ _. do ⌜ ((← ⟦Limits::AMOUNT⟧ .entry) ≡ amount) × ((← ⟦Limits::STEPS⟧ .entry) ≡ steps) ⌝ }
     {
         true
     }

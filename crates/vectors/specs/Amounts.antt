@@ -95,11 +95,11 @@ pub overflows-no : (l : Line) → T (not (overflows l)) ↔ SmallAmounts (l .con
 unfolding overflows
 overflows-no l = (
   λ h. row-small (l .constraint) .1 (narrow-small r h),
-  λ h. not-T (any wide r) (λ t. all-any Small (λ z. T (wide z)) r (λ z a b. clash (inRange z) (range-small z .1 a) b) (row-small (l .constraint) .0 h) (any-yes wide r t)),
+  λ h. not-T (any beyond r) (λ t. all-any Small (λ z. T (beyond z)) r (λ z a b. clash (inRange z) (range-small z .1 a) b) (row-small (l .constraint) .0 h) (any-yes beyond r t)),
 )
   where
     r : List ℤ
     r = row (l .constraint)
 
-    wide : ℤ → Bool
-    wide z = not (inRange z)
+    beyond : ℤ → Bool
+    beyond z = not (inRange z)

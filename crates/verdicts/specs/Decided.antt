@@ -6,17 +6,17 @@ use Prim.Native.Nat.{ℕ}
 use Rattle.rules.specs.Problem.{Problem}
 use Rattle.rules.specs.Meaning.{Assignment, Satisfies}
 use Rattle.rules.specs.Steps.{Step}
-use Rattle.rules.specs.Elimination.{Stops, unlimited, State, running, ended, empty, overflow, outOfSteps, order, loadableOf, course}
+use Rattle.rules.specs.Elimination.{Stops, unlimited, State, running, ended, empty, overflow, outOfSteps, order, loadableOf, elimination}
 use Rattle.rules.specs.Needs.{stepsOf}
 use Rattle.soundness.specs.WellFormed.{WellFormed}
-use Rattle.course.specs.Held.{Unstopped, unlimited-unstopped}
-use Rattle.course.specs.Ends.{LastEmpty, EndsRight, course-ends}
+use Rattle.elimination.specs.Held.{Unstopped, unlimited-unstopped}
+use Rattle.elimination.specs.Ends.{LastEmpty, EndsRight, elimination-ends}
 use Rattle.verdicts.specs.Refuted.{empty-refutes}
 use Rattle.verdicts.specs.Satisfied.{chosen, walk-satisfies}
 
 -- no choice of marks and rational figures satisfies it
-abbrev pub NoChoice : Problem → Type 0
-NoChoice p = (χ : Assignment) → Satisfies χ p → ⊥
+abbrev pub NoAssignment : Problem → Type 0
+NoAssignment p = (χ : Assignment) → Satisfies χ p → ⊥
 
 abbrev pub HasEmpty : State → Type 0
 HasEmpty (running steps n) = ⊥
@@ -25,20 +25,20 @@ HasEmpty (ended overflow steps n) = ⊥
 HasEmpty (ended outOfSteps steps n) = ⊥
 
 module _ (p : Problem) (w : WellFormed p) (stops : Stops) where
-  pub running-satisfies : (steps : List Step) (n : ℕ) → course stops p ≡ running steps n → Satisfies (chosen steps) p
-  unfolding course
+  pub running-satisfies : (steps : List Step) (n : ℕ) → elimination stops p ≡ running steps n → Satisfies (chosen steps) p
+  unfolding elimination
   running-satisfies steps n e = walk-satisfies p w stops steps n e
 
-  pub empty-none : (steps : List Step) (n : ℕ) → course stops p ≡ ended empty steps n → NoChoice p
-  unfolding course stepsOf
-  empty-none steps n e = empty-refutes stops p w (subst (λ (s : State). LastEmpty (stepsOf s)) (sym e) (subst EndsRight e (course-ends stops order (loadableOf p))))
+  pub empty-none : (steps : List Step) (n : ℕ) → elimination stops p ≡ ended empty steps n → NoAssignment p
+  unfolding elimination stepsOf
+  empty-none steps n e = empty-refutes stops p w (subst (λ (s : State). LastEmpty (stepsOf s)) (sym e) (subst EndsRight e (elimination-ends stops order (loadableOf p))))
 
 -- the theorem
-pub empty-exactly : (p : Problem) → WellFormed p → HasEmpty (course unlimited p) ↔ NoChoice p
-unfolding course
-empty-exactly p w = by (course unlimited p) refl (unlimited-unstopped order (loadableOf p))
+pub empty-exactly : (p : Problem) → WellFormed p → HasEmpty (elimination unlimited p) ↔ NoAssignment p
+unfolding elimination
+empty-exactly p w = by (elimination unlimited p) refl (unlimited-unstopped order (loadableOf p))
   where
-    by : (s : State) → course unlimited p ≡ s → Unstopped s → HasEmpty s ↔ NoChoice p
+    by : (s : State) → elimination unlimited p ≡ s → Unstopped s → HasEmpty s ↔ NoAssignment p
     by (running steps n) e u = (λ h. absurd h, λ h. h (chosen steps) (running-satisfies p w unlimited steps n e))
     by (ended empty steps n) e u = (λ h. empty-none p w unlimited steps n e, λ h. tt)
     by (ended overflow steps n) e u = absurd u

@@ -8,7 +8,7 @@ use Rattle.rules.specs.Problem.{Problem}
 use Rattle.rules.specs.Meaning.{Assignment, Satisfies}
 use Rattle.rules.specs.Lines.{Line, lineHolds}
 use Rattle.rules.specs.Steps.{Step}
-use Rattle.rules.specs.Elimination.{Stops, order, loadableOf, course}
+use Rattle.rules.specs.Elimination.{Stops, order, loadableOf, elimination}
 use Rattle.rules.specs.Needs.{stepsOf}
 use Rattle.lists.specs.Tests.{clash}
 use Rattle.lists.specs.All.{All, all-any, all-both, all-append, append-all}
@@ -18,11 +18,11 @@ use Rattle.resolution.specs.Resolution.{resolve-holds}
 use Rattle.soundness.specs.WellFormed.{WellFormed}
 use Rattle.resolution.specs.Choosing.{choosing}
 use Rattle.soundness.specs.SplitProblem.{splitting-keeps}
-use Rattle.course.specs.Closed.{line-at}
-use Rattle.course.specs.Origins.{Each, Derived, Justified, course-origins}
-use Rattle.course.specs.Ends.{LastEmpty}
-use Rattle.course.specs.Sound.{Sound, resolve-sound, loadable-sound}
-use Rattle.course.specs.Pairable.{resolvable}
+use Rattle.elimination.specs.Closed.{line-at}
+use Rattle.elimination.specs.Origins.{Each, Derived, Justified, elimination-origins}
+use Rattle.elimination.specs.Ends.{LastEmpty}
+use Rattle.elimination.specs.Sound.{Sound, resolve-sound, loadable-sound}
+use Rattle.elimination.specs.Pairable.{resolvable}
 
 module _ (χ : Assignment) (d : 0 < χ .denominator) where
   -- holds, and has the form of the course's lines
@@ -49,12 +49,12 @@ module _ (χ : Assignment) (d : 0 < χ .denominator) where
       (r, each-right parts (earlier ++ (s ∷ [])) ss p (all-append (λ x. Right (x .line)) earlier (s ∷ []) h (r, tt)) (k .1))
 
 -- ---- the theorem, under any stops
-pub empty-refutes : (stops : Stops) (p : Problem) → WellFormed p → LastEmpty (stepsOf (course stops p)) → (χ : Assignment) → Satisfies χ p → ⊥
-unfolding course
+pub empty-refutes : (stops : Stops) (p : Problem) → WellFormed p → LastEmpty (stepsOf (elimination stops p)) → (χ : Assignment) → Satisfies χ p → ⊥
+unfolding elimination
 empty-refutes stops p w e χ s =
     let c = splitting-keeps p w χ (s .denominator) .0 s in
     let ψ = choosing (c .values) χ in
     let parts = all-both (λ x. T (lineHolds ψ (x .line))) (λ x. Sound (x .line)) (loadableOf p) (c .holds) (loadable-sound p w) in
-    let all = each-right ψ (s .denominator) (loadableOf p) [] (stepsOf (course stops p)) parts tt (course-origins order (loadableOf p) stops) in
+    let all = each-right ψ (s .denominator) (loadableOf p) [] (stepsOf (elimination stops p)) parts tt (elimination-origins order (loadableOf p) stops) in
     let last = append-all (λ x. Right ψ (s .denominator) (x .line)) (e .before) (e .last ∷ []) (subst (All (λ x. Right ψ (s .denominator) (x .line))) (e .is) all) .1 .0 in
     clash (lineHolds ψ (e .last .line)) (last .0) (empty-fails ψ (e .last .line) (e .blank))

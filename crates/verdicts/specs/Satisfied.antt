@@ -21,10 +21,10 @@ use Rattle.saturation.specs.Covered.{Covers}
 use Rattle.saturation.specs.Equal.{equal-covers}
 use Rattle.saturation.specs.Saturation.{LinesHold, all-pairs-map}
 use Rattle.saturation.specs.Formed.{saturation-formed}
-use Rattle.course.specs.Sound.{Sound, course-sound}
-use Rattle.course.specs.Ends.{EndsRight, course-ends}
-use Rattle.course.specs.Taken.{lines}
-use Rattle.course.specs.Saturated.{course-loaded, course-saturated}
+use Rattle.elimination.specs.Sound.{Sound, elimination-sound}
+use Rattle.elimination.specs.Ends.{EndsRight, elimination-ends}
+use Rattle.elimination.specs.Taken.{lines}
+use Rattle.elimination.specs.Saturated.{elimination-loaded, elimination-saturated}
 
 -- the choice of the walk over these lines
 abbrev pub chosen : List Step → Assignment
@@ -32,24 +32,24 @@ chosen steps = walk order (lines steps) .assignment
 
 module _ (p : Problem) (w : WellFormed p) (stops : Stops) (steps : List Step) (n : ℕ) (e : eliminate stops order (loadableOf p) ≡ running steps n) where
   -- every line of the book holds
-  book-holds : LinesHold (chosen steps) (lines steps)
+  proof-holds : LinesHold (chosen steps) (lines steps)
   unfolding stepsOf
-  book-holds =
-      let s = subst (λ (state : State). All (λ x. Sound (x .line)) (stepsOf state)) e (course-sound p w stops order) in
+  proof-holds =
+      let s = subst (λ (state : State). All (λ x. Sound (x .line)) (stepsOf state)) e (elimination-sound p w stops order) in
       saturation-formed (lines steps)
       (all-mapped Formed (λ x. x .line) steps (all-map (λ x. Sound (x .line)) (λ x. Formed (x .line)) steps (λ x h. h .formed) s))
       (all-mapped ProperLine (λ x. x .line) steps (all-map (λ x. Sound (x .line)) (λ x. ProperLine (x .line)) steps (λ x h. h .proper) s))
-      (all-mapped (λ l. T (not (isEmpty l))) (λ x. x .line) steps (subst EndsRight e (course-ends stops order (loadableOf p))))
-      (all-pairs-map _≡_ Covers equal-covers (lines steps) order (course-saturated stops order (loadableOf p) steps n e))
+      (all-mapped (λ l. T (not (isEmpty l))) (λ x. x .line) steps (subst EndsRight e (elimination-ends stops order (loadableOf p))))
+      (all-pairs-map _≡_ Covers equal-covers (lines steps) order (elimination-saturated stops order (loadableOf p) steps n e))
 
   -- so does every piece, which one of them equals
-  pieces-hold : StepsHold (chosen steps) (loadableOf p)
-  pieces-hold =
-      let b = book-holds in
+  parts-hold : StepsHold (chosen steps) (loadableOf p)
+  parts-hold =
+      let b = proof-holds in
       all-map (λ x. Any (λ j. j ≡ x .line) (lines steps)) (λ x. T (lineHolds (chosen steps) (x .line))) (loadableOf p)
-      (λ x h. all-any (λ l. T (lineHolds (chosen steps) l)) (λ j. j ≡ x .line) (lines steps) (λ j t c. rw c at t) (b .lines) h) (course-loaded stops order (loadableOf p) steps n e)
+      (λ x h. all-any (λ l. T (lineHolds (chosen steps) l)) (λ j. j ≡ x .line) (lines steps) (λ j t c. rw c at t) (b .lines) h) (elimination-loaded stops order (loadableOf p) steps n e)
 
   pub walk-satisfies : Satisfies (chosen steps) p
   walk-satisfies =
-      splitting-keeps p w (chosen steps) (book-holds .denominator) .1
-      (chosen-same (chosen steps) (p .booleans) _ (λ ψ. StepsHold ψ (loadableOf p)) pieces-hold)
+      splitting-keeps p w (chosen steps) (proof-holds .denominator) .1
+      (chosen-same (chosen steps) (p .booleans) _ (λ ψ. StepsHold ψ (loadableOf p)) parts-hold)

@@ -1,7 +1,7 @@
 // One variable more in an assignment, all rational variables over their least common denominator.
 use evaluation::model::Model;
 use fractions::fraction::Fraction;
-use lines::row::wide_row;
+use lines::row::overflowing_row;
 use machine::gcd::gcd;
 use masks::with;
 use masks::without;
@@ -85,7 +85,7 @@ pub fn with_rational(model: Model, f: usize, x: Fraction) -> Reached
     }
     let old = model.numerators;
     let numerators = over(old, common / d, f, x.numerator, common / e);
-    if wide_row(numerators) {
+    if overflowing_row(numerators) {
         return Reached {
             written: false,
             model: model,

@@ -22,14 +22,14 @@ fn assign_rational(proof: &[u8], n: usize, f: usize, model: Model) -> Reached
     requires { ⌜ InRange model ⌝ }
     ensures { λ r. ⌜ Assigned (r .written) (r .model) (rational f) (own f (linesIn (now (proof .entry)) n)) (assignment model) ⌝ }
 {
-    let choice = rational_value(proof, n, f, model);
-    if choice.beyond {
+    let found = rational_value(proof, n, f, model);
+    if found.beyond {
         return Reached {
             written: false,
             model: model,
         };
     }
-    let x = choice.value;
+    let x = found.value;
     with_rational(model, f, x)
 }
 

@@ -14,8 +14,8 @@ use Rattle.fields.proofs.signed.Statement.{statement}
 use Rattle.fields.proofs.signed.Tie as tie
 
 -- the number as an i64, and the amount
-wide : (n : ℕ) → n < 4294967296 → toZ w64 n ≡ pos n
-wide n h = toZ-pos w64 (omega arith)
+widened : (n : ℕ) → n < 4294967296 → toZ w64 n ≡ pos n
+widened n h = toZ-pos w64 (omega arith)
 
 high-fits : (n : ℕ) → 2147483648 ≤ n → SFits w64 (fromUnsigned n)
 high-fits n h = rw (fromUnsigned-high n h) (record { sfits = omega arith })
@@ -24,7 +24,7 @@ cast-result : tie.Need-cast-result
 cast-result c = search needs
 
 returns : tie.Need-returns
-returns c = let n = c .before .args .n in wide n (c .before .pre) ∙ sym (fromUnsigned-low n (c .if1 .taken))
+returns c = let n = c .before .args .n in widened n (c .before .pre) ∙ sym (fromUnsigned-low n (c .if1 .taken))
 
 cast-result-2 : tie.Need-cast-result-2
 cast-result-2 c = search needs
@@ -32,12 +32,12 @@ cast-result-2 c = search needs
 sub-result : tie.Need-sub-result
 sub-result c =
     let n = c .before .args .n in
-    rw (wide n (c .before .pre), fromUnsigned-minus n (c .if1 .left) (c .before .pre)) (high-fits n (c .if1 .left))
+    rw (widened n (c .before .pre), fromUnsigned-minus n (c .if1 .left) (c .before .pre)) (high-fits n (c .if1 .left))
 
 returns-2 : tie.Need-returns-2
 returns-2 c =
     let n = c .before .args .n in
-    rw (wide n (c .before .pre), fromUnsigned-minus n (c .if1 .left) (c .before .pre)) (toZ-ofZ (high-fits n (c .if1 .left)))
+    rw (widened n (c .before .pre), fromUnsigned-minus n (c .if1 .left) (c .before .pre)) (toZ-ofZ (high-fits n (c .if1 .left)))
 
 pub signed-spec : {M : Type 1} → statement M
 signed-spec = tie.close (tie.spec cast-result returns cast-result-2 sub-result returns-2)

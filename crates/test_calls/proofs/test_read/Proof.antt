@@ -28,8 +28,8 @@ cast-t12 : tie.Need-cast-t12
 cast-t12 c = search needs
 
 -- what the call for reading gave, as it is told
-is-told : (a : tie.After-read) → toldOf (a .read .result) ≡ told (read (a .before .before .args .question .now))
-is-told a = ap toldOf (a .read .ensures) ∙ told-is (read (a .before .before .args .question .now))
+is-told : (a : tie.After-read) → toldOf (a .read .result) ≡ told (read (a .before .before .args .input .now))
+is-told a = ap toldOf (a .read .ensures) ∙ told-is (read (a .before .before .args .input .now))
 
 returns : tie.Need-returns
 unfolding toldOf

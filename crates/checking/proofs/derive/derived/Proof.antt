@@ -5,7 +5,7 @@ use lib.ListN.{length}
 use Rattle.layout.specs.Fields.{fieldAt-1}
 use Rattle.lines.specs.Line.{Ready}
 use Rattle.checking.specs.Stated.{states-none}
-use Rattle.checking.specs.Results.{states-same, first-beyond, second-beyond, result-found}
+use Rattle.checking.specs.Resolvents.{states-same, first-beyond, second-beyond, resolvent-found}
 use borrow.Author.Needs.{needs}
 use Rattle.checking.proofs.derive.derived.Statement.{statement}
 use Rattle.checking.proofs.derive.derived.Tie as tie
@@ -73,7 +73,7 @@ returns-3 c =
     let k = e .before .before in
     let s = k .before .before .before .before .before in
     states-same
-    (result-found (s .args .proof .now) (s .args .t3) (s .args .i)
+    (resolvent-found (s .args .proof .now) (s .args .t3) (s .args .i)
     (fieldAt-1 0 (s .args .t3) (omega (arith, size s)))
     (fieldAt-1 1 (s .args .t3) (omega (arith, size s)))
     (k .before .before .u16-at .ensures)

@@ -1,5 +1,5 @@
 -- `derive::made` meets its contract. Assumes nothing.
-use Rattle.checking.specs.Made.{holds-same, holds-made, left-dropped, left-wide}
+use Rattle.checking.specs.Made.{holds-same, holds-made, left-dropped, left-overflow}
 use borrow.Author.Needs.{needs}
 use Rattle.checking.proofs.derive.made.Statement.{statement}
 use Rattle.checking.proofs.derive.made.Tie as tie
@@ -27,7 +27,7 @@ returns c =
 returns-2 : tie.Need-returns-2
 returns-2 c =
     let s = c .before .before .before .before in
-    holds-same (left-wide (s .args .r) (s .pre) (c .before .enum-told2 .given .1)) (c .unstated2 .ensures)
+    holds-same (left-overflow (s .args .r) (s .pre) (c .before .enum-told2 .given .1)) (c .unstated2 .ensures)
 
 returns-3 : tie.Need-returns-3
 returns-3 c =

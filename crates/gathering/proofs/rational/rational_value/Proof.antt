@@ -5,7 +5,7 @@ use Rattle.fractions.specs.Meaning.{meaning as fractionMeaning, boundMeaning}
 use Rattle.proof_lines.specs.Held.{linesIn}
 use Rattle.evaluation.specs.Model.{assignment}
 use Rattle.gathering.specs.Gather.{Collected}
-use Rattle.gathering.specs.Choice.{chosen-beyond, chosen-value}
+use Rattle.gathering.specs.Chosen.{chosen-beyond, chosen-value}
 use Rattle.gathering.proofs.rational.rational_value.Statement.{statement}
 use Rattle.gathering.proofs.rational.rational_value.Tie as tie
 

@@ -21,7 +21,7 @@ returns c =
     let e = c .before in
     let s = e .before .before .before .before in
     c .evidence-told .ensures
-    ∙ ap evidenceTold (e .evidence .ensures ∙ ap (λ (l : Limits). evidence l (s .args .number) (s .args .lines) (s .args .book .now) (s .args .sheet .now)) (e .before .standard .ensures))
+    ∙ ap evidenceTold (e .evidence .ensures ∙ ap (λ (l : Limits). evidence l (s .args .number) (s .args .lines) (s .args .proof .now) (s .args .model .now)) (e .before .standard .ensures))
 
 pub jemuling-hand-back-spec : {M : Type 1} → statement M
 jemuling-hand-back-spec =

@@ -10,9 +10,9 @@ use Rattle.rules.specs.Lines as rules
 use Rattle.rules.specs.Split.{partsOf}
 use Rattle.rules.specs.Elimination.{limited, partSteps, load}
 use Rattle.reader.specs.Values.{clauseAt}
-use Rattle.pieces.specs.Parts.{partsFrom}
+use Rattle.parts.specs.Parts.{partsFrom}
 use Rattle.placing.specs.Point.{stateAt}
-use Rattle.pieces.specs.Count.{parts-length}
+use Rattle.parts.specs.Count.{parts-length}
 use Rattle.loading.specs.Parts.{named-part, AtPart, parts-start, parts-done, parts-next, parts-ended}
 use Rattle.loading.proofs.clause.load_clause.Statement.{statement}
 use Rattle.loading.proofs.clause.load_clause.Tie as tie

@@ -15,16 +15,16 @@ enum-known-scan c = search needs
 enum-known-scan-2 : tie.Need-enum-known-scan-2
 enum-known-scan-2 c = search needs
 
-check-sheet-requires : tie.Need-check-sheet-requires
-check-sheet-requires c κs =
+check-readable-requires : tie.Need-check-readable-requires
+check-readable-requires c κs =
     let a = c .before .before .before in
-    readable (a .before .before .before .args .question .now) _ _ _ (sym (a .read .ensures) ∙ c .before .scan2 .given .1)
+    readable (a .before .before .before .args .input .now) _ _ _ (sym (a .read .ensures) ∙ c .before .scan2 .given .1)
 
 returns : tie.Need-returns
 returns c =
     let a = c .before .before .before in
     let s = a .before .before .before in
-    sym (checked-fault (s .args .question .now) (s .args .sheet .now) _ _ (sym (a .read .ensures) ∙ c .before .scan .given .1))
+    sym (checked-fault (s .args .input .now) (s .args .back .now) _ _ (sym (a .read .ensures) ∙ c .before .scan .given .1))
 
 returns-2 : tie.Need-returns-2
 returns-2 c = search needs
@@ -36,6 +36,6 @@ check-model-spec =
     read-requires
     enum-known-scan
     enum-known-scan-2
-    check-sheet-requires
+    check-readable-requires
     returns
     returns-2)

@@ -9,7 +9,7 @@ use Rattle.fields.specs.Field.{stored}
 use Rattle.lines.specs.Line.{meaning}
 use Rattle.line_bytes.specs.Encoding.{headerOf, encoded}
 use Rattle.placing.specs.Steps.{Words, stepOf, step-back, kept-new}
-use Rattle.placing.specs.Point.{place-known, place-full, place-new}
+use Rattle.placing.specs.Point.{place-known, place-out-of-steps, place-new}
 use borrow.Author.Needs.{needs}
 use Rattle.placing.proofs.place.place.Statement.{statement}
 use Rattle.placing.proofs.place.place.Tie as tie
@@ -42,7 +42,7 @@ returns-2 : tie.Need-returns-2
 returns-2 c =
     let a = c .before .before .before in
     let s = a .before .before .before in
-    place-full (s .args .p) (s .pre .0) (step s) (sym (a .covered .ensures) ∙ c .before .before .if1 .left) (omega arith)
+    place-out-of-steps (s .args .p) (s .pre .0) (step s) (sym (a .covered .ensures) ∙ c .before .before .if1 .left) (omega arith)
 
 encode-requires : tie.Need-encode-requires
 encode-requires c κs = search needs

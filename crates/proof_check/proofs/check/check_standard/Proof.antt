@@ -15,7 +15,7 @@ check-proof-requires c κs = search needs
 returns : tie.Need-returns
 returns c =
     let s = c .before .before .before .before in
-    c .check-proof .ensures ∙ ap (λ (l : Limits). proofChecked l (s .args .question .now) (s .args .proof .now)) (c .before .standard .ensures)
+    c .check-proof .ensures ∙ ap (λ (l : Limits). proofChecked l (s .args .input .now) (s .args .proof .now)) (c .before .standard .ensures)
 
 pub check-standard-spec : {M : Type 1} → statement M
 check-standard-spec = tie.close (tie.spec standard-requires check-proof-requires returns)

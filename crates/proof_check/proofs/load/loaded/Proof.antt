@@ -2,7 +2,7 @@
 use native.Mathlib.Omega.{arith}
 use lib.ListN.{getD}
 use Rattle.checking.specs.Stated.{states-none}
-use Rattle.checking.specs.Results.{states-same}
+use Rattle.checking.specs.Resolvents.{states-same}
 use Rattle.proof_check.specs.Index.{Entry}
 use Rattle.proof_check.specs.Loaded.{loaded-beyond, loaded-found}
 use borrow.Author.Needs.{needs}

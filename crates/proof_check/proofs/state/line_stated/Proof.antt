@@ -6,7 +6,7 @@ use Rattle.rules.specs.Bytes.{fieldAt}
 use Rattle.rules.specs.Elimination.{loadableOf}
 use Rattle.layout.specs.Fields.{fieldAt-1}
 use Rattle.proof_lines.specs.Held.{linesIn}
-use Rattle.checking.specs.Results.{states-same}
+use Rattle.checking.specs.Resolvents.{states-same}
 use Rattle.proof_check.specs.Index.{problemOf}
 use Rattle.proof_check.specs.Loaded.{loaded-other, stated-loaded, stated-derived}
 use borrow.Author.Needs.{needs}

@@ -5,7 +5,7 @@ use borrow.Author.Needs.{needs}
 use Rattle.rules.specs.Normalize.{normalLine}
 use Rattle.lines.specs.Line.{meaning}
 use Rattle.normalization.specs.Normal.{normalized-dropped, normalized-left}
-use Rattle.resolvents.specs.Resolved.{gives-dropped, gives-wide, gives-made}
+use Rattle.resolvents.specs.Resolved.{gives-dropped, gives-overflow, gives-made}
 use Rattle.resolvents.proofs.resolve.finish.Statement.{statement}
 use Rattle.resolvents.proofs.resolve.finish.Tie as tie
 
@@ -29,7 +29,7 @@ returns-2 : tie.Need-returns-2
 returns-2 c =
     let e = c .before .before in
     let k = e .before .before in
-    gives-wide (k .normalize .result .line) (k .normalize .ensures .1) (left e) (sym (c .before .overflows .ensures) ∙ c .if2 .taken)
+    gives-overflow (k .normalize .result .line) (k .normalize .ensures .1) (left e) (sym (c .before .overflows .ensures) ∙ c .if2 .taken)
 
 returns-3 : tie.Need-returns-3
 returns-3 c =

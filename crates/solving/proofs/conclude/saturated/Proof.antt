@@ -12,9 +12,9 @@ use Rattle.solving.proofs.conclude.saturated.Statement.{statement}
 use Rattle.solving.proofs.conclude.saturated.Tie as tie
 
 -- what the walk has told, by whether it can be written
-sheet : (c : tie.After-walk) (t : Bool) → c .walk .result .written ≡ t
+model : (c : tie.After-walk) (t : Bool) → c .walk .result .written ≡ t
     → let s = c .before .before .before .before in written (s .args .b) (s .args .r) (walk order (linesIn (s .args .proof .now) (s .args .c .steps))) ≡ bytesOf (s .args .b) (s .args .r) t (c .walk .result .model)
-sheet c t e =
+model c t e =
     let s = c .before .before .before .before in
     c .walk .ensures .0 (s .args .b) ∙ ap (λ (t : Bool). bytesOf (s .args .b) (s .args .r) t (c .walk .result .model)) e
 
@@ -35,7 +35,7 @@ returns c =
     let m = c .before .before .before .before in
     let t = m .before .before .before in
     let e : t .before .before .walk .result .written ≡ false = search (needs, not-true, not-false, t .if1) in
-    (rw (sheet (t .before .before) false e) (record { said = m .without-model .ensures .0; left = m .without-model .ensures .1 .1 }), m .without-model .ensures .1 .0)
+    (rw (model (t .before .before) false e) (record { said = m .without-model .ensures .0; left = m .without-model .ensures .1 .1 }), m .without-model .ensures .1 .0)
 
 cast-zero : tie.Need-cast-zero
 cast-zero c = search needs
@@ -69,7 +69,7 @@ returns-2 c =
     let f = z .before .before .before .before in
     let w = f .before .before in
     let e : w .walk .result .written ≡ true = search (needs, not-true, not-false, f .if1) in
-    (rw (sheet w true e) (record { said = c .decided .ensures; left = d .write-model .ensures }), z .zero .ensures)
+    (rw (model w true e) (record { said = c .decided .ensures; left = d .write-model .ensures }), z .zero .ensures)
 
 pub saturated-spec : {M : Type 1} → statement M
 saturated-spec =

@@ -8,11 +8,11 @@ use Rattle.solving.proofs.decide.decide.Statement.{statement}
 use Rattle.solving.proofs.decide.decide.Tie as tie
 
 -- the question is well formed
-formed : (c : tie.After-eliminate) → let a = c .before .before .before .before .before .args in WellFormed (problemAt (a .question .now) (a .b) (a .r) (a .n))
+formed : (c : tie.After-eliminate) → let a = c .before .before .before .before .before .args in WellFormed (problemAt (a .input .now) (a .b) (a .r) (a .n))
 formed c =
     let s = c .before .before .before .before .before in
     let a = s .args in
-    read-well-formed (a .question .now) (problemAt (a .question .now) (a .b) (a .r) (a .n)) (s .pre .0 .is-read)
+    read-well-formed (a .input .now) (problemAt (a .input .now) (a .b) (a .r) (a .n)) (s .pre .0 .is-read)
 
 eliminate-requires : tie.Need-eliminate-requires
 eliminate-requires c κs = search needs

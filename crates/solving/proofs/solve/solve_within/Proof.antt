@@ -22,7 +22,7 @@ returns c =
     let b = t .before in
     let s = b .before .before .before .before in
     let a = s .args in
-    rw (lent-short-proof (a .limits) (a .question .now) (a .proof .now) (a .model .now) (rw (b .proof-bytes .ensures) at (t .if1 .taken)), c .faulted .ensures) (leaves-faulted (a .limits) _ _ (a .proof .now) (a .model .now))
+    rw (lent-short-proof (a .limits) (a .input .now) (a .proof .now) (a .model .now) (rw (b .proof-bytes .ensures) at (t .if1 .taken)), c .faulted .ensures) (leaves-faulted (a .limits) _ _ (a .proof .now) (a .model .now))
 
 faulted-requires-2 : tie.Need-faulted-requires-2
 faulted-requires-2 c κs = search needs
@@ -34,7 +34,7 @@ returns-2 c =
     let b = l .before in
     let s = b .before .before .before .before in
     let a = s .args in
-    rw (lent-short-model (a .limits) (a .question .now) (a .proof .now) (a .model .now) (rw (b .proof-bytes .ensures) at (l .if1 .left)) (t .if2 .taken), c .faulted2 .ensures) (leaves-faulted (a .limits) _ _ (a .proof .now) (a .model .now))
+    rw (lent-short-model (a .limits) (a .input .now) (a .proof .now) (a .model .now) (rw (b .proof-bytes .ensures) at (l .if1 .left)) (t .if2 .taken), c .faulted2 .ensures) (leaves-faulted (a .limits) _ _ (a .proof .now) (a .model .now))
 
 read-requires : tie.Need-read-requires
 read-requires c κs = search needs
@@ -57,7 +57,7 @@ decide-requires c κs =
     let s = b .before .before .before .before in
     let a = s .args in
     let h = rw (b .proof-bytes .ensures) at (l .before .if1 .left) in
-    (readable (a .question .now) _ _ _ (sym (d .read .ensures) ∙ m .s2 .given .1), (omega (arith, h), (l .if2 .left, s .pre)))
+    (readable (a .input .now) _ _ _ (sym (d .read .ensures) ∙ m .s2 .given .1), (omega (arith, h), (l .if2 .left, s .pre)))
 
 returns-3 : tie.Need-returns-3
 returns-3 c =
@@ -67,8 +67,8 @@ returns-3 c =
     let b = l .before .before in
     let s = b .before .before .before .before in
     let a = s .args in
-    let e = outcome-faulty (read (a .question .now)) _ _ (sym (d .read .ensures) ∙ m .s .given .1) in
-    rw (lent-fault (a .limits) (a .question .now) (a .proof .now) (a .model .now) (rw (b .proof-bytes .ensures) at (l .before .if1 .left)) (l .if2 .left) _ _ e, c .faulted3 .ensures) (leaves-faulted (a .limits) _ _ (a .proof .now) (a .model .now))
+    let e = outcome-faulty (read (a .input .now)) _ _ (sym (d .read .ensures) ∙ m .s .given .1) in
+    rw (lent-fault (a .limits) (a .input .now) (a .proof .now) (a .model .now) (rw (b .proof-bytes .ensures) at (l .before .if1 .left)) (l .if2 .left) _ _ e, c .faulted3 .ensures) (leaves-faulted (a .limits) _ _ (a .proof .now) (a .model .now))
 
 same-length : tie.Need-same-length
 same-length c = search needs
@@ -85,8 +85,8 @@ returns-4 c =
     let b = l .before .before in
     let s = b .before .before .before .before in
     let a = s .args in
-    let r = readable (a .question .now) _ _ _ (sym (d .read .ensures) ∙ m .s2 .given .1) in
-    rw (lent-sound (a .limits) (a .question .now) (a .proof .now) (a .model .now) (rw (b .proof-bytes .ensures) at (l .before .if1 .left)) (l .if2 .left) _ (r .is-read)) (k .decide .ensures)
+    let r = readable (a .input .now) _ _ _ (sym (d .read .ensures) ∙ m .s2 .given .1) in
+    rw (lent-sound (a .limits) (a .input .now) (a .proof .now) (a .model .now) (rw (b .proof-bytes .ensures) at (l .before .if1 .left)) (l .if2 .left) _ (r .is-read)) (k .decide .ensures)
 
 pub solve-within-spec : {M : Type 1} → statement M
 solve-within-spec =

@@ -52,15 +52,15 @@ scaled c = let s = c .before .before .before .before .before .before in rw (amou
 eight : (c : tie.After-over) → length (c .over .result) ≡ 8
 eight c = search (needs, c)
 
-wide-row-requires : tie.Need-wide-row-requires
-wide-row-requires c κs = search needs
+overflowing-row-requires : tie.Need-overflowing-row-requires
+overflowing-row-requires c κs = search needs
 
 returns-2 : tie.Need-returns-2
 returns-2 c =
     let o = c .before .before in
     let l = o .before .before .before .before in
     let a = l .before .before .args in
-    numerators-large (a .model) (a .f) (meaning (a .x)) (l .lcm .result) (l .lcm .ensures) (o .over .result) (eight o) (scaled o) (sym (c .before .wide-row .ensures) ∙ c .if2 .taken)
+    numerators-large (a .model) (a .f) (meaning (a .x)) (l .lcm .result) (l .lcm .ensures) (o .over .result) (eight o) (scaled o) (sym (c .before .overflowing-row .ensures) ∙ c .if2 .taken)
 
 cast-t13 : tie.Need-cast-t13
 cast-t13 c = search needs
@@ -72,7 +72,7 @@ returns-3 c =
     let l = n .before in
     let s = l .before .before in
     let a = s .args in
-    rational-words (a .model) (a .f) (meaning (a .x)) (l .lcm .result) (l .lcm .ensures) (o .over .result) (eight o) (scaled o) (sym (c .before .wide-row .ensures) ∙ c .if2 .left)
+    rational-words (a .model) (a .f) (meaning (a .x)) (l .lcm .result) (l .lcm .ensures) (o .over .result) (eight o) (scaled o) (sym (c .before .overflowing-row .ensures) ∙ c .if2 .left)
     (rw (l .lcm .ensures) (lcm-positive (a .model .denominator) (a .x .denominator) (s .pre .1 .1 .positive) (s .pre .1 .0 .positive))) (omega (arith, n .if1 .left))
 
 pub with-rational-spec : {M : Type 1} → statement M
@@ -85,7 +85,7 @@ with-rational-spec =
     div-over
     div-over-2
     over-requires
-    wide-row-requires
+    overflowing-row-requires
     returns-2
     cast-t13
     returns-3)

@@ -4,7 +4,7 @@ use Rattle.fractions.specs.Meaning.{meaning}
 use Rattle.proof_lines.specs.Held.{linesIn}
 use Rattle.evaluation.specs.Model.{assignment}
 use Rattle.gathering.specs.Round.{own}
-use Rattle.gathering.specs.Choice.{Value}
+use Rattle.gathering.specs.Chosen.{Value}
 use Rattle.walk.specs.Outcome.{assigned-by}
 use Rattle.walk.proofs.round.assign_rational.Statement.{statement}
 use Rattle.walk.proofs.round.assign_rational.Tie as tie

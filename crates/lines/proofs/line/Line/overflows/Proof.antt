@@ -11,14 +11,14 @@ use borrow.Author.Needs.{needs}
 use Rattle.lines.proofs.line.Line.overflows.Statement.{statement}
 use Rattle.lines.proofs.line.Line.overflows.Tie as tie
 
-wide-row-requires : tie.Need-wide-row-requires
-wide-row-requires c κs = search needs
+overflowing-row-requires : tie.Need-overflowing-row-requires
+overflowing-row-requires c κs = search needs
 
 returns : tie.Need-returns
 returns c =
     let s = c .before .before .before in
     let l = s .args .self in
-    let e : any (λ z. not (inRange z)) (l .coefficients) ≡ true = sym (c .before .wide-row .ensures) ∙ c .if1 .taken in
+    let e : any (λ z. not (inRange z)) (l .coefficients) ≡ true = sym (c .before .overflowing-row .ensures) ∙ c .if1 .taken in
     sym (overflows-is l (s .pre) ∙ rw e)
 
 in-range-requires : tie.Need-in-range-requires
@@ -29,8 +29,8 @@ returns-2 c =
     let s = c .before .before .before .before .before in
     let l = s .args .self in
     let f : SFits w64 (l .bound) = search (needs, c .before) in
-    let e : any (λ z. not (inRange z)) (l .coefficients) ≡ false = sym (c .before .before .before .wide-row .ensures) ∙ c .before .before .if1 .left in
+    let e : any (λ z. not (inRange z)) (l .coefficients) ≡ false = sym (c .before .before .before .overflowing-row .ensures) ∙ c .before .before .if1 .left in
     ap not (rw (toZ-ofZ f) at (c .in-range .ensures)) ∙ sym (overflows-is l (s .pre) ∙ rw e)
 
 pub overflows-spec : {M : Type 1} → statement M
-overflows-spec = tie.close (tie.spec wide-row-requires returns in-range-requires returns-2)
+overflows-spec = tie.close (tie.spec overflowing-row-requires returns in-range-requires returns-2)

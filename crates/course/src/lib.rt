@@ -1,1 +1,0 @@
-// Laws of the course: specs/. There is no code here.

@@ -1,0 +1,52 @@
+-- What a course takes up, in its order: every piece, then the results of the pairs of each turn; and that none of it is left out.
+use mathlib.Core.Path.{_≡_}
+use mathlib.Core.List.{List, [], _∷_, _++_, map}
+use mathlib.Core.Option.{Option, some}
+use Prim.Native.Nat.{ℕ, suc, _-_}
+use lib.ListN.{length}
+use Rattle.rules.specs.Lines.{Line, Variable}
+use Rattle.rules.specs.Resolve.{resolve}
+use Rattle.rules.specs.Steps.{Step}
+use Rattle.rules.specs.Elimination.{State, running, ended, Pair, roundPairs}
+use Rattle.lists.specs.All.{All}
+use Rattle.saturation.specs.Covered.{Found}
+
+abbrev pub lines : List Step → List Line
+lines steps = map (λ s. s .line) steps
+
+-- dropped by tidying, or equal to a line of the book
+abbrev pub InProof : List Step → Option Line → Type 0
+InProof steps o = Found _≡_ (lines steps) o
+
+-- ---- what is taken up
+abbrev pub ofPair : Variable → Pair → Option Line
+ofPair v p = resolve v (p .upper .line) (p .lower .line)
+
+-- the results of the turns from t on, of the pairs among these lines
+abbrev pub resolventsFrom : List Variable → ℕ → List Variable → List Step → List (Option Line)
+resolventsFrom variables t [] steps = []
+resolventsFrom variables t (v ∷ vs) steps = map (ofPair v) (roundPairs variables v t steps) ++ resolventsFrom variables (suc t) vs steps
+
+abbrev pub resolvents : List Variable → List Step → List (Option Line)
+resolvents variables steps = resolventsFrom variables 0 variables steps
+
+abbrev pub partLines : List Step → List (Option Line)
+partLines parts = map (λ s. some (s .line)) parts
+
+abbrev pub taken : List Variable → List Step → List Step → List (Option Line)
+taken variables parts steps = partLines parts ++ resolvents variables steps
+
+-- ---- none is left out
+-- a course that one of the lines ended: all before that one are in the book, and the pairs are the results up to it
+pub record Unfinished (variables : List Variable) (parts steps : List Step) (n : ℕ) : Type 0 where
+  pub done : List (Option Line)
+  pub last : Option Line
+  pub rest : List (Option Line)
+  pub split : taken variables parts steps ≡ done ++ (last ∷ rest)
+  pub found : All (InProof steps) done
+  pub count : n ≡ suc (length done) - length parts
+
+-- one that ran to its end: all are in the book, and the pairs are all results
+abbrev pub Complete : List Variable → List Step → State → Type 0
+Complete variables parts (running steps n) = All (InProof steps) (taken variables parts steps) × (n ≡ length (resolvents variables steps))
+Complete variables parts (ended e steps n) = Unfinished variables parts steps n

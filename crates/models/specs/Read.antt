@@ -1,0 +1,162 @@
+-- A whole sheet: the definition of reading by its fields, a law for each way it can go.
+use mathlib.Core.Path.{_≡_, sym, ap, _∙_}
+use mathlib.Core.Bool.{Bool, true, false, _&&_}
+use mathlib.Core.List.{List}
+use Prim.Native.Nat.{ℕ, _+_, _≤_, _<_}
+use native.Mathlib.Omega.{arith}
+use borrow.Author.Tests.{eq-eqb, ne-eqb}
+use lib.IntN.{pos}
+use lib.Dec.{eqb, leb, leb→le}
+use lib.ListN.{length, drop, getD, replicate}
+use mir.Facts.{and-yes}
+use Rattle.types.specs.declared.answers.Refusal.{Refusal}
+use Rattle.types.specs.declared.answers.Refusal.the-variants as refusal
+use Rattle.types.specs.Limits as limit
+use Rattle.rules.specs.Bytes.{fieldAt}
+use Rattle.rules.specs.Problem.{fault, got, Reader, after, _>>=_, return, repeat, field, amount}
+use Rattle.rules.specs.Meaning.{Assignment}
+use Rattle.rules.specs.Model.{model}
+use Rattle.lists.specs.Tests.{of-true}
+use Rattle.vectors.specs.Amounts.{Amounts, zeros-amounts}
+use Rattle.layout.specs.Fields.{fieldAt-1}
+use Rattle.reader.specs.Fields.{field-good, field-bad}
+use Rattle.reader.specs.Values.{valuesAt, amountAt}
+use Rattle.evaluation.specs.Model.{value, assignment}
+use Rattle.models.specs.declared.booleans.Flags.{Flags}
+use Rattle.models.specs.declared.numerators.Row.{Row}
+use Rattle.models.specs.declared.read.ModelRead.{ModelRead}
+use Rattle.models.specs.Fields.{reading}
+use Rattle.models.specs.Booleans.{flag, bytesAt, ReadBooleans}
+use Rattle.models.specs.Numerators.{ReadNumerators}
+
+unfoldable pub isDenominator : ℕ → Bool
+isDenominator n = leb 1 n && leb n limit.amount
+
+unfoldable pub refused : ℕ → ModelRead
+refused place = record { sound = false; place = place; model = record { booleans = 0; numerators = replicate 8 (pos 0); denominator = 1 } }
+
+-- what the definition reads, and what evaluation asks of a model
+pub record ReadModel (s : List ℕ) (b r : ℕ) (back : ModelRead) : Type 0 where
+  pub same : model b r s 0 ≡ reading s (back .sound) (back .place) (assignment (back .model))
+  pub numerators : Amounts (back .model .numerators)
+  pub denominator : (1 ≤ back .model .denominator) × (back .model .denominator ≤ limit.amount)
+
+pub read-refused : (s : List ℕ) (b r place : ℕ) → model b r s 0 ≡ fault refusal.BadModel place → ReadModel s b r (refused place)
+unfolding reading refused
+read-refused s b r place e = record { same = e; numerators = zeros-amounts 8; denominator = (omega arith, omega arith) }
+
+-- ---- a field that is there, and what comes next
+module _ {A : Type 0} (s : List ℕ) (k : ℕ) (good : ℕ → Bool) (f : Refusal) (at : ℕ) (next : ℕ → Reader A) (h : at + k ≤ length s) where
+  stops : good (fieldAt at k s) ≡ false → after (field k good f (drop at s) at) next ≡ fault f at
+  unfolding after
+  stops e = rw (field-bad s k good f at h e)
+
+  goes : good (fieldAt at k s) ≡ true → after (field k good f (drop at s) at) next ≡ next (fieldAt at k s) (drop (at + k) s) (at + k)
+  unfolding after
+  goes e = rw (field-good s k good f at h e)
+
+-- ---- the rest of the sheet, behind the Boolean variables; behind r; and behind the denominator
+module _ (r : ℕ) (booleans : List ℕ) where
+  unfoldable numeratorsAfter : ℕ → Reader Assignment
+  numeratorsAfter denominator = do
+    numerators ← repeat r (amount refusal.BadModel)
+    return (record { booleans = λ i. eqb (getD booleans i 0) 1; numerators = λ f. getD numerators f (pos 0); denominator = denominator })
+
+  unfoldable denominatorOn : Reader Assignment
+  denominatorOn = _>>=_ (field 4 isDenominator refusal.BadModel) numeratorsAfter
+
+  unfoldable rationalsOn : Reader Assignment
+  rationalsOn = _>>=_ (field 1 (eqb r) refusal.BadModel) (λ r′. denominatorOn)
+
+-- ---- field by field
+-- what a caller sees to
+pub record Sized (s : List ℕ) (b r : ℕ) : Type 0 where
+  pub long : 64 ≤ length s
+  pub booleans : b ≤ 16
+  pub rationals : r ≤ 8
+
+-- b is the question's, and the Boolean variables were read
+pub record BooleansRead (s : List ℕ) (b r : ℕ) (flags : Flags) : Type 0 where
+  pub sized : Sized s b r
+  pub count : getD s 0 0 ≡ b
+  pub given : ReadBooleans s 1 b flags
+
+-- they are sound, and r is the question's
+pub record RationalsAhead (s : List ℕ) (b r : ℕ) (flags : Flags) : Type 0 where
+  pub booleans : BooleansRead s b r flags
+  pub sound : flags .sound ≡ true
+  pub count : getD s (1 + b) 0 ≡ r
+
+-- the denominator is within its limits, and the numerators were read
+pub record RationalsRead (s : List ℕ) (b r : ℕ) (flags : Flags) (row : Row) : Type 0 where
+  pub ahead : RationalsAhead s b r flags
+  pub denominator : isDenominator (fieldAt (1 + b + 1) 4 s) ≡ true
+  pub given : ReadNumerators s (1 + b + 5) r row
+
+module _ {s : List ℕ} {b r : ℕ} where
+  r-there : Sized s b r → 1 + b < length s
+  r-there h = omega (arith, h .long, h .booleans)
+
+  denominator-there : Sized s b r → 1 + b + 1 + 4 ≤ length s
+  denominator-there h = omega (arith, h .long, h .booleans)
+
+  pub booleans-differ : Sized s b r → (getD s 0 0 ≡ b → ⊥) → model b r s 0 ≡ fault refusal.BadModel 0
+  unfolding model
+  booleans-differ h n = stops s 1 (eqb b) refusal.BadModel 0 _ (omega (arith, h .long)) (rw (fieldAt-1 0 s (omega (arith, h .long))) (ne-eqb b (getD s 0 0) (λ e. n (sym e))))
+
+  module _ {flags : Flags} where
+    booleans-on : BooleansRead s b r flags → model b r s 0 ≡ after (repeat b flag (drop 1 s) 1) (rationalsOn r)
+    unfolding model flag rationalsOn denominatorOn numeratorsAfter isDenominator
+    booleans-on h =
+        let l : 0 + 1 ≤ length s = omega (arith, h .sized .long) in
+        goes s 1 (eqb b) refusal.BadModel 0 _ l (rw (fieldAt-1 0 s l) (eq-eqb b (getD s 0 0) (sym (h .count))))
+
+    pub boolean-bad : BooleansRead s b r flags → flags .sound ≡ false → model b r s 0 ≡ fault refusal.BadModel (flags .place)
+    unfolding reading after
+    boolean-bad h e = booleans-on h ∙ rw (h .given .same, e)
+
+    rationals-on : BooleansRead s b r flags → flags .sound ≡ true → model b r s 0 ≡ rationalsOn r (bytesAt s b 1) (drop (1 + b) s) (1 + b)
+    unfolding reading after
+    rationals-on h e = booleans-on h ∙ rw (h .given .same, e, h .given .end e)
+
+    pub rationals-differ : BooleansRead s b r flags → flags .sound ≡ true → (getD s (1 + b) 0 ≡ r → ⊥) → model b r s 0 ≡ fault refusal.BadModel (1 + b)
+    unfolding rationalsOn
+    rationals-differ h e n =
+        let l = r-there (h .sized) in
+        rationals-on h e ∙ stops s 1 (eqb r) refusal.BadModel (1 + b) _ (omega arith) (rw (fieldAt-1 (1 + b) s l) (ne-eqb r (getD s (1 + b) 0) (λ e. n (sym e))))
+
+    denominator-on : RationalsAhead s b r flags → model b r s 0 ≡ denominatorOn r (bytesAt s b 1) (drop (1 + b + 1) s) (1 + b + 1)
+    unfolding rationalsOn
+    denominator-on h =
+        let l = r-there (h .booleans .sized) in
+        rationals-on (h .booleans) (h .sound) ∙ goes s 1 (eqb r) refusal.BadModel (1 + b) _ (omega arith) (rw (fieldAt-1 (1 + b) s l) (eq-eqb r (getD s (1 + b) 0) (sym (h .count))))
+
+    pub denominator-bad : RationalsAhead s b r flags → isDenominator (fieldAt (1 + b + 1) 4 s) ≡ false → model b r s 0 ≡ fault refusal.BadModel (1 + b + 1)
+    unfolding denominatorOn
+    denominator-bad h e = denominator-on h ∙ stops s 4 isDenominator refusal.BadModel (1 + b + 1) _ (denominator-there (h .booleans .sized)) e
+
+    module _ {row : Row} (h : RationalsRead s b r flags row) where
+      numerators-on : model b r s 0 ≡ numeratorsAfter r (bytesAt s b 1) (fieldAt (1 + b + 1) 4 s) (drop (1 + b + 5) s) (1 + b + 5)
+      unfolding denominatorOn
+      numerators-on =
+          let e : 1 + b + 1 + 4 ≡ 1 + b + 5 = omega arith in
+          denominator-on (h .ahead) ∙ goes s 4 isDenominator refusal.BadModel (1 + b + 1) _ (denominator-there (h .ahead .booleans .sized)) (h .denominator) ∙ rw e
+
+      pub numerator-bad : row .sound ≡ false → model b r s 0 ≡ fault refusal.BadModel (row .place)
+      unfolding numeratorsAfter reading after
+      numerator-bad e = numerators-on ∙ rw (h .given .same, e)
+
+      pub model-read : row .sound ≡ true
+          → ReadModel s b r (record { sound = true; place = row .place; model = record { booleans = flags .mask; numerators = row .numerators; denominator = fieldAt (1 + b + 1) 4 s } })
+      unfolding numeratorsAfter reading after isDenominator assignment value
+      model-read e =
+          let d = and-yes (leb 1 (fieldAt (1 + b + 1) 4 s)) (leb (fieldAt (1 + b + 1) 4 s) limit.amount) (of-true (isDenominator (fieldAt (1 + b + 1) 4 s)) (h .denominator)) in
+          record {
+            same = numerators-on ∙ rw (h .given .same, e) (ap (λ (χ : Assignment). got χ (drop (row .place) s) (row .place)) (made e));
+            numerators = h .given .small;
+            denominator = (leb→le 1 (fieldAt (1 + b + 1) 4 s) (d .0), leb→le (fieldAt (1 + b + 1) 4 s) limit.amount (d .1));
+          }
+        where
+          made : row .sound ≡ true → record { booleans = λ i. eqb (getD (bytesAt s b 1) i 0) 1; numerators = λ f. getD (valuesAt (amountAt s) 4 r (1 + b + 5)) f (pos 0); denominator = fieldAt (1 + b + 1) 4 s }
+              ≡ assignment (record { booleans = flags .mask; numerators = row .numerators; denominator = fieldAt (1 + b + 1) 4 s })
+          made e = λ j. record { booleans = λ i. sym (h .ahead .booleans .given .members (h .ahead .sound) i) j; numerators = λ f. sym (h .given .values e f) j; denominator = fieldAt (1 + b + 1) 4 s }

@@ -1,0 +1,5 @@
+pub mod Sides
+pub mod Pairs
+pub mod Left
+pub mod Round
+pub mod Rounds

@@ -1,0 +1,44 @@
+// A turn's pairs: the uppers in line order, each with the lowers, to the end of the course if it comes.
+use crate::pair::pair;
+use crate::side::Variable;
+use crate::side::next;
+use placing::place::Point;
+use placing::place::is_running;
+use proof_lines::line_at;
+use types::limits::Limits;
+ghost use mathlib.Core.Path.{_≡_};
+ghost use Prim.Native.Nat.{_+_, _≤_};
+ghost use Rattle.placing.specs.Point.{Standing, Reaches};
+ghost use Rattle.placing.specs.declared.place.Progress.the-variants.{Running};
+ghost use Rattle.rounds.specs.Sides.{Ranged};
+ghost use Rattle.rounds.specs.Round.{afterRound};
+
+// "The first empty line, wide result or line too many ends the course."
+pub fn round(proof: &mut [u8], t: usize, v: Variable, from: Point, limits: Limits) -> Point
+    requires { ⌜ Standing limits (now proof) (from .steps) ⌝ }
+    requires { ⌜ from .progress ≡ Running ⌝ }
+    requires { ⌜ Ranged v ⌝ }
+    requires { ⌜ limits .steps ≤ 65536 ⌝ }
+    requires { ⌜ from .pairs ≤ 900000000000 ⌝ }
+    ensures { λ p. ⌜ Reaches limits (now (proof .entry)) from (now (proof .exit)) p (afterRound limits v t (now (proof .entry)) from) ⌝ }
+    ensures { λ p. ⌜ p .pairs ≤ from .pairs + 4294967296 ⌝ }
+{
+    let m = from.steps;
+    let first = next(proof, 0, m, t, v, false);
+    let mut i = next(proof, 0, m, t, v, true);
+    let mut p = from;
+    'pairs: while i < m {
+        let upper = line_at(proof, i);
+        let mut j = first;
+        while j < m {
+            p = pair(proof, v, i, upper, j, p, limits);
+            let progress = p.progress;
+            if !is_running(progress) {
+                break 'pairs;
+            }
+            j = next(proof, j + 1, m, t, v, false);
+        }
+        i = next(proof, i + 1, m, t, v, true);
+    }
+    p
+}

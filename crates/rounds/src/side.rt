@@ -1,0 +1,97 @@
+// The lines of a turn that have its variable on one side: positive (an upper bound) or negative.
+use fields::amount_at;
+use line_bytes::decode::mask_at;
+use machine::sign::is_negative;
+use machine::sign::is_positive;
+use masks::member;
+use proof_lines::line_at;
+ghost use mathlib.Core.Path.{_≡_};
+ghost use Prim.Native.Nat.{_+_, _*_, _≤_, _<_};
+ghost use lib.ListN.{length};
+ghost use Rattle.rules.specs.Lines.{rational, boolean, coefficient};
+ghost use Rattle.lines.specs.Line.{meaning, Shaped};
+ghost use Rattle.proof_lines.specs.Held.{lineAt};
+ghost use Rattle.placing.specs.Steps.{Held};
+ghost use Rattle.rounds.specs.Sides.{variableOf, Ranged, onSide, chosen, Next};
+
+// A turn's variable.
+pub enum Variable {
+    Rational(usize),
+    Boolean(usize),
+}
+
+fn coefficient_at(proof: &[u8], i: usize, f: usize) -> i64
+    requires { ⌜ 64 * i + 64 ≤ length (now proof) ⌝ }
+    requires { ⌜ f < 8 ⌝ }
+    requires { ⌜ Shaped (lineAt (now proof) i) ⌝ }
+    ensures { λ r. ⌜ r ≡ coefficient f (meaning (lineAt (now (proof .entry)) i) .constraint) ⌝ }
+{
+    amount_at(proof, 64 * i + 16 + 4 * f)
+}
+
+fn rational_side(proof: &[u8], i: usize, f: usize, upper: bool) -> bool
+    requires { ⌜ 64 * i + 64 ≤ length (now proof) ⌝ }
+    requires { ⌜ f < 8 ⌝ }
+    requires { ⌜ Shaped (lineAt (now proof) i) ⌝ }
+    ensures { λ r. ⌜ r ≡ onSide upper (rational f) (meaning (lineAt (now (proof .entry)) i)) ⌝ }
+{
+    let z = coefficient_at(proof, i, f);
+    if upper {
+        return is_positive(z);
+    }
+    is_negative(z)
+}
+
+fn boolean_side(proof: &[u8], i: usize, b: usize, upper: bool) -> bool
+    requires { ⌜ 64 * i + 64 ≤ length (now proof) ⌝ }
+    requires { ⌜ b < 32 ⌝ }
+    ensures { λ r. ⌜ r ≡ onSide upper (boolean b) (meaning (lineAt (now (proof .entry)) i)) ⌝ }
+{
+    if upper {
+        return member(mask_at(proof, 64 * i + 8), b);
+    }
+    member(mask_at(proof, 64 * i + 12), b)
+}
+
+fn has_side(proof: &[u8], i: usize, v: Variable, upper: bool) -> bool
+    requires { ⌜ 64 * i + 64 ≤ length (now proof) ⌝ }
+    requires { ⌜ Ranged v ⌝ }
+    requires { ⌜ Shaped (lineAt (now proof) i) ⌝ }
+    ensures { λ r. ⌜ r ≡ onSide upper (variableOf v) (meaning (lineAt (now (proof .entry)) i)) ⌝ }
+{
+    match v {
+        Variable::Rational(f) => rational_side(proof, i, f, upper),
+        Variable::Boolean(b) => boolean_side(proof, i, b, upper),
+    }
+}
+
+// Whether line i is one of turn t and has the variable on this side. The bytes of the variable are read first.
+fn stands(proof: &[u8], i: usize, t: usize, v: Variable, upper: bool) -> bool
+    requires { ⌜ 64 * i + 64 ≤ length (now proof) ⌝ }
+    requires { ⌜ Ranged v ⌝ }
+    requires { ⌜ Shaped (lineAt (now proof) i) ⌝ }
+    ensures { λ r. ⌜ r ≡ chosen upper (variableOf v) t (meaning (lineAt (now (proof .entry)) i)) ⌝ }
+{
+    if !has_side(proof, i, v, upper) {
+        return false;
+    }
+    let line = line_at(proof, i);
+    line.round() == t
+}
+
+// The first such line from a number on, m without one.
+pub fn next(proof: &[u8], from: usize, m: usize, t: usize, v: Variable, upper: bool) -> usize
+    requires { ⌜ Held (now proof) m ⌝ }
+    requires { ⌜ from ≤ m ⌝ }
+    requires { ⌜ Ranged v ⌝ }
+    ensures { λ r. ⌜ Next (now (proof .entry)) m (chosen upper (variableOf v) t) from r ⌝ }
+{
+    let mut i = from;
+    while i < m {
+        if stands(proof, i, t, v, upper) {
+            return i;
+        }
+        i += 1;
+    }
+    m
+}

@@ -1,5 +1,0 @@
-// The turns, one after another: each pairs the lines of its variable.
-pub mod pair;
-pub mod round;
-pub mod side;
-pub mod turn;
