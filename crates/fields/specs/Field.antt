@@ -1,7 +1,7 @@
 -- What is stored at a place of bytes: it is read back, and joins what is stored next to it; and amounts by the machine's arithmetic.
 use mathlib.Core.Path.{_≡_, refl, sym, ap, _∙_, subst}
 use mathlib.Core.Bool.{true, false}
-use mathlib.Core.List.{List, _++_, append-assoc}
+use mathlib.Core.List.{List, [], _∷_, _++_, append-assoc, append-nil}
 use Prim.Native.Nat.{ℕ, suc, _+_, _-_, _/_, _%_, _^_, _≤_, _<_}
 use native.Mathlib.Nat.{add-assoc}
 use native.Mathlib.Numerals.{add-one}
@@ -10,7 +10,7 @@ use borrow.Author.Tests.{ltb-true}
 use lib.IntN.{ℤ, pos, negsuc, natAbs, _-ℤ_}
 use lib.Signed.{ltZ}
 use lib.Dec.{T}
-use lib.ListN.{length, set, take, drop, length-append, length-take, length-drop}
+use lib.ListN.{length, set, take, drop, length-append, length-take, length-drop, take-append-drop}
 use lib.Seq.{drop-drop, take-at, drop-at, length-take-le, sets-eq}
 use Rattle.integers.specs.Difference.{v, #, _⊖_, ≡-by}
 use Rattle.rules.specs.Bytes.{toBytes, fromBytes, fromUnsigned, toUnsigned, fieldAt}
@@ -70,3 +70,13 @@ stored-++ at front back s h =
     let d : drop (i + length back) (stored at front s) ≡ drop (i + length back) s =
     sym (drop-drop (length back) i (stored at front s)) ∙ ap (drop (length back)) (drop-at p (drop i s) i n) ∙ drop-drop (length back) i s in
     rw (t, d, length-append front back, ← add-assoc at (length front) (length back), append-assoc (take at s) front back)
+
+-- nothing, and one byte more
+pub stored-nothing : (at : ℕ) (s : List ℕ) → s ≡ stored at [] s
+stored-nothing at s = let e : at + 0 ≡ at = omega arith in rw (append-nil (take at s), e) (sym (take-append-drop at s))
+
+pub byte-stored : (at j v : ℕ) (x s : List ℕ) → at + length x ≡ j → j < length (stored at x s) → at ≤ length s → set (stored at x s) j v ≡ stored at (x ++ (v ∷ [])) s
+byte-stored at j v x s e h k =
+    sets-eq (v ∷ []) (stored at x s) j (omega arith)
+    ∙ ap (λ (i : ℕ). stored i (v ∷ []) (stored at x s)) (sym e)
+    ∙ stored-++ at x (v ∷ []) s k

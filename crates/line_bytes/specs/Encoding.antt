@@ -5,12 +5,12 @@ use Prim.Native.Nat.{ℕ, suc, _+_, _*_, _-_, _≤_, _<_}
 use native.Mathlib.Omega.{arith}
 use lib.IntN.{ℤ, pos}
 use native.Mathlib.Numerals.{add-one}
-use lib.ListN.{length, getD, set, take, drop, replicate, length-append, take-append-drop}
+use lib.ListN.{length, getD, set, take, drop, replicate, length-append}
 use lib.Seq.{sets-eq, take-suc, length-take-le}
 use Rattle.rules.specs.Bytes.{toBytes, amountBytes, padded, toUnsigned}
 use Rattle.rules.specs.Lines as rules
 use Rattle.rules.specs.Steps.{Header, Step, header, headerBytes, lineBytes, encodeStep, relationByte}
-use Rattle.fields.specs.Field.{stored, stored-++}
+use Rattle.fields.specs.Field.{stored, stored-++, stored-nothing}
 use Rattle.layout.specs.Bytes.{length-toBytes}
 use Rattle.layout.specs.Amounts.{length-amountBytes}
 use Rattle.lines.specs.declared.line.Line.{Line}
@@ -75,7 +75,7 @@ amount-stored at zs i s h l =
 
 pub stored-none : (at : ℕ) (s : List ℕ) → s ≡ stored at (amountBytes []) s
 unfolding amountBytes
-stored-none at s = let e : at + 0 ≡ at = omega arith in rw (append-nil (take at s), e) (sym (take-append-drop at s))
+stored-none at s = stored-nothing at s
 
 pub row-stored : (zs : List ℤ) (b : ℤ) (s : List ℕ) → length zs ≡ 8 → 16 ≤ length s → stored 48 (toBytes 4 (toUnsigned b)) (stored 16 (amountBytes zs) s) ≡ stored 16 (amountBytes (zs ++ (b ∷ []))) s
 unfolding amountBytes

@@ -1,10 +1,10 @@
 -- The parts of a model's bytes, stored one behind the other.
 use mathlib.Core.Path.{_≡_, refl, sym, ap, _∙_}
-use mathlib.Core.List.{List, [], _∷_, _++_, append-assoc, append-nil}
+use mathlib.Core.List.{List, [], _∷_, _++_, append-assoc}
 use Prim.Native.Nat.{ℕ, zero, suc, _+_, _-_, _≤_, _<_}
 use native.Mathlib.Numerals.{add-one}
 use native.Mathlib.Omega.{arith}
-use lib.ListN.{length, set, take, drop, replicate, length-append, take-append-drop}
+use lib.ListN.{length, set, drop, replicate, length-append}
 use lib.Seq.{sets-eq}
 use Rattle.rules.specs.Lists.{tabulate}
 use Rattle.rules.specs.Bytes.{toBytes, amountBytes, padded}
@@ -13,17 +13,7 @@ use Rattle.rules.specs.Meaning.{Assignment}
 use Rattle.lists.specs.Tabulated.{length-tabulate, tabulate-snoc}
 use Rattle.layout.specs.Bytes.{length-toBytes}
 use Rattle.layout.specs.Amounts.{length-amountBytes}
-use Rattle.fields.specs.Field.{stored, length-stored, stored-++}
-
--- nothing, and one byte more
-pub stored-nothing : (at : ℕ) (s : List ℕ) → s ≡ stored at [] s
-stored-nothing at s = let e : at + 0 ≡ at = omega arith in rw (append-nil (take at s), e) (sym (take-append-drop at s))
-
-pub byte-stored : (at j v : ℕ) (x s : List ℕ) → at + length x ≡ j → j < length (stored at x s) → at ≤ length s → set (stored at x s) j v ≡ stored at (x ++ (v ∷ [])) s
-byte-stored at j v x s e h k =
-    sets-eq (v ∷ []) (stored at x s) j (omega arith)
-    ∙ ap (λ (i : ℕ). stored i (v ∷ []) (stored at x s)) (sym e)
-    ∙ stored-++ at x (v ∷ []) s k
+use Rattle.fields.specs.Field.{stored, length-stored, stored-++, byte-stored}
 
 -- one place more of a function
 pub tabulate-stored : (at i : ℕ) (g : ℕ → ℕ) (s : List ℕ) → at + i < length (stored at (tabulate i g) s) → at ≤ length s → set (stored at (tabulate i g) s) (at + i) (g i) ≡ stored at (tabulate (i + 1) g) s

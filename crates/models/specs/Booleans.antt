@@ -2,7 +2,7 @@
 use mathlib.Core.Path.{_≡_, refl, sym, ap, _∙_}
 use mathlib.Core.Bool.{Bool, true, false, cond}
 use mathlib.Core.List.{List}
-use Prim.Native.Nat.{ℕ, zero, suc, _+_, _*_, _≤_, _<_}
+use Prim.Native.Nat.{ℕ, _+_, _*_, _≤_, _<_}
 use native.Mathlib.Omega.{arith}
 use borrow.Author.Tests.{le-leb, lt-leb}
 use lib.Dec.{eqb, leb}
@@ -12,6 +12,7 @@ use Rattle.types.specs.declared.answers.Refusal.the-variants as refusal
 use Rattle.rules.specs.Problem.{Reader, repeat, field}
 use Rattle.rules.specs.Lines.{Booleans, including}
 use Rattle.lists.specs.Tests.{clash, of-false}
+use Rattle.lists.specs.All.{getD-replicate-same}
 use Rattle.layout.specs.Fields.{fieldAt-1}
 use Rattle.masks.specs.Mask.{bits, length-bits}
 use Rattle.reader.specs.Fields.{field-good, field-bad}
@@ -67,12 +68,7 @@ pub record FlagsTo (s : List ℕ) (from i mask : ℕ) : Type 0 where
 module _ {s : List ℕ} {from : ℕ} where
   pub flags-none : FlagsTo s from 0 0
   unfolding bits
-  flags-none = record { filled = filled-none (zeros 32) }
-    where
-      zeros : (k j : ℕ) → getD (bits k 0) j false ≡ false
-      zeros zero j = refl
-      zeros (suc k) zero = refl
-      zeros (suc k) (suc j) = zeros k j
+  flags-none = record { filled = filled-none (λ j. getD-replicate-same 32 j false) }
 
   pub flags-more : {i mask : ℕ} (m : ℕ) → FlagsTo s from i mask → i < 32 → getD s (from + i) 0 ≤ 1 → bits 32 m ≡ joined i (getD s (from + i) 0) (bits 32 mask) → FlagsTo s from (i + 1) m
   flags-more {i} {mask} m f l t e =

@@ -9,8 +9,8 @@ use lib.ListN.{length, getD, set, length-set}
 use Rattle.rules.specs.Lists.{tabulate}
 use Rattle.rules.specs.Model.{booleanByte}
 use Rattle.masks.specs.Mask.{bits}
-use Rattle.fields.specs.Field.{stored}
-use Rattle.model_bytes.specs.Parts.{stored-nothing, tabulate-stored}
+use Rattle.fields.specs.Field.{stored, stored-nothing}
+use Rattle.model_bytes.specs.Parts.{tabulate-stored}
 use Rattle.model_bytes.proofs.put_booleans.Statement.{statement}
 use Rattle.model_bytes.proofs.put_booleans.Tie as tie
 
