@@ -2,7 +2,6 @@
 use mathlib.Core.Path.{_≡_, refl}
 use mathlib.Core.List.{List}
 use Prim.Native.Nat.{ℕ}
-use Rattle.rules.specs.Steps.{Step}
 use Rattle.rules.specs.Elimination.{State, running, ended, empty, overflow, outOfSteps}
 use Rattle.placing.specs.declared.place.Progress.{Progress}
 use Rattle.placing.specs.declared.place.Progress.the-variants as progress

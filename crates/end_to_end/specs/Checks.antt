@@ -4,11 +4,10 @@ use mathlib.Core.Path.{_≡_, refl, sym, ap, _∙_}
 use mathlib.Core.List.{List}
 use Prim.Native.Nat.{ℕ}
 use native.Mathlib.Omega.{arith}
-use Rattle.types.specs.declared.answers.Refusal.{Refusal}
 use Rattle.types.specs.declared.answers.Checked.{Checked}
 use Rattle.types.specs.declared.answers.Checked.the-variants as checked
 use Rattle.types.specs.Limits.{standard}
-use Rattle.types.specs.Answers.{refusalNumber, checkedNumber}
+use Rattle.types.specs.Answers.{checkedNumber}
 use Rattle.rules.specs.Problem.{Problem}
 use Rattle.rules.specs.Calls.{sound, read, proofChecked, modelChecked}
 use Rattle.soundness.specs.ProofChecked.{CheckedProof, checked-proof, proof-checked-refutes}

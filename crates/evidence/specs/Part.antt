@@ -1,5 +1,5 @@
 -- Which part is handed back: a law for each way, and that the part lies within its buffer.
-use mathlib.Core.Path.{_≡_, refl, sym, ap, _∙_}
+use mathlib.Core.Path.{_≡_, refl}
 use mathlib.Core.Bool.{Bool, true, false, _||_}
 use mathlib.Core.List.{List}
 use Prim.Native.Nat.{ℕ, _*_, _-_, _≤_}
@@ -9,7 +9,6 @@ use lib.Dec.{eqb, ltb}
 use lib.ListN.{length, take, drop}
 use Rattle.types.specs.declared.answers.Evidence.{Evidence}
 use Rattle.types.specs.declared.answers.Evidence.the-variants.{OfProof, OfModel}
-use Rattle.types.specs.declared.answers.Verdict.the-variants.{Satisfiable, Unsatisfiable}
 use Rattle.types.specs.declared.limits.Limits.{Limits}
 use Rattle.types.specs.Limits as limit
 use Rattle.types.specs.Answers.{verdictNumber}

@@ -6,7 +6,6 @@ use placing::place::Point;
 use placing::place::Progress;
 use placing::place::is_running;
 use types::limits::Limits;
-ghost use mathlib.Core.Path.{_≡_};
 ghost use mathlib.Core.List.{[]};
 ghost use Prim.Native.Nat.{_*_, _≤_};
 ghost use lib.ListN.{length};

@@ -1,17 +1,17 @@
 -- Sets of Boolean variables as numbers of 32 bits: variable i is a member if digit i is 1.
 use mathlib.Core.Path.{_≡_, refl, sym, ap, _∙_}
 use mathlib.Core.Bool.{Bool, true, false, not, cond, _||_, _&&_, Bool·beq}
-use mathlib.Core.List.{List, [], _∷_}
+use mathlib.Core.List.{[], _∷_}
 use Prim.Native.Nat.{ℕ, zero, suc, _+_, _*_, _-_, _/_, _%_, _^_, _≤_, _<_, max, min}
 use native.Mathlib.Nat.{mod-lt, pow-succ', div-one, div-div-eq-div-mul}
 use native.Mathlib.Omega.{arith}
 use lib.Pow.{pow-mono}
-use borrow.Author.Tests.{eq-eqb, ne-eqb, eqb-true, eqb-false}
+use borrow.Author.Tests.{eq-eqb, ne-eqb}
 use lib.Dec.{T, eqb, eqb→eq}
-use lib.ListN.{length, getD, set}
+use lib.ListN.{length, getD}
 use lib.Bits.{bitOr, bitAnd, or-step, or-zero-r, and-step, and-lt}
 use mir.Facts.{and-yes, yes-and}
-use Rattle.lists.specs.Tests.{tests-agree, of-true, is-true}
+use Rattle.lists.specs.Tests.{tests-agree, of-true}
 use Rattle.rules.specs.Lists.{any, same}
 use Rattle.rules.specs.Lines.{Booleans, union, meet, including, excluding}
 use Rattle.rules.specs.Steps.{mask}

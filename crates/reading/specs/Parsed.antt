@@ -9,7 +9,7 @@ use lib.ListN.{length, drop, getD}
 use Rattle.types.specs.declared.answers.Refusal.{Refusal}
 use Rattle.types.specs.Limits as limit
 use Rattle.rules.specs.Bytes.{fieldAt}
-use Rattle.rules.specs.Problem.{Clause, Problem, Read, fault, got, after, repeat, clause, end, problem}
+use Rattle.rules.specs.Problem.{Clause, Problem, Read, got, after, repeat, clause, end, problem}
 use Rattle.rules.specs.Calls.{withinSplits, read}
 use Rattle.reader.specs.declared.cursor.Scan.the-variants.{Sound, Fault}
 use Rattle.reader.specs.Sound.{SoundClauses}

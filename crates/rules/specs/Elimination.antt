@@ -111,7 +111,7 @@ loadableOf p = loadable 0 (p .booleans) (p .clauses)
 module _ (stops : Stops) where
   -- a line put to the tests; that it is wide is asked of results alone
   unfoldable pub add : Bool → Step → List Step → ℕ → State
-  add wide s steps n = placed wide (covered (s .line) steps) (stops .atSteps (length steps)) (isEmpty (s .line)) s steps n
+  add overflowing s steps n = placed overflowing (covered (s .line) steps) (stops .atSteps (length steps)) (isEmpty (s .line)) s steps n
 
   -- "Pieces load in order." "Loading drops equal lines too."
   unfoldable pub load : List Step → State → State

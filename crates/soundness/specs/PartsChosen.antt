@@ -1,4 +1,4 @@
--- Where a normal clause holds, some values of its splitting variables make every part hold: a variable is yes exactly if its part
+-- Where a normal clause holds, some values of its split variables make every part hold: a variable is yes exactly if its part
 -- fails without it.
 use mathlib.Core.Path.{_≡_, refl, sym, _∙_, subst}
 use mathlib.Core.Bool.{Bool, true, false, not}

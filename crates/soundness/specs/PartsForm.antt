@@ -1,5 +1,5 @@
 -- The form of the parts of a clause: 32 places and 8 coefficients, amounts in their range, no constant constraint, no Boolean variable in
--- both signs, and no other than the clause's and its own splitting variables.
+-- both signs, and no other than the clause's and its own split variables.
 use mathlib.Core.Path.{_≡_, _∙_}
 use mathlib.Core.Bool.{not}
 use mathlib.Core.Logic.{⊎-elim}

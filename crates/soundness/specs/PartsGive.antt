@@ -1,4 +1,4 @@
--- The parts of a normal clause give the clause: from the last one back, each splitting variable passes on what is left.
+-- The parts of a normal clause give the clause: from the last one back, each split variable passes on what is left.
 use mathlib.Core.Path.{subst}
 use mathlib.Core.Bool.{Bool, false, not}
 use mathlib.Core.Logic.{_⊎_, inl, inr, ⊎-elim}
@@ -29,7 +29,7 @@ module _ (χ : Assignment) (k : ℕ) where
   abbrev no : ℕ → Bool
   no i = not (χ .booleans i)
 
-  -- with the previous splitting variable yes, its negation fails in the next part
+  -- with the previous split variable yes, its negation fails in the next part
   unlinked : T (χ .booleans k) → T (literal χ noBooleans (including k noBooleans)) → ⊥
   unlinked y h =
       ⊎-elim (λ e. subst T (none-yes (χ .booleans)) e) (λ e. ⊎-elim (λ z. clash (χ .booleans k) y z) (λ z. subst T (none-yes no) z) (including-yes k noBooleans no e))

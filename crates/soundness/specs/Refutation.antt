@@ -1,5 +1,5 @@
 -- A proof that the check accepts is a refutation, whoever wrote it: every line holds under each assignment that satisfies the problem,
--- with values for the splitting variables, and an empty line never does.
+-- with values for the split variables, and an empty line never does.
 use mathlib.Core.Path.{_≡_}
 use mathlib.Core.Bool.{Bool, true, false, not}
 use mathlib.Core.List.{List, [], _∷_, _++_}

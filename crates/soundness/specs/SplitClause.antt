@@ -1,4 +1,4 @@
--- Splitting a clause as read keeps the question: the clause holds exactly if some values of its splitting variables make every part hold.
+-- Splitting a clause as read keeps the question: the clause holds exactly if some values of its split variables make every part hold.
 use mathlib.Core.Logic.{_↔_, _⊎_, inl, inr, ⊎-elim}
 use mathlib.Core.List.{List, []}
 use mathlib.Core.Option.{Option, none, some}
@@ -27,7 +27,7 @@ use Rattle.soundness.specs.PartsForm.{LineForm, parts-form}
 abbrev pub AllHold : Assignment → List Line → Type 0
 AllHold χ ls = All (λ l. T (lineHolds χ l)) ls
 
--- the parts of what normalizing gives, and how many splitting variables they take
+-- the parts of what normalizing gives, and how many split variables they take
 abbrev partsFrom : ℕ → Option Normal → List Line
 partsFrom k o = elim o [ none ↦ [] | some n ↦ parts k n ]
 
@@ -69,7 +69,7 @@ module _ (b r : ℕ) (c : Clause) (w : WellFormedClause b r c) where
   unfolding partsOf splitsOf
   clause-form P k z f q = form-from P k (normalClause c) (normal-within P f) (normal-within (λ i. i < k) (λ i l. omega arith)) q
 
-  -- its Boolean variables are the clause's, and its own splitting variables
+  -- its Boolean variables are the clause's, and its own split variables
   abbrev pub Own : ℕ → ℕ → Type 0
   Own k i = (i < b) ⊎ ((k ≤ i) × (i < k + splitsOf c))
 
@@ -81,7 +81,7 @@ module _ (b r : ℕ) (c : Clause) (w : WellFormedClause b r c) where
       all-any (LineForm (Own k)) (λ l. T (contains (boolean i) l)) (partsOf k c)
       (λ l f m. ⊎-elim (f .positive i) (f .negative i) (or-yes (has (l .positive) i) (has (l .negative) i) (rw (contains-boolean i l) at m))) (clause-variables k z) h
 
--- so the splitting variables of different clauses never meet: what occurs in parts of both is a variable of the problem
+-- so the split variables of different clauses never meet: what occurs in parts of both is a variable of the problem
 pub splits-apart : (b r : ℕ) (x y : Clause) → WellFormedClause b r x → WellFormedClause b r y → (k m : ℕ) → b ≤ k → k + splitsOf x ≤ m
     → (i : ℕ) → Any (λ l. T (contains (boolean i) l)) (partsOf k x) → Any (λ l. T (contains (boolean i) l)) (partsOf m y) → i < b
 splits-apart b r x y v w k m z s i h g =

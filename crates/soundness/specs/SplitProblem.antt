@@ -1,4 +1,4 @@
--- Splitting keeps the question: an assignment satisfies a problem exactly if some values of the splitting variables make every loadable
+-- Splitting keeps the question: an assignment satisfies a problem exactly if some values of the split variables make every loadable
 -- line hold.
 use mathlib.Core.Path.{_≡_, sym, _∙_, subst}
 use mathlib.Core.Bool.{Bool}
@@ -47,7 +47,7 @@ module _ (b r : ℕ) where
       (partSteps-all (LineForm P) c 0 (partsOf k x) (clause-form b r x (w .0) P k z f (λ i h l. q i h (omega arith))))
       (loadable-form P (suc c) (k + splitsOf x) xs (w .1) (omega arith) f (λ i h l. q i (omega arith) (omega arith)))
 
-  -- ---- the clauses give the lines: clause by clause, each choosing its own splitting variables
+  -- ---- the clauses give the lines: clause by clause, each choosing its own split variables
   module _ (χ : Assignment) (g : ℕ → Bool) (k : ℕ) (a : (i : ℕ) → i < k → χ .booleans i ≡ g i) where
     clauses-keep : (xs : List Clause) → All (WellFormedClause b r) xs → b ≤ k → All (λ x. T (clauseHolds χ x)) xs → All (λ x. T (clauseHolds (choosing g χ) x)) xs
     clauses-keep xs w z h =

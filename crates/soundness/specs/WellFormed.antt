@@ -22,7 +22,7 @@ pub record WellFormedClause (b r : ℕ) (c : Clause) : Type 0 where
   pub literals : All (λ l. l .boolean < b) (c .literals)
   pub constraints : All (WellFormedConstraint r) (c .constraints)
 
--- the splitting variables of all clauses
+-- the split variables of all clauses
 abbrev pub splitsIn : List Clause → ℕ
 splitsIn [] = 0
 splitsIn (c ∷ cs) = splitsOf c + splitsIn cs

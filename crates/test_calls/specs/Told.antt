@@ -1,6 +1,5 @@
 -- What a test program is told of a reading.
 use mathlib.Core.Path.{_≡_, refl}
-use Prim.Native.Nat.{ℕ}
 use lib.ListN.{length}
 use Rattle.types.specs.Answers.{refusalNumber}
 use Rattle.rules.specs.Calls.{Reading, faulty, sound}

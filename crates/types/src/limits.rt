@@ -20,7 +20,7 @@ impl Limits {
     pub const RATIONALS: usize = 8;
 
     pub const CLAUSES: usize = 256;
-    // Literals and constraints of a clause; splitting variables of a problem.
+    // Literals and constraints of a clause; split variables of a problem.
     pub const LITERALS: usize = 32;
 
     pub const CONSTRAINTS: usize = 8;

@@ -1,9 +1,7 @@
 -- `evidence::refused` meets its contract: the first test that fails decides. Assumes nothing.
-use mathlib.Core.Path.{_≡_, sym, ap, _∙_}
-use Prim.Native.Nat.{ℕ}
+use mathlib.Core.Path.{sym}
 use borrow.Author.Needs.{needs}
 use borrow.Author.Tests.{lt-ltb, le-ltb}
-use lib.Dec.{ltb}
 use lib.ListN.{length}
 use Rattle.types.specs.Limits as limit
 use Rattle.evidence.specs.Part.{refused}

@@ -4,7 +4,6 @@ use Prim.Native.Nat.{_≤_}
 use native.Mathlib.Omega.{arith}
 use borrow.Author.Needs.{needs}
 use lib.ListN.{length}
-use Rattle.types.specs.Limits as limit
 use Rattle.reader.specs.Values.{clauseEnd}
 use Rattle.reading.specs.Clauses.{end-within}
 use Rattle.reading.specs.Over.{Counting, counting-done, counting-stop, counting-next}

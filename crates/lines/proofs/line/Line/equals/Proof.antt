@@ -10,7 +10,6 @@ use mir.Facts.{toZ-ofZ}
 use Rattle.rules.specs.Lists.{same}
 use Rattle.rules.specs.Arithmetic.{equal}
 use Rattle.rules.specs.Lines.{sameLine}
-use Rattle.lines.specs.declared.line.Line.{Line}
 use Rattle.lines.specs.Line.{meaning}
 use Rattle.lines.specs.Forms.{same-is}
 use borrow.Author.Needs.{needs}
