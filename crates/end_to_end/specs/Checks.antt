@@ -1,19 +1,26 @@
 -- What an accepted book and an accepted sheet mean, said of what the exported calls return: their contracts (jemuling/src/calls.rt) are
 -- the premises.
 use mathlib.Core.Path.{_≡_, refl, sym, ap, _∙_}
+use mathlib.Core.Logic.{_↔_}
 use mathlib.Core.List.{List}
-use Prim.Native.Nat.{ℕ}
+use Prim.Native.Nat.{ℕ, _/_}
 use native.Mathlib.Omega.{arith}
+use lib.Dec.{T}
+use lib.ListN.{length}
 use Rattle.types.specs.declared.answers.Checked.{Checked}
 use Rattle.types.specs.declared.answers.Checked.the-variants as checked
+use Rattle.types.specs.Limits as limit
 use Rattle.types.specs.Limits.{standard}
 use Rattle.types.specs.Answers.{checkedNumber}
 use Rattle.rules.specs.Problem.{Problem}
-use Rattle.rules.specs.Calls.{sound, read, proofChecked, modelChecked}
+use Rattle.rules.specs.Elimination.{loadableOf}
+use Rattle.rules.specs.Calls.{sound, read, wholeSteps, proofChecked, modelChecked}
 use Rattle.soundness.specs.ProofChecked.{CheckedProof, checked-proof, proof-checked-refutes}
 use Rattle.soundness.specs.ModelChecked.{CheckedModel, model-checked-satisfies}
 use Rattle.verdicts.specs.Decided.{NoAssignment}
+use Rattle.promises.specs.Words.{Refutes, WritesAssignment}
 use Rattle.promises.specs.HandedBack.{refusal-below}
+use Rattle.promises.specs.Demand2.{demand2}
 use Rattle.jemuling.specs.declared.told.Told.{Told}
 use Rattle.jemuling.specs.Told.{checkedTold}
 
@@ -24,9 +31,29 @@ accepted-number checked.Accepted e = refl
 accepted-number (checked.Fails n) e = absurd (omega arith)
 accepted-number (checked.Refused f p) e = absurd (omega (arith, refusal-below f))
 
-told-accepted : (t : Told) (c : Checked) → t ≡ checkedTold c → t .number ≡ 67 → c ≡ checked.Accepted
-unfolding checkedTold
-told-accepted t c given e = accepted-number c (sym (ap (λ (t : Told). t .number) given) ∙ e)
+told-accepted : (t : Told) (c : Checked) → t ≡ checkedTold c → (t .number ≡ 67) ↔ (c ≡ checked.Accepted)
+unfolding checkedTold checkedNumber
+told-accepted t c given = (
+  λ e. accepted-number c (sym (ap (λ (t : Told). t .number) given) ∙ e),
+  λ e. ap (λ (t : Told). t .number) (given ∙ ap checkedTold e),
+)
+
+-- ---- demand 2: "The check accepts a book exactly if its lines follow and the last is empty, a sheet exactly if every clause holds"
+module _ (input : List ℕ) (p : Problem) (reads : read input ≡ sound p) where
+  pub proof-exactly : (proof : List ℕ) (t : Told) → t ≡ checkedTold (proofChecked standard input proof)
+      → (t .number ≡ 67) ↔ (T (wholeSteps standard (length proof)) × Refutes (loadableOf p) (length proof / limit.stepBytes) proof)
+  proof-exactly proof t given =
+      let a = told-accepted t (proofChecked standard input proof) given in
+      let d = demand2 input p reads .proof standard (omega arith) proof in
+      (λ e. d .0 (a .0 e), λ h. a .1 (d .1 h))
+
+  pub model-exactly : (model : List ℕ) (t : Told) → t ≡ checkedTold (modelChecked input model) → (t .number ≡ 67) ↔ WritesAssignment p model
+  model-exactly model t given =
+      let a = told-accepted t (modelChecked input model) given in
+      let d = demand2 input p reads .model model in
+      (λ e. d .0 (a .0 e), λ h. a .1 (d .1 h))
+
+-- ---- what accepting means, of any bytes
 
 -- a question that is read without fault, and that no choice satisfies
 pub record Refuted (input : List ℕ) : Type 0 where
@@ -37,10 +64,10 @@ pub record Refuted (input : List ℕ) : Type 0 where
 -- `jemuling_check_book`: whoever wrote the book
 pub accepted-proof : (input proof : List ℕ) (t : Told) → t ≡ checkedTold (proofChecked standard input proof) → t .number ≡ 67 → Refuted input
 accepted-proof input proof t given e =
-    let a = told-accepted t (proofChecked standard input proof) given e in
+    let a = told-accepted t (proofChecked standard input proof) given .0 e in
     let c : CheckedProof input proof = checked-proof standard input proof a in
     record { problem = c .problem; reads = c .reads; refuted = proof-checked-refutes standard input proof a (c .problem) (c .reads) }
 
 -- `jemuling_check_sheet`: the choice on the sheet satisfies the question
 pub accepted-model : (input model : List ℕ) (t : Told) → t ≡ checkedTold (modelChecked input model) → t .number ≡ 67 → CheckedModel input model
-accepted-model input model t given e = model-checked-satisfies input model (told-accepted t (modelChecked input model) given e)
+accepted-model input model t given e = model-checked-satisfies input model (told-accepted t (modelChecked input model) given .0 e)

@@ -15,7 +15,7 @@ use Rattle.rules.specs.Calls.{sound, read, Solving, solve}
 use Rattle.promises.specs.Words.{Comes, FullSize}
 use Rattle.promises.specs.HandedBack.{refusal-below, number-satisfiable, number-unsatisfiable, comes-number}
 use Rattle.promises.specs.Demand1.{Demand1, demand1}
-use Rattle.promises.specs.Demand2.{HandedBack, handed-back}
+use Rattle.promises.specs.Demand2.{Demand2, demand2, HandedBack, handed-back}
 use Rattle.promises.specs.Demand3.{Demand3, demand3}
 use Rattle.jemuling.specs.declared.told.SolvedTold.{SolvedTold}
 use Rattle.jemuling.specs.Told.{solvedTold}
@@ -35,16 +35,19 @@ number-comes Unsatisfiable a e = number-unsatisfiable a e
 number-comes Unwritten a e = number-unwritten a e
 
 -- ---- what the call promises
--- `told`, `book` and `sheet` are what it returned and left; `ours` is what document 01's definition of solving says and leaves
+-- `told`, `proof` and `model` are what it returned and left; `ours` is what document 01's definition of solving says and leaves
 pub record Delivered (input lentProof lentModel : List ℕ) (told : SolvedTold) (proof model : List ℕ) : Type 0 where
   pub ours : Solving
   pub leavesProof : proof ≡ ours .proof
   pub leavesModel : model ≡ ours .model
+  -- the answer's number, a refusal's too, and its value
+  pub number : told .number ≡ answerNumber (ours .solved .answer)
   pub value : told .value ≡ answerValue (ours .solved .answer)
   pub pairs : told .pairs ≡ ours .solved .pairs
   -- 64, 65 and 66 say the verdicts, and nothing else does
   pub verdict : (v : Verdict) → (told .number ≡ verdictNumber v) ↔ Comes v (ours .solved .answer)
   pub first : Demand1 standard input lentProof lentModel ours
+  pub second : (p : Problem) → read input ≡ sound p → Demand2 input p
   pub back : HandedBack standard input ours
   pub third : (p : Problem) → read input ≡ sound p → FullSize standard lentProof lentModel → Demand3 standard input p lentProof lentModel ours
 
@@ -59,10 +62,12 @@ delivered input lentProof lentModel told proof model t b s =
       ours = ours;
       leavesProof = b;
       leavesModel = s;
+      number = n;
       value = ap (λ (t : SolvedTold). t .value) t;
       pairs = ap (λ (t : SolvedTold). t .pairs) t;
       verdict = λ v. (λ e. number-comes v (ours .solved .answer) (sym n ∙ e), λ c. n ∙ comes-number v (ours .solved .answer) c);
       first = demand1 standard input lentProof lentModel;
+      second = demand2 input;
       back = handed-back standard (omega arith) input lentProof lentModel;
       third = λ p e full. demand3 standard (omega arith) input p e lentProof lentModel full;
     }
