@@ -19,7 +19,7 @@ use Rattle.lists.specs.Tests.{split, is-true, is-false}
 use Rattle.lists.specs.Equal.{same-yes}
 use Rattle.layout.specs.Headers.{first-back, second-back}
 
--- part k of clause c, where these clauses come and their first splits by `link`
+-- part k of clause c, where these clauses come and their first splits by `base`
 unfoldable pub partNamed : ℕ → List Clause → ℕ → ℕ → Option Line
 partNamed base [] c k = none
 partNamed base (x ∷ xs) zero k = getElem? (partsOf base x) k

@@ -62,7 +62,7 @@ pub record FullSize (limits : Limits) (proof model : List ℕ) : Type 0 where
   pub proofSize : limit.proofBytes limits ≤ length proof
   pub modelSize : limit.modelBytes ≤ length model
 
--- "ours is that sheet, and the choice on it satisfies Q": `ours` is what solving leaves, `sheet` what the lent sheet held before
+-- "ours is that sheet, and the choice on it satisfies Q": `ours` is what solving leaves, `lentModel` what the lent sheet held before
 pub record OurModel (p : Problem) (ours : Solving) (lentModel : List ℕ) : Type 0 where
   pub bytes : List ℕ
   pub size : length bytes ≡ limit.modelBytes

@@ -1,4 +1,4 @@
--- `row::wide_row` meets its contract. Invariant: the coefficients passed are amounts. Assumes nothing.
+-- `row::overflowing_row` meets its contract. Invariant: the coefficients passed are amounts. Assumes nothing.
 use mathlib.Core.Path.{_≡_, sym, ap, _∙_}
 use mathlib.Core.Bool.{not}
 use Prim.Native.Nat.{_-_}

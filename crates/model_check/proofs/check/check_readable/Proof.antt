@@ -1,4 +1,4 @@
--- `check::check_sheet` meets its contract: a law for each return.
+-- `check::check_readable` meets its contract: a law for each return.
 use mathlib.Core.Path.{sym, _∙_}
 use borrow.Author.Needs.{needs}
 use borrow.Author.Tests.{not-true, not-false}

@@ -1,4 +1,4 @@
--- `sheet::is_denominator` meets its contract. Assumes nothing.
+-- `read::is_denominator` meets its contract. Assumes nothing.
 use borrow.Author.Tests.{le-leb, lt-leb}
 use Rattle.models.specs.Read.{isDenominator}
 use Rattle.models.proofs.read.is_denominator.Statement.{statement}

@@ -1,4 +1,4 @@
--- `sheet::read_model` meets its contract: what is known of the fields passed, and a law for each return.
+-- `read::read_model` meets its contract: what is known of the fields passed, and a law for each return.
 use mathlib.Core.Path.{_≡_, sym, ap, _∙_}
 use Prim.Native.Nat.{_+_}
 use native.Mathlib.Omega.{arith}

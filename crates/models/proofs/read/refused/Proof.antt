@@ -1,4 +1,4 @@
--- `sheet::refused` meets its contract. Assumes nothing.
+-- `read::refused` meets its contract. Assumes nothing.
 use mathlib.Core.Path.{refl}
 use Rattle.models.specs.Read.{refused}
 use Rattle.models.proofs.read.refused.Statement.{statement}

@@ -1,4 +1,4 @@
--- `turn::turn` meets its contract. Assumes nothing.
+-- `rounds::round_of` meets its contract. Assumes nothing.
 use native.Mathlib.Omega.{arith}
 use Rattle.rounds.specs.Rounds.{done-rational, done-boolean, done-none}
 use borrow.Author.Needs.{needs}

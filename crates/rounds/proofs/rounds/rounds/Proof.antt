@@ -1,4 +1,4 @@
--- `turn::turns` meets its contract. Invariant: the turns that are left come to what all turns come to. Assumes nothing.
+-- `rounds::rounds` meets its contract. Invariant: the turns that are left come to what all turns come to. Assumes nothing.
 use mathlib.Core.Path.{sym, _∙_}
 use Prim.Native.Nat.{_-_}
 use native.Mathlib.Omega.{arith}
