@@ -1,9 +1,9 @@
 -- However a course ends, it leaves nothing out of what it takes up.
 use mathlib.Core.Path.{_≡_, refl, sym, ap, _∙_, subst}
 use mathlib.Core.Bool.{Bool, true, false, not, _&&_}
-use mathlib.Core.List.{List, [], _∷_, _++_, map, append-assoc, append-nil}
+use mathlib.Core.List.{List, [], _∷_, _++_, map}
 use mathlib.Core.Option.{Option, none, some}
-use Prim.Native.Nat.{ℕ, suc, _+_, _<_}
+use Prim.Native.Nat.{ℕ, suc, _+_, _-_, _<_}
 use native.Mathlib.Omega.{arith}
 use lib.Dec.{T, eqb}
 use lib.ListN.{length, length-append, length-map, drop}
@@ -13,15 +13,15 @@ use Rattle.rules.specs.Steps.{Step}
 use Rattle.rules.specs.Elimination.{Stops, State, running, ended, Numbered, Pair, roundOf, select, sideOf, roundPairs, add, load, tried, tryAll, rounds, eliminate}
 use Rattle.rules.specs.Needs.{stepsOf}
 use Rattle.lists.specs.Tests.{is-false}
-use Rattle.lists.specs.All.{All, all-map, all-append}
+use Rattle.lists.specs.All.{All, all-map}
 use Rattle.lists.specs.Dropped.{DroppedOr}
 use Rattle.saturation.specs.Rounds.{At, drop-at, drop-next}
 use Rattle.saturation.specs.Covered.{resolve-later}
 use Rattle.elimination.specs.Pairs.{PairOf, round-pairs}
 use Rattle.elimination.specs.Induction.{PairsIn, resolventOf, tried-pairs}
 use Rattle.elimination.specs.States.{load-ended, try-ended, rounds-ended}
-use Rattle.elimination.specs.Taken.{InProof, ofPair, resolventsFrom, resolvents, partLines, Complete}
-use Rattle.elimination.specs.Stretches.{in-more, Ran, After, ran-none, ran-append, add-ran, ran-weaken}
+use Rattle.elimination.specs.Taken.{ofPair, resolventsFrom, resolvents, partLines, taken, Unfinished, Complete}
+use Rattle.elimination.specs.Stretches.{Grown, grown-none, Broke, Ran, After, ran-none, took-took, took-broke, broke-longer, ran-append, add-ran, took-weaken, broke-weaken, ran-weaken}
 
 -- ---- loading
 abbrev Whatever : Step → Type 0
@@ -50,7 +50,7 @@ module _ (variables : List Variable) where
 
     resolvent-ran : (p : Pair) (m : Option Line) (steps : List Step) (n : ℕ) → DroppedOr (λ r. t < roundOf variables r) m → Ran (Late t) true (m ∷ []) steps n (tried stops v p m steps (suc n))
     unfolding tried
-    resolvent-ran p none steps n h = (record { more = []; is = sym (append-nil steps); of = tt; found = (tt, tt) }, omega arith)
+    resolvent-ran p none steps n h = (record { grown = grown-none (Late t) steps; found = (tt, tt) }, omega arith)
     resolvent-ran p (some l) steps n h = add-ran (Late t) (resolventOf v p l) steps true stops (stops .atLine l) n (suc n) h (omega arith)
 
     try-after : (ps : List Pair) (next : State) → PairsIn variables v t ps next → ((mid : List Step) (k : ℕ) → All (PairOf variables v t mid) ps → Ran (Late t) true (map (ofPair v) ps) mid k (tryAll stops v ps (running mid k)))
@@ -90,6 +90,9 @@ module _ (variables : List Variable) where
           all-map (Late t) (λ s. T (not (test side (s .line)))) more
           (λ s k. not-T (test side (s .line)) (λ q. let e : roundOf variables (s .line) ≡ t = eqb-yes (and-yes (side v (s .line)) (eqb (roundOf variables (s .line)) t) q .1) in omega arith)) h
 
+  same-at-end : (t : ℕ) (v : Variable) (steps now : List Step) → Grown (Late t) steps now → roundPairs variables v t now ≡ roundPairs variables v t steps
+  same-at-end t v steps now g = ap (roundPairs variables v t) (g .is) ∙ same-pairs t v steps (g .more) (g .of)
+
   -- ---- the turns
   module _ (stops : Stops) where
     abbrev end : ℕ → List Variable → State → State
@@ -98,15 +101,15 @@ module _ (variables : List Variable) where
     rounds-after : (t : ℕ) (vs : List Variable) (next : State) → ((mid : List Step) (k : ℕ) → Ran (Late (suc t)) true (resolventsFrom variables (suc t) vs (stepsOf (end (suc t) vs (running mid k)))) mid k (end (suc t) vs (running mid k)))
         → After (Late t) true (resolventsFrom variables (suc t) vs (stepsOf (end (suc t) vs next))) next (end (suc t) vs next)
     rounds-after t vs (running mid k) f =
-        ran-weaken (Late (suc t)) (Late t) (λ s h. omega arith) true (resolventsFrom variables (suc t) vs (stepsOf (end (suc t) vs (running mid k)))) mid k (end (suc t) vs (running mid k)) (f mid k)
+        ran-weaken (Late (suc t)) (Late t) (λ s h. omega arith) (resolventsFrom variables (suc t) vs (stepsOf (end (suc t) vs (running mid k)))) mid true k (end (suc t) vs (running mid k)) (f mid k)
     rounds-after t vs (ended e mid k) f = rounds-ended stops e mid k variables (suc t) vs
 
     -- the pairs of the turn, among the lines at the end
     at-end : (t : ℕ) (v : Variable) (ys : List (Option Line)) (steps : List Step) (n : ℕ) (final : State) → Ran (Late t) true (map (ofPair v) (roundPairs variables v t steps) ++ ys) steps n final
         → Ran (Late t) true (map (ofPair v) (roundPairs variables v t (stepsOf final)) ++ ys) steps n final
     unfolding stepsOf
-    at-end t v ys steps n (running now m) h = rw (ap (roundPairs variables v t) (h .0 .is) ∙ same-pairs t v steps (h .0 .more) (h .0 .of)) h
-    at-end t v ys steps n (ended e now m) h = rw (ap (roundPairs variables v t) (h .0 .is) ∙ same-pairs t v steps (h .0 .more) (h .0 .of)) h
+    at-end t v ys steps n (running now m) h = rw (same-at-end t v steps now (h .0 .grown)) h
+    at-end t v ys steps n (ended e now m) h = rw (same-at-end t v steps now (h .0 .grown)) h
 
     rounds-ran : (t : ℕ) (vs : List Variable) (steps : List Step) (n : ℕ) → drop t variables ≡ vs → Ran (Late t) true (resolventsFrom variables t vs (stepsOf (end t vs (running steps n)))) steps n (end t vs (running steps n))
     unfolding rounds
@@ -124,31 +127,22 @@ module _ (stops : Stops) (variables : List Variable) (parts : List Step) where
   abbrev Rounds : State → State → Type 0
   Rounds start final = After (Late variables 0) true (resolvents variables (stepsOf final)) start final
 
+  unfinished : (steps : List Step) (n : ℕ) (b : Broke Whatever (taken variables parts steps) [] steps) → n ≡ suc (length (b .done)) - length parts → Unfinished variables parts steps n
+  unfinished steps n b c = record { done = b .done; last = b .last; rest = b .rest; split = b .split; found = b .found; count = c }
+
   both : (start final : State) → Ran Whatever false (partLines parts) [] 0 start → Rounds start final → Complete variables parts final
-  unfolding stepsOf
+  unfolding stepsOf took-broke broke-longer broke-weaken
   both (running mid k) (running now m) h g = (
-    all-append (InProof now) (partLines parts) (resolvents variables now) (in-more mid now (g .0 .more) (g .0 .is) (partLines parts) (h .0 .found)) (g .0 .found),
+    took-took Whatever (partLines parts) (resolvents variables now) [] mid now (h .0) (took-weaken (Late variables 0) Whatever (λ s p. tt) (resolvents variables now) mid now (g .0)) .found,
     omega (arith, h .1, g .1),
   )
   both (running mid k) (ended e now m) h g =
-      record {
-        done = partLines parts ++ g .0 .done;
-        last = g .0 .last;
-        rest = g .0 .rest;
-        split = ap (λ (zs : List (Option Line)). partLines parts ++ zs) (g .0 .split) ∙ sym (append-assoc (partLines parts) (g .0 .done) (g .0 .last ∷ g .0 .rest));
-        found = all-append (InProof now) (partLines parts) (g .0 .done) (in-more mid now (g .0 .more) (g .0 .is) (partLines parts) (h .0 .found)) (g .0 .found);
-        count = rw (length-append (partLines parts) (g .0 .done), length-map parts (λ (s : Step). some (s .line))) (omega (arith, h .1, g .1));
-      }
+      unfinished now m (took-broke Whatever (partLines parts) (resolvents variables now) [] mid now (h .0) (broke-weaken (Late variables 0) Whatever (λ s p. tt) (resolvents variables now) mid now (g .0)))
+      (rw (length-append (partLines parts) (g .0 .done), length-map parts (λ (s : Step). some (s .line))) (omega (arith, h .1, g .1)))
   both (ended e mid k) final h g =
       subst (Complete variables parts) (sym g)
-      (record {
-        done = h .0 .done;
-        last = h .0 .last;
-        rest = h .0 .rest ++ resolvents variables mid;
-        split = ap (λ (zs : List (Option Line)). zs ++ resolvents variables mid) (h .0 .split) ∙ append-assoc (h .0 .done) (h .0 .last ∷ h .0 .rest) (resolvents variables mid);
-        found = h .0 .found;
-        count = (let q : length parts ≡ length (h .0 .done) + suc (length (h .0 .rest)) = sym (length-map parts (λ (s : Step). some (s .line))) ∙ ap length (h .0 .split) ∙ length-append (h .0 .done) (h .0 .last ∷ h .0 .rest) in omega (arith, h .1));
-      })
+      (unfinished mid k (broke-longer Whatever (partLines parts) (resolvents variables mid) [] mid (h .0))
+      (let q : length parts ≡ length (h .0 .done) + suc (length (h .0 .rest)) = sym (length-map parts (λ (s : Step). some (s .line))) ∙ ap length (h .0 .split) ∙ length-append (h .0 .done) (h .0 .last ∷ h .0 .rest) in omega (arith, h .1)))
 
   rounds-run : (start : State) → Rounds start (rounds stops variables 0 variables start)
   rounds-run (running mid k) = rounds-ran variables stops 0 variables mid k refl

@@ -16,25 +16,45 @@ use Rattle.saturation.specs.Equal.{covered-yes}
 use Rattle.elimination.specs.States.{add-cases}
 use Rattle.elimination.specs.Taken.{lines, InProof}
 
--- ---- some of it, from one book to a longer one
-pub in-more : (mid now more : List Step) → now ≡ mid ++ more → (xs : List (Option Line)) → All (InProof mid) xs → All (InProof now) xs
-in-more mid now more e xs h =
-    all-map (InProof mid) (InProof now) xs
-    (λ o k. subst (λ (S : List Line). Found _≡_ S o) (sym (ap lines e ∙ map-append (λ (s : Step). s .line) mid more)) (found-more _≡_ (lines mid) (lines more) o k)) h
-
+-- ---- a proof that grew by steps of which P holds
 module _ (P : Step → Type 0) where
-  -- all of it was taken up, and of the lines added P holds
-  pub record Took (xs : List (Option Line)) (steps now : List Step) : Type 0 where
+  pub record Grown (steps now : List Step) : Type 0 where
     pub more : List Step
     pub is : now ≡ steps ++ more
     pub of : All P more
+
+  pub grown-none : (steps : List Step) → Grown steps steps
+  grown-none steps = record { more = []; is = sym (append-nil steps); of = tt }
+
+  grown-one : (steps : List Step) (s : Step) → P s → Grown steps (steps ++ (s ∷ []))
+  grown-one steps s p = record { more = s ∷ []; is = refl; of = (p, tt) }
+
+  pub grown-twice : {steps mid now : List Step} → Grown steps mid → Grown mid now → Grown steps now
+  grown-twice {steps} h g =
+      record {
+        more = h .more ++ g .more;
+        is = let a = h .is in let b = g .is in cc (append-assoc steps (h .more) (g .more));
+        of = all-append P (h .more) (g .more) (h .of) (g .of);
+      }
+
+  pub in-grown : {mid now : List Step} → Grown mid now → (xs : List (Option Line)) → All (InProof mid) xs → All (InProof now) xs
+  in-grown {mid} {now} g xs h =
+      all-map (InProof mid) (InProof now) xs
+      (λ o k. subst (λ (S : List Line). Found _≡_ S o) (sym (ap lines (g .is) ∙ map-append (λ (s : Step). s .line) mid (g .more))) (found-more _≡_ (lines mid) (lines (g .more)) o k)) h
+
+pub grown-weaken : (P Q : Step → Type 0) → ((s : Step) → P s → Q s) → {steps now : List Step} → Grown P steps now → Grown Q steps now
+grown-weaken P Q f g = record { more = g .more; is = g .is; of = all-map P Q (g .more) f (g .of) }
+
+-- ---- a stretch
+module _ (P : Step → Type 0) where
+  -- all of it was taken up
+  pub record Took (xs : List (Option Line)) (steps now : List Step) : Type 0 where
+    pub grown : Grown P steps now
     pub found : All (InProof now) xs
 
   -- one of it ended the course, after the others before it
   pub record Broke (xs : List (Option Line)) (steps now : List Step) : Type 0 where
-    pub more : List Step
-    pub is : now ≡ steps ++ more
-    pub of : All P more
+    pub grown : Grown P steps now
     pub done : List (Option Line)
     pub last : Option Line
     pub rest : List (Option Line)
@@ -59,41 +79,32 @@ module _ (P : Step → Type 0) where
   After c ys (ended e mid k) final = final ≡ ended e mid k
 
   took-none : (steps : List Step) → Took [] steps steps
-  took-none steps = record { more = []; is = sym (append-nil steps); of = tt; found = tt }
+  took-none steps = record { grown = grown-none P steps; found = tt }
 
   pub ran-none : (c : Bool) (steps : List Step) (n : ℕ) → Ran c [] steps n (running steps n)
   ran-none true steps n = (took-none steps, omega arith)
   ran-none false steps n = (took-none steps, omega arith)
 
   module _ (xs ys : List (Option Line)) (steps : List Step) where
-    took-took : (mid now : List Step) → Took xs steps mid → Took ys mid now → Took (xs ++ ys) steps now
+    pub took-took : (mid now : List Step) → Took xs steps mid → Took ys mid now → Took (xs ++ ys) steps now
     took-took mid now h g =
-        record {
-          more = h .more ++ g .more;
-          is = let a = h .is in let b = g .is in cc (append-assoc steps (h .more) (g .more));
-          of = all-append P (h .more) (g .more) (h .of) (g .of);
-          found = all-append (InProof now) xs ys (in-more mid now (g .more) (g .is) xs (h .found)) (g .found);
-        }
+        record { grown = grown-twice P (h .grown) (g .grown); found = all-append (InProof now) xs ys (in-grown P (g .grown) xs (h .found)) (g .found) }
 
-    took-broke : (mid now : List Step) → Took xs steps mid → Broke ys mid now → Broke (xs ++ ys) steps now
+    unfoldable pub took-broke : (mid now : List Step) → Took xs steps mid → Broke ys mid now → Broke (xs ++ ys) steps now
     took-broke mid now h g =
         record {
-          more = h .more ++ g .more;
-          is = let a = h .is in let b = g .is in cc (append-assoc steps (h .more) (g .more));
-          of = all-append P (h .more) (g .more) (h .of) (g .of);
+          grown = grown-twice P (h .grown) (g .grown);
           done = xs ++ g .done;
           last = g .last;
           rest = g .rest;
           split = ap (λ (zs : List (Option Line)). xs ++ zs) (g .split) ∙ sym (append-assoc xs (g .done) (g .last ∷ g .rest));
-          found = all-append (InProof now) xs (g .done) (in-more mid now (g .more) (g .is) xs (h .found)) (g .found);
+          found = all-append (InProof now) xs (g .done) (in-grown P (g .grown) xs (h .found)) (g .found);
         }
 
-    broke-longer : (now : List Step) → Broke xs steps now → Broke (xs ++ ys) steps now
+    unfoldable pub broke-longer : (now : List Step) → Broke xs steps now → Broke (xs ++ ys) steps now
     broke-longer now b =
         record {
-          more = b .more;
-          is = b .is;
-          of = b .of;
+          grown = b .grown;
           done = b .done;
           last = b .last;
           rest = b .rest ++ ys;
@@ -116,38 +127,33 @@ module _ (P : Step → Type 0) where
 
   -- ---- one line put to the tests
   module _ (s : Step) (steps : List Step) where
-    broke-same : Broke (some (s .line) ∷ []) steps steps
-    broke-same = record { more = []; is = sym (append-nil steps); of = tt; done = []; last = some (s .line); rest = []; split = refl; found = tt }
+    broke-at : (now : List Step) → Grown P steps now → Broke (some (s .line) ∷ []) steps now
+    broke-at now g = record { grown = g; done = []; last = some (s .line); rest = []; split = refl; found = tt }
 
     pub add-ran : (c : Bool) (stops : Stops) (w : Bool) (n k : ℕ) → P s → k ≡ n + cost c 1 → Ran c (some (s .line) ∷ []) steps n (add stops w s steps k)
-    unfolding broke-same
+    unfolding broke-at
     add-ran c stops w n k p e =
-        add-cases (Ran c (some (s .line) ∷ []) steps n) s steps k stops w (λ w. (broke-same, e))
-        (λ h. (record { more = []; is = sym (append-nil steps); of = tt; found = (covered-yes (s .line) steps h, tt) }, e)) (λ m. (broke-same, e))
-        (λ m b. (record { more = s ∷ []; is = refl; of = (p, tt); done = []; last = some (s .line); rest = []; split = refl; found = tt }, e))
+        let same = broke-at steps (grown-none P steps) in
+        add-cases (Ran c (some (s .line) ∷ []) steps n) s steps k stops w (λ w. (same, e))
+        (λ h. (record { grown = grown-none P steps; found = (covered-yes (s .line) steps h, tt) }, e)) (λ m. (same, e))
+        (λ m b. (broke-at (steps ++ (s ∷ [])) (grown-one P steps s p), e))
         (λ m b. (
           record {
-            more = s ∷ [];
-            is = refl;
-            of = (p, tt);
+            grown = grown-one P steps s p;
             found = (rw (map-append (λ (x : Step). x .line) steps (s ∷ [])) (any-right (λ j. j ≡ s .line) (lines steps) (s .line ∷ []) (inl refl)), tt);
           },
           e,
         ))
 
-pub ran-weaken : (P Q : Step → Type 0) → ((s : Step) → P s → Q s) → (c : Bool) (xs : List (Option Line)) (steps : List Step) (n : ℕ) (final : State) → Ran P c xs steps n final → Ran Q c xs steps n final
-ran-weaken P Q f c xs steps n (running now m) h =
-    (record { more = h .0 .more; is = h .0 .is; of = all-map P Q (h .0 .more) f (h .0 .of); found = h .0 .found }, h .1)
-ran-weaken P Q f c xs steps n (ended e now m) h = (
-  record {
-    more = h .0 .more;
-    is = h .0 .is;
-    of = all-map P Q (h .0 .more) f (h .0 .of);
-    done = h .0 .done;
-    last = h .0 .last;
-    rest = h .0 .rest;
-    split = h .0 .split;
-    found = h .0 .found;
-  },
-  h .1,
-)
+-- ---- of less, the same
+module _ (P Q : Step → Type 0) (f : (s : Step) → P s → Q s) (xs : List (Option Line)) (steps : List Step) where
+  pub took-weaken : (now : List Step) → Took P xs steps now → Took Q xs steps now
+  took-weaken now h = record { grown = grown-weaken P Q f (h .grown); found = h .found }
+
+  unfoldable pub broke-weaken : (now : List Step) → Broke P xs steps now → Broke Q xs steps now
+  broke-weaken now h = record { grown = grown-weaken P Q f (h .grown); done = h .done; last = h .last; rest = h .rest; split = h .split; found = h .found }
+
+  pub ran-weaken : (c : Bool) (n : ℕ) (final : State) → Ran P c xs steps n final → Ran Q c xs steps n final
+  unfolding broke-weaken
+  ran-weaken c n (running now m) h = (took-weaken now (h .0), h .1)
+  ran-weaken c n (ended e now m) h = (broke-weaken now (h .0), h .1)
