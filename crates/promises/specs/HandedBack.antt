@@ -164,18 +164,20 @@ module _ (limits : Limits) (input proof model : List ℕ) where
     unfolding elimination
     held p e full = rw (demand3 limits small input p e proof model full .lines) (limited-held limits order (loadableOf p))
 
+    room : (v : Verdict) → Comes v (ours .solved .answer) → (limit.proofBytes limits ≤ length (ours .proof)) × (limit.modelBytes ≤ length (ours .model)) × (answerValue (ours .solved .answer) ≤ limits .steps)
+    room v c =
+        let r = verdict-read v c in
+        let z = demand1 limits input proof model .sizes in
+        (rw (z .0) (r .full .proofSize), rw (z .1) (r .full .modelSize), held (r .problem) (r .reads) (r .full))
+
     pub satisfiable-handed : Comes Satisfiable (ours .solved .answer) → handed ≡ OfModel limit.modelBytes
     unfolding verdictNumber
     satisfiable-handed c =
-        let r = verdict-read Satisfiable c in
-        let z = demand1 limits input proof model .sizes in
-        is-model limits (answerNumber (ours .solved .answer)) (answerValue (ours .solved .answer)) (ours .proof) (ours .model) (rw (z .0) (r .full .proofSize)) (rw (z .1) (r .full .modelSize)) (held (r .problem) (r .reads) (r .full))
-        (comes-number Satisfiable (ours .solved .answer) c)
+        let r = room Satisfiable c in
+        is-model limits (answerNumber (ours .solved .answer)) (answerValue (ours .solved .answer)) (ours .proof) (ours .model) (r .0) (r .1) (r .2) (comes-number Satisfiable (ours .solved .answer) c)
 
     pub unsatisfiable-handed : Comes Unsatisfiable (ours .solved .answer) → handed ≡ OfProof (limit.stepBytes * answerValue (ours .solved .answer))
     unfolding verdictNumber
     unsatisfiable-handed c =
-        let r = verdict-read Unsatisfiable c in
-        let z = demand1 limits input proof model .sizes in
-        is-proof limits (answerNumber (ours .solved .answer)) (answerValue (ours .solved .answer)) (ours .proof) (ours .model) (rw (z .0) (r .full .proofSize)) (rw (z .1) (r .full .modelSize)) (held (r .problem) (r .reads) (r .full))
-        (comes-number Unsatisfiable (ours .solved .answer) c)
+        let r = room Unsatisfiable c in
+        is-proof limits (answerNumber (ours .solved .answer)) (answerValue (ours .solved .answer)) (ours .proof) (ours .model) (r .0) (r .1) (r .2) (comes-number Unsatisfiable (ours .solved .answer) c)
