@@ -11,14 +11,14 @@ ghost use Rattle.rules.specs.Calls.{modelChecked};
 ghost use Rattle.reading.specs.Readable.{Readable};
 
 // Of a question that was read without fault.
-fn check_readable(input: &[u8], back: &[u8], b: u8, r: u8, n: u64) -> Checked
+fn check_readable(input: &[u8], bytes: &[u8], b: u8, r: u8, n: u64) -> Checked
     requires { ⌜ Readable (now input) b r n ⌝ }
-    ensures { λ c. ⌜ c ≡ modelChecked (now (input .entry)) (now (back .entry)) ⌝ }
+    ensures { λ c. ⌜ c ≡ modelChecked (now (input .entry)) (now (bytes .entry)) ⌝ }
 {
-    if back.len() < Limits::MODEL_BYTES {
+    if bytes.len() < Limits::MODEL_BYTES {
         return Checked::Refused(Refusal::ShortModel, 0);
     }
-    let s = read_model(back, b, r);
+    let s = read_model(bytes, b, r);
     if !s.sound {
         return Checked::Refused(Refusal::BadModel, s.place);
     }
@@ -26,12 +26,12 @@ fn check_readable(input: &[u8], back: &[u8], b: u8, r: u8, n: u64) -> Checked
     check_clauses(input, 4, r, n, model)
 }
 
-pub fn check_model(input: &[u8], back: &[u8]) -> Checked
-    ensures { λ c. ⌜ c ≡ modelChecked (now (input .entry)) (now (back .entry)) ⌝ }
+pub fn check_model(input: &[u8], bytes: &[u8]) -> Checked
+    ensures { λ c. ⌜ c ≡ modelChecked (now (input .entry)) (now (bytes .entry)) ⌝ }
 {
     let scan = read(input);
     match scan {
         Scan::Fault(f, place) => Checked::Refused(f, place),
-        Scan::Sound(b, r, n) => check_readable(input, back, b, r, n),
+        Scan::Sound(b, r, n) => check_readable(input, bytes, b, r, n),
     }
 }
