@@ -4,21 +4,23 @@ use mathlib.Core.Bool.{Bool, true, false, _&&_}
 use mathlib.Core.Logic.{_↔_, ⊎-elim}
 use mathlib.Core.List.{List, [], _∷_, _++_}
 use mathlib.Core.Option.{Option, none, some}
-use Prim.Native.Nat.{ℕ, zero, suc, _+_, _*_, _/_, _%_, _≤_}
+use Prim.Native.Nat.{ℕ, zero, suc, _+_, _*_, _/_, _%_, _≤_, _<_}
 use native.Mathlib.Omega.{arith}
+use borrow.Author.Tests.{lt-ltb, le-ltb}
 use lib.Dec.{T, eqb, leb, leb→le}
 use lib.ListN.{length, take, drop, length-append}
 use mir.Facts.{and-yes}
 use Rattle.types.specs.declared.answers.Refusal.{Refusal}
-use Rattle.types.specs.declared.answers.Refusal.the-variants.{ProofLength}
+use Rattle.types.specs.declared.answers.Refusal.the-variants.{ShortModel, ProofLength}
 use Rattle.types.specs.declared.answers.Checked.{Checked}
 use Rattle.types.specs.declared.answers.Checked.the-variants.{Accepted, Fails, Refused}
 use Rattle.types.specs.declared.limits.Limits.{Limits}
 use Rattle.types.specs.Limits as limit
-use Rattle.rules.specs.Problem.{Problem}
+use Rattle.rules.specs.Problem.{Problem, fault}
 use Rattle.rules.specs.Lines.{Line, isEmpty}
 use Rattle.rules.specs.Steps.{Step}
 use Rattle.rules.specs.Elimination.{loadableOf}
+use Rattle.rules.specs.Model.{model}
 use Rattle.rules.specs.Checker.{statedLine, checkSteps, checkProof}
 use Rattle.rules.specs.Calls.{faulty, sound, read, wholeSteps, proofChecked, modelChecked}
 use Rattle.lists.specs.Tests.{split, is-true, is-false, clash}
@@ -64,7 +66,7 @@ unfolding checkProof
 accepted-exactly p w bytes n = steps-exactly (loadableOf p) (parts-encodable p w) (length bytes / limit.stepBytes) [] false bytes tt (omega arith)
 
 -- no more lines than the limit
-whole-few : (limits : Limits) → limits .steps ≤ 65536 → (n : ℕ) → T (wholeSteps limits n) → n / limit.stepBytes ≤ 65536
+pub whole-few : (limits : Limits) → limits .steps ≤ 65536 → (n : ℕ) → T (wholeSteps limits n) → n / limit.stepBytes ≤ 65536
 unfolding wholeSteps
 whole-few limits few n t =
     let a = and-yes (leb limit.stepBytes n && leb n (limit.proofBytes limits)) (eqb (n % limit.stepBytes) 0) t in
@@ -91,6 +93,19 @@ module _ (input : List ℕ) (p : Problem) (e : read input ≡ sound p) where
     λ a. let c = model-checked-satisfies input bytes a in read-assignment bytes c (same-problem (read input) (c .problem) p (c .reads) e),
     λ h. satisfying-model-checked input bytes p (h .assignment) (h .rest) (h .place) e (h .size) (h .stated) (h .satisfies),
   )
+
+  -- what a check refuses itself: a book by its length; a sheet too short, else by the first field that is refused
+  pub proof-length-refused : (limits : Limits) (bytes : List ℕ) → wholeSteps limits (length bytes) ≡ false → proofChecked limits input bytes ≡ Refused ProofLength (length bytes)
+  unfolding proofChecked
+  proof-length-refused limits bytes h = rw (e, proofChecked, h)
+
+  pub model-short-refused : (bytes : List ℕ) → length bytes < limit.modelBytes → modelChecked input bytes ≡ Refused ShortModel 0
+  unfolding modelChecked
+  model-short-refused bytes h = rw (e, modelChecked, lt-ltb (length bytes) limit.modelBytes h)
+
+  pub model-field-refused : (bytes : List ℕ) (f : Refusal) (place : ℕ) → limit.modelBytes ≤ length bytes → model (p .booleans) (p .rationals) bytes 0 ≡ fault f place → modelChecked input bytes ≡ Refused f place
+  unfolding modelChecked
+  model-field-refused bytes f place h k = rw (e, modelChecked, le-ltb (length bytes) limit.modelBytes h, k)
 
 -- ---- and for one with a fault
 module _ (input : List ℕ) (f : Refusal) (place : ℕ) (e : read input ≡ faulty f place) where

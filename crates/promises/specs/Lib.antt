@@ -5,6 +5,7 @@ pub mod First
 pub mod Evidence
 pub mod Elimination
 pub mod Checked
+pub mod Failing
 pub mod Memory
 pub mod Left
 pub mod Denominator
