@@ -20,6 +20,7 @@ pub fn run(sums: &mut Sums) {
     solve_random(sums);
     solve_lengths(sums);
     solve_largest(sums);
+    hand_back_refusals(sums);
 }
 
 /// Both solve with buffers of these lengths, filled alike, and must leave them alike.
@@ -179,6 +180,27 @@ fn solve_largest(sums: &mut Sums) {
         group.case(&format!("{more:?} more"), || {
             let answer = compare(&largest::run(more).encode(), 1)?;
             equal("answer", &expected, &answer)
+        });
+    }
+    group.finish(sums);
+}
+
+/// A refusal hands nothing back, whatever number a caller puts into it.
+fn hand_back_refusals(sums: &mut Sums) {
+    let mut group = Group::new("handing back: refusals by any number");
+    let (book, sheet) = ([1; BOOK_LENGTH], [1; SHEET_LENGTH]);
+    for number in 0..=u8::MAX {
+        let refused = Answer::Refused {
+            number,
+            place: 5,
+            pairs: 0,
+        };
+        group.case(&format!("number {number}"), || {
+            equal(
+                "part",
+                &Part::Book(&[]),
+                &proved::hand_back(&refused, &book, &sheet),
+            )
         });
     }
     group.finish(sums);

@@ -162,7 +162,12 @@ fn hand_back_case(fields: &Fields) -> Outcome {
         _ => None,
     };
     let expected = expected.ok_or("malformed")?;
-    equal("part", &expected, &hand_back(&answer, &book, &sheet))
+    equal("part", &expected, &hand_back(&answer, &book, &sheet))?;
+    equal(
+        "proved part",
+        &expected,
+        &proved::hand_back(&answer, &book, &sheet),
+    )
 }
 
 /// Bytes that differ from place to place.
