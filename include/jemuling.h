@@ -17,9 +17,10 @@
  * conditions is cut into k pieces by k - 1 links, marks of the solver's own.
  * These are the first lines of the book. The course then eliminates one figure
  * after the other, and then the marks, by combining two lines at a time; the
- * result of such a pair is a line of the book too. A line with nothing in it
- * ends the course: the clauses contradict each other. Without one, a value for
- * each mark and figure is worked out backwards from the lines.
+ * result of such a pair, tidied, is a line of the book too. What tidying drops
+ * and what equals an earlier line is left out. A line with nothing in it ends
+ * the course: the clauses contradict each other. Without one, a value for each
+ * mark and figure is worked out backwards from the lines.
  *
  * A question, a book and a sheet are bytes that the caller owns and lends for
  * the time of one call. No call keeps a pointer or any state, allocates,
@@ -27,7 +28,7 @@
  * buffers of every length. Calls in several threads do not disturb each other
  * as long as the buffers that one of them writes are its own. A pointer may be
  * NULL where its length is 0. Buffers of one call must not overlap. A call
- * takes some two kilobytes of stack.
+ * takes at most some two and a half kilobytes of stack.
  *
  * Link with libjemuling.a; it needs memset of the C library and nothing else.
  */
@@ -82,8 +83,8 @@ enum {
     /* A verdict; `value` is the count of the book's lines. */
     JEMULING_AGREES = 64,     /* the marks and figures on the sheet satisfy the question */
     JEMULING_CANNOT = 65,     /* no marks and figures do; the book's lines show it */
-    JEMULING_UNWRITTEN = 66,  /* some do, but a bound or value that was worked out for them, or the common
-                                 denominator, is too large for a sheet */
+    JEMULING_UNWRITTEN = 66,  /* some do, but a bound or value that was worked out for them, their common
+                                 denominator, or a numerator over it is too large for a sheet */
     /* What a check found. */
     JEMULING_ACCEPTED = 67,   /* the book is a refutation, or the sheet satisfies every clause; 0 */
     JEMULING_FAILS = 68,      /* the first line that does not follow (the count of lines if only an empty last line

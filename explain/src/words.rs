@@ -50,8 +50,8 @@ fn answer(answer: Answer, pairs: u64) -> String {
                 Verdict::Agrees => "agrees",
                 Verdict::Cannot => "cannot agree",
                 Verdict::Unwritten => {
-                    "unwritten: it can agree, but a bound or a share that was worked out, or \
-                     the common denominator, is too large for the sheet"
+                    "unwritten: it can agree, but a bound or a share that was worked out, the common \
+                     denominator, or a numerator over it is too large for the sheet"
                 }
             };
             format!("{verdict} (lines of the book: {lines}, pairs tried: {pairs})")

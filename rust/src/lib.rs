@@ -1,10 +1,13 @@
 //! Jemuling's calls behind safe functions. The declarations below are those of
 //! `include/jemuling.h`, whose comments say what each call answers and leaves in the buffers.
 
-/// In bytes: a question at most, a line of a book, a full-size book and sheet.
+/// The most bytes of a question.
 pub const QUESTION_BYTES: usize = 32_768;
+/// The bytes of a book's line.
 pub const LINE_BYTES: usize = 64;
+/// The bytes of a full-size book.
 pub const BOOK_BYTES: usize = 65_536;
+/// The bytes of a sheet.
 pub const SHEET_BYTES: usize = 64;
 
 /// A refusal by its number, 1 to 17, and its place; the header says what each number means.
@@ -149,7 +152,8 @@ pub fn check_sheet(question: &[u8], sheet: &[u8]) -> Checked {
 }
 
 /// The part of book or sheet that an answer gives: the sheet after "agrees", the used lines of the
-/// book after "cannot agree", and else nothing.
+/// book after "cannot agree", and else, or with a book or sheet that is not of full size or over
+/// 1,024 lines, nothing: a part of the book without bytes.
 pub fn hand_back<'a>(answer: Answer, book: &'a [u8], sheet: &'a [u8]) -> Part<'a> {
     let (number, lines) = match answer {
         Answer::Verdict(Verdict::Agrees, lines) => (AGREES, lines),

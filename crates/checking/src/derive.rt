@@ -39,7 +39,7 @@ fn made(r: Resolved) -> Stated
     }
 }
 
-// A rational variable from 8 on occurs in no line; below: a Boolean variable from 32 on.
+// A rational variable from 8 on occurs in no line.
 fn by_rational(f: usize, upper: Line, lower: Line) -> Stated
     requires { ⌜ Ready upper ⌝ }
     requires { ⌜ Ready lower ⌝ }
@@ -81,6 +81,7 @@ fn resolvable(i: usize, upper: Line, lower: Line) -> bool
     single(upper, lower)
 }
 
+// A Boolean variable from 32 on occurs in no line.
 fn by_boolean(i: usize, upper: Line, lower: Line) -> Stated
     requires { ⌜ Ready upper ⌝ }
     requires { ⌜ Ready lower ⌝ }

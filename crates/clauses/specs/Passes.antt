@@ -1,4 +1,4 @@
--- One turn of a loop over values of one size, from the first on or from the last back.
+-- One pass of a loop over values of one size, from the first on or from the last back.
 use mathlib.Core.Path.{_≡_, ap}
 use mathlib.Core.List.{_∷_}
 use Prim.Native.Nat.{ℕ, suc, _+_, _-_, _<_}

@@ -27,7 +27,7 @@ rounds-resolvents variables steps t (suc i) (w ∷ vs) v a h =
 
 module _ (stops : Stops) (variables : List Variable) (parts steps : List Step) (n : ℕ) (e : eliminate stops variables parts ≡ running steps n) where
   complete : All (InProof steps) (partLines parts) × All (InProof steps) (resolvents variables steps)
-  complete = append-all (InProof steps) (partLines parts) (resolvents variables steps) (subst (Complete variables parts) e (elimination-complete stops variables parts) .0)
+  complete = append-all (InProof steps) (partLines parts) (resolvents variables steps) (subst (Complete stops variables parts) e (elimination-complete stops variables parts) .0)
 
   pub elimination-loaded : All (λ x. Any (λ j. j ≡ x .line) (lines steps)) parts
   elimination-loaded = mapped-all (InProof steps) (λ x. some (x .line)) parts (complete .0)

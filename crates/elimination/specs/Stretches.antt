@@ -1,20 +1,20 @@
 -- A stretch of a course: all of some lines taken up, or those up to the one that ended it; and one stretch after another.
 use mathlib.Core.Path.{_≡_, refl, sym, ap, _∙_, subst}
-use mathlib.Core.Bool.{Bool, true, false}
+use mathlib.Core.Bool.{Bool, true, false, not}
 use mathlib.Core.Logic.{inl}
 use mathlib.Core.List.{List, [], _∷_, _++_, append-assoc, append-nil}
 use mathlib.Core.Option.{Option, some}
 use Prim.Native.Nat.{ℕ, suc, _+_}
 use native.Mathlib.Omega.{arith}
+use lib.Dec.{T}
 use lib.ListN.{length, length-append}
-use Rattle.rules.specs.Lines.{Line}
 use Rattle.rules.specs.Steps.{Step}
-use Rattle.rules.specs.Elimination.{Stops, State, running, ended, add}
+use Rattle.rules.specs.Lines.{Line, isEmpty}
+use Rattle.rules.specs.Elimination.{Stops, End, empty, overflow, outOfSteps, State, running, ended, placed, covered, add}
 use Rattle.lists.specs.All.{All, all-map, all-append, any-right, map-append}
 use Rattle.saturation.specs.Covered.{Found, found-more}
 use Rattle.saturation.specs.Equal.{covered-yes}
-use Rattle.elimination.specs.States.{add-cases}
-use Rattle.elimination.specs.Taken.{lines, InProof}
+use Rattle.elimination.specs.Taken.{lines, InProof, Because}
 
 -- ---- a proof that grew by steps of which P holds
 module _ (P : Step → Type 0) where
@@ -46,20 +46,21 @@ pub grown-weaken : (P Q : Step → Type 0) → ((s : Step) → P s → Q s) → 
 grown-weaken P Q f g = record { more = g .more; is = g .is; of = all-map P Q (g .more) f (g .of) }
 
 -- ---- a stretch
-module _ (P : Step → Type 0) where
+module _ (stops : Stops) (P : Step → Type 0) where
   -- all of it was taken up
   pub record Took (xs : List (Option Line)) (steps now : List Step) : Type 0 where
     pub grown : Grown P steps now
     pub found : All (InProof now) xs
 
   -- one of it ended the course, after the others before it
-  pub record Broke (xs : List (Option Line)) (steps now : List Step) : Type 0 where
+  pub record Broke (e : End) (xs : List (Option Line)) (steps now : List Step) : Type 0 where
     pub grown : Grown P steps now
     pub done : List (Option Line)
-    pub last : Option Line
+    pub last : Line
     pub rest : List (Option Line)
-    pub split : xs ≡ done ++ (last ∷ rest)
+    pub split : xs ≡ done ++ (some last ∷ rest)
     pub found : All (InProof now) done
+    pub because : Because stops e now last
 
   -- results count as pairs, pieces do not
   abbrev pub cost : Bool → ℕ → ℕ
@@ -72,7 +73,7 @@ module _ (P : Step → Type 0) where
 
   abbrev pub Ran : Bool → List (Option Line) → List Step → ℕ → State → Type 0
   Ran c xs steps n (running now m) = Took xs steps now × (m ≡ n + cost c (length xs))
-  Ran c xs steps n (ended e now m) = (b : Broke xs steps now) × (m ≡ n + cost c (suc (length (b .done))))
+  Ran c xs steps n (ended e now m) = (b : Broke e xs steps now) × (m ≡ n + cost c (suc (length (b .done))))
 
   abbrev pub After : Bool → List (Option Line) → State → State → Type 0
   After c ys (running mid k) final = Ran c ys mid k final
@@ -90,26 +91,28 @@ module _ (P : Step → Type 0) where
     took-took mid now h g =
         record { grown = grown-twice P (h .grown) (g .grown); found = all-append (InProof now) xs ys (in-grown P (g .grown) xs (h .found)) (g .found) }
 
-    unfoldable pub took-broke : (mid now : List Step) → Took xs steps mid → Broke ys mid now → Broke (xs ++ ys) steps now
+    unfoldable pub took-broke : {e : End} (mid now : List Step) → Took xs steps mid → Broke e ys mid now → Broke e (xs ++ ys) steps now
     took-broke mid now h g =
         record {
           grown = grown-twice P (h .grown) (g .grown);
           done = xs ++ g .done;
           last = g .last;
           rest = g .rest;
-          split = ap (λ (zs : List (Option Line)). xs ++ zs) (g .split) ∙ sym (append-assoc xs (g .done) (g .last ∷ g .rest));
+          split = ap (λ (zs : List (Option Line)). xs ++ zs) (g .split) ∙ sym (append-assoc xs (g .done) (some (g .last) ∷ g .rest));
           found = all-append (InProof now) xs (g .done) (in-grown P (g .grown) xs (h .found)) (g .found);
+          because = g .because;
         }
 
-    unfoldable pub broke-longer : (now : List Step) → Broke xs steps now → Broke (xs ++ ys) steps now
+    unfoldable pub broke-longer : {e : End} (now : List Step) → Broke e xs steps now → Broke e (xs ++ ys) steps now
     broke-longer now b =
         record {
           grown = b .grown;
           done = b .done;
           last = b .last;
           rest = b .rest ++ ys;
-          split = ap (λ (zs : List (Option Line)). zs ++ ys) (b .split) ∙ append-assoc (b .done) (b .last ∷ b .rest) ys;
+          split = ap (λ (zs : List (Option Line)). zs ++ ys) (b .split) ∙ append-assoc (b .done) (some (b .last) ∷ b .rest) ys;
           found = b .found;
+          because = b .because;
         }
 
     pub ran-append : (c : Bool) (n : ℕ) (middle final : State) → Ran c xs steps n middle → After c ys middle final → Ran c (xs ++ ys) steps n final
@@ -127,33 +130,36 @@ module _ (P : Step → Type 0) where
 
   -- ---- one line put to the tests
   module _ (s : Step) (steps : List Step) where
-    broke-at : (now : List Step) → Grown P steps now → Broke (some (s .line) ∷ []) steps now
-    broke-at now g = record { grown = g; done = []; last = some (s .line); rest = []; split = refl; found = tt }
+    broke-at : (e : End) (now : List Step) → Grown P steps now → Because stops e now (s .line) → Broke e (some (s .line) ∷ []) steps now
+    broke-at e now g b = record { grown = g; done = []; last = s .line; rest = []; split = refl; found = tt; because = b }
 
-    pub add-ran : (c : Bool) (stops : Stops) (w : Bool) (n k : ℕ) → P s → k ≡ n + cost c 1 → Ran c (some (s .line) ∷ []) steps n (add stops w s steps k)
-    unfolding broke-at
-    add-ran c stops w n k p e =
-        let same = broke-at steps (grown-none P steps) in
-        add-cases (Ran c (some (s .line) ∷ []) steps n) s steps k stops w (λ w. (same, e))
-        (λ h. (record { grown = grown-none P steps; found = (covered-yes (s .line) steps h, tt) }, e)) (λ m. (same, e))
-        (λ m b. (broke-at (steps ++ (s ∷ [])) (grown-one P steps s p), e))
-        (λ m b. (
+    pub add-ran : (c : Bool) (w : Bool) (n k : ℕ) → P s → (T w → T (stops .atLine (s .line))) → k ≡ n + cost c 1 → Ran c (some (s .line) ∷ []) steps n (add stops w s steps k)
+    unfolding add placed broke-at
+    add-ran c w n k p o e = by w (covered (s .line) steps) (stops .atSteps (length steps)) (isEmpty (s .line)) o (λ h. h) (λ h. h) (λ h. h) (λ h. h)
+      where
+        by : (w known many blank : Bool) → (T w → T (stops .atLine (s .line))) → (T known → T (covered (s .line) steps)) → (T (not known) → T (not (covered (s .line) steps)))
+            → (T many → T (stops .atSteps (length steps))) → (T blank → T (isEmpty (s .line))) → Ran c (some (s .line) ∷ []) steps n (placed w known many blank s steps k)
+        by true known many blank o i j m b = (broke-at overflow steps (grown-none P steps) (o tt), e)
+        by false true many blank o i j m b = (record { grown = grown-none P steps; found = (covered-yes (s .line) steps (i tt), tt) }, e)
+        by false false true blank o i j m b = (broke-at outOfSteps steps (grown-none P steps) (j tt, m tt), e)
+        by false false false true o i j m b = (broke-at empty (steps ++ (s ∷ [])) (grown-one P steps s p) (b tt), e)
+        by false false false false o i j m b = (
           record {
             grown = grown-one P steps s p;
             found = (rw (map-append (λ (x : Step). x .line) steps (s ∷ [])) (any-right (λ j. j ≡ s .line) (lines steps) (s .line ∷ []) (inl refl)), tt);
           },
           e,
-        ))
+        )
 
 -- ---- of less, the same
-module _ (P Q : Step → Type 0) (f : (s : Step) → P s → Q s) (xs : List (Option Line)) (steps : List Step) where
-  pub took-weaken : (now : List Step) → Took P xs steps now → Took Q xs steps now
+module _ (stops : Stops) (P Q : Step → Type 0) (f : (s : Step) → P s → Q s) (xs : List (Option Line)) (steps : List Step) where
+  pub took-weaken : (now : List Step) → Took stops P xs steps now → Took stops Q xs steps now
   took-weaken now h = record { grown = grown-weaken P Q f (h .grown); found = h .found }
 
-  unfoldable pub broke-weaken : (now : List Step) → Broke P xs steps now → Broke Q xs steps now
-  broke-weaken now h = record { grown = grown-weaken P Q f (h .grown); done = h .done; last = h .last; rest = h .rest; split = h .split; found = h .found }
+  unfoldable pub broke-weaken : {e : End} (now : List Step) → Broke stops P e xs steps now → Broke stops Q e xs steps now
+  broke-weaken now h = record { grown = grown-weaken P Q f (h .grown); done = h .done; last = h .last; rest = h .rest; split = h .split; found = h .found; because = h .because }
 
-  pub ran-weaken : (c : Bool) (n : ℕ) (final : State) → Ran P c xs steps n final → Ran Q c xs steps n final
+  pub ran-weaken : (c : Bool) (n : ℕ) (final : State) → Ran stops P c xs steps n final → Ran stops Q c xs steps n final
   unfolding broke-weaken
   ran-weaken c n (running now m) h = (took-weaken now (h .0), h .1)
   ran-weaken c n (ended e now m) h = (broke-weaken now (h .0), h .1)

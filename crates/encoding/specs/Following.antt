@@ -42,7 +42,7 @@ pub record ResolventIn (earlier : List Line) (bytes : List ℕ) (l : Line) : Typ
   pub negative : T (negatively variable lower)
   pub allowed : T (pairable variable upper lower)
   pub result : resolve variable upper lower ≡ some l
-  pub narrow : T (not (overflows l))
+  pub fits : T (not (overflows l))
   pub written : encodeStep (record { origin = resolved variable first second; line = l }) ≡ bytes
 
 -- "A book's line follows if all 64 bytes are a loaded piece, or" such a result
@@ -76,8 +76,8 @@ module _ (bytes : List ℕ) (l : Line) where
       abbrev test : Bool
       test = positively v u && negatively v m && pairable v u m
 
-      narrow-resolvent : T test → (r : Line) → resolve v u m ≡ some r → cond (overflows r) none (some r) ≡ some l → ResolventIn earlier bytes l
-      narrow-resolvent t r e h =
+      fitting-resolvent : T test → (r : Line) → resolve v u m ≡ some r → cond (overflows r) none (some r) ≡ some l → ResolventIn earlier bytes l
+      fitting-resolvent t r e h =
           ⊎-elim (λ w. never (rw (is-true (overflows r) w) at h))
           (λ w. let q : r ≡ l = inside (rw (is-false (overflows r) w) at h) in
           let a = and-yes (positively v u && negatively v m) (pairable v u m) t in
@@ -94,7 +94,7 @@ module _ (bytes : List ℕ) (l : Line) where
             negative = b .1;
             allowed = a .1;
             result = e ∙ ap some q;
-            narrow = rw q at w;
+            fits = rw q at w;
             written = written;
           }) (split (overflows r))
 
@@ -104,7 +104,7 @@ module _ (bytes : List ℕ) (l : Line) where
         where
           by : T test → (o : Option Line) → resolve v u m ≡ o → _≡_ {A = Option Line} (elim o [ none ↦ none | some r ↦ cond (overflows r) none (some r) ]) (some l) → ResolventIn earlier bytes l
           by t none e h = never h
-          by t (some r) e h = narrow-resolvent t r e h
+          by t (some r) e h = fitting-resolvent t r e h
 
     -- from the parents on
     parents-resolvent : (v : Variable) (s : Step) (a b : Option Line) → getElem? earlier first ≡ a → getElem? earlier second ≡ b
@@ -153,7 +153,7 @@ module _ (parts : List Step) (known : AllEncodable parts) (earlier : List Line) 
   resolvent-encodable r =
       let u = element-all Encodable earlier (r .first) (r .upper) (r .atFirst) all in
       let m = element-all Encodable earlier (r .second) (r .lower) (r .atSecond) all in
-      record { formed = dropped-is Formed (r .result) (resolve-formed (r .variable) (r .upper) (r .lower) (u .formed) (m .formed)); small = overflows-no l .0 (r .narrow) }
+      record { formed = dropped-is Formed (r .result) (resolve-formed (r .variable) (r .upper) (r .lower) (u .formed) (m .formed)); small = overflows-no l .0 (r .fits) }
 
   pub follows-encodable : Follows parts earlier bytes l → Encodable l
   follows-encodable = ⊎-elim (λ k. all-any (λ s. Encodable (s .line)) (λ s. (encodeStep s ≡ bytes) × (s .line ≡ l)) parts (λ s h k. subst Encodable (k .1) h) known k) resolvent-encodable

@@ -2,8 +2,9 @@
 -- the premises.
 use mathlib.Core.Path.{_≡_, refl, sym, ap, _∙_}
 use mathlib.Core.Logic.{_↔_}
-use mathlib.Core.List.{List}
-use Prim.Native.Nat.{ℕ, _/_}
+use mathlib.Core.Bool.{true, false}
+use mathlib.Core.List.{List, []}
+use Prim.Native.Nat.{ℕ, _/_, _≤_}
 use native.Mathlib.Omega.{arith}
 use lib.Dec.{T}
 use lib.ListN.{length}
@@ -11,8 +12,10 @@ use Rattle.types.specs.declared.answers.Checked.{Checked}
 use Rattle.types.specs.declared.answers.Checked.the-variants as checked
 use Rattle.types.specs.Limits as limit
 use Rattle.types.specs.Limits.{standard}
-use Rattle.types.specs.Answers.{checkedNumber}
-use Rattle.rules.specs.Problem.{Problem}
+use Rattle.types.specs.Answers.{checkedNumber, checkedValue}
+use Rattle.rules.specs.Problem.{Problem, got}
+use Rattle.rules.specs.Meaning.{Assignment}
+use Rattle.rules.specs.Model.{model}
 use Rattle.rules.specs.Elimination.{loadableOf}
 use Rattle.rules.specs.Calls.{sound, read, wholeSteps, proofChecked, modelChecked}
 use Rattle.soundness.specs.ProofChecked.{CheckedProof, checked-proof, proof-checked-refutes}
@@ -20,6 +23,7 @@ use Rattle.soundness.specs.ModelChecked.{CheckedModel, model-checked-satisfies}
 use Rattle.verdicts.specs.Decided.{NoAssignment}
 use Rattle.promises.specs.Words.{Refutes, WritesAssignment}
 use Rattle.promises.specs.HandedBack.{refusal-below}
+use Rattle.promises.specs.Failing.{ClauseFails, model-fails, LineFails, proof-fails}
 use Rattle.promises.specs.Demand2.{demand2}
 use Rattle.jemuling.specs.declared.told.Told.{Told}
 use Rattle.jemuling.specs.Told.{checkedTold}
@@ -52,6 +56,26 @@ module _ (input : List ℕ) (p : Problem) (reads : read input ≡ sound p) where
       let a = told-accepted t (modelChecked input model) given in
       let d = demand2 input p reads .model model in
       (λ e. d .0 (a .0 e), λ h. a .1 (d .1 h))
+
+-- ---- 68 says the first line or clause that fails, and nothing else does
+fails-number : (c : Checked) → checkedNumber c ≡ 68 → c ≡ checked.Fails (checkedValue c)
+unfolding checkedNumber checkedValue
+fails-number checked.Accepted e = absurd (omega arith)
+fails-number (checked.Fails n) e = refl
+fails-number (checked.Refused f p) e = absurd (omega (arith, refusal-below f))
+
+told-fails : (t : Told) (c : Checked) → t ≡ checkedTold c → t .number ≡ 68 → c ≡ checked.Fails (t .value)
+unfolding checkedTold
+told-fails t c given e = fails-number c (sym (ap (λ (t : Told). t .number) given) ∙ e) ∙ ap checked.Fails (sym (ap (λ (t : Told). t .value) given))
+
+module _ (input : List ℕ) (p : Problem) (reads : read input ≡ sound p) where
+  pub proof-fails-told : (proof : List ℕ) → wholeSteps standard (length proof) ≡ true → (t : Told) → t ≡ checkedTold (proofChecked standard input proof) → t .number ≡ 68
+      → LineFails (loadableOf p) (length proof / limit.stepBytes) [] false proof (t .value)
+  proof-fails-told proof whole t given e = proof-fails input p reads standard (omega arith) proof whole (t .value) .0 (told-fails t (proofChecked standard input proof) given e)
+
+  pub model-fails-told : (bytes : List ℕ) (χ : Assignment) (rest : List ℕ) (place : ℕ) → limit.modelBytes ≤ length bytes → model (p .booleans) (p .rationals) bytes 0 ≡ got χ rest place
+      → (t : Told) → t ≡ checkedTold (modelChecked input bytes) → t .number ≡ 68 → ClauseFails χ (p .clauses) (t .value)
+  model-fails-told bytes χ rest place size states t given e = model-fails input p reads bytes χ rest place size states (t .value) .0 (told-fails t (modelChecked input bytes) given e)
 
 -- ---- what accepting means, of any bytes
 

@@ -52,7 +52,7 @@ fn byte(n: u64) -> u8
     n as u8
 }
 
-// The lowest two bytes of n, and below the lowest four.
+// The lowest two bytes of n.
 pub fn put_u16(s: &mut [u8], at: usize, n: u64)
     requires { do ⌜ at + 2 ≤ (← ⟦s.len()⟧) ⌝ }
     ensures { λ _. ⌜ now (s .exit) ≡ stored at (toBytes 2 n) (now (s .entry)) ⌝ }
@@ -61,6 +61,7 @@ pub fn put_u16(s: &mut [u8], at: usize, n: u64)
     s[at + 1] = byte(n / 256 % 256);
 }
 
+// The lowest four bytes of n.
 pub fn put_u32(s: &mut [u8], at: usize, n: u64)
     requires { do ⌜ at + 4 ≤ (← ⟦s.len()⟧) ⌝ }
     ensures { λ _. ⌜ now (s .exit) ≡ stored at (toBytes 4 n) (now (s .entry)) ⌝ }

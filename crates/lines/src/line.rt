@@ -37,7 +37,7 @@ impl Line {
         self.relation == 0
     }
 
-    // It bounds rational variable f from above; below: from below.
+    // It bounds rational variable f from above.
     pub fn has_positive_rational(self, f: usize) -> bool
         requires { ⌜ f < 8 ⌝ }
         requires { ⌜ Shaped self ⌝ }
@@ -46,6 +46,7 @@ impl Line {
         is_positive(self.coefficients[f])
     }
 
+    // It bounds rational variable f from below.
     pub fn has_negative_rational(self, f: usize) -> bool
         requires { ⌜ f < 8 ⌝ }
         requires { ⌜ Shaped self ⌝ }

@@ -33,7 +33,7 @@ pub record Demand2 (input : List ℕ) (p : Problem) : Type 0 where
   pub distinct : (stops : Stops) → Each Fresh [] (stepsOf (elimination stops p))
   -- "and none is left out.": of all pieces and all results in 01's order, each before the one that ended the course is dropped by tidying
   -- or equals a line, and all are if none ended it; the pairs count the results so far
-  pub complete : (stops : Stops) → Complete order (loadableOf p) (elimination stops p)
+  pub complete : (stops : Stops) → Complete stops order (loadableOf p) (elimination stops p)
   -- "The check accepts a book exactly if its lines follow and the last is empty, a sheet exactly if every clause holds,"
   pub proof : (limits : Limits) → limits .steps ≤ 65536 → (bytes : List ℕ) → proofChecked limits input bytes ≡ Accepted ↔ (T (wholeSteps limits (length bytes)) × Refutes (loadableOf p) (length bytes / limit.stepBytes) bytes)
   pub model : (bytes : List ℕ) → modelChecked input bytes ≡ Accepted ↔ WritesAssignment p bytes

@@ -12,7 +12,7 @@ module _ (p : Problem) (stops : Stops) where
   unfolding elimination
   elimination-lines = elimination-origins order (loadableOf p) stops
 
-  pub elimination-taken : Complete order (loadableOf p) (elimination stops p)
+  pub elimination-taken : Complete stops order (loadableOf p) (elimination stops p)
   unfolding elimination
   elimination-taken = elimination-complete stops order (loadableOf p)
 

@@ -1,4 +1,4 @@
--- Each sentence of demand 1, of the call.
+-- Each sentence of demand 1, of the definition of solving.
 use mathlib.Core.Path.{_≡_, sym, ap, subst}
 use mathlib.Core.List.{List, _++_}
 use Prim.Native.Nat.{ℕ, _*_, _-_, _≤_, _<_}

@@ -72,18 +72,18 @@ module _ (f : ℕ) (χ : Assignment) (z : 1 ≤ χ .denominator) where
         (split (aLiteralHolds χ l))
 
   -- ---- a combination that holds makes the two bounds agree
-  Agrees : Option Constraint → Option Constraint → Type 0
-  Agrees u l = OfBound (λ g. OfBound (λ h. Below (h .strict || g .strict) (h .at) (g .at)) χ f l) χ f u
+  Compatible : Option Constraint → Option Constraint → Type 0
+  Compatible u l = OfBound (λ g. OfBound (λ h. Below (h .strict || g .strict) (h .at) (g .at)) χ f l) χ f u
 
-  constraints-agree : (u l : Option Constraint) → T (isPositive (coefficient f u)) → T (isNegative (coefficient f l)) → T (theConstraintHolds χ (combinationOf f u l)) → Agrees u l
-  unfolding Agrees theConstraintHolds combinationOf combination coefficient boundOf
+  constraints-agree : (u l : Option Constraint) → T (isPositive (coefficient f u)) → T (isNegative (coefficient f l)) → T (theConstraintHolds χ (combinationOf f u l)) → Compatible u l
+  unfolding Compatible theConstraintHolds combinationOf combination coefficient boundOf
   constraints-agree none l p n h = tt
   constraints-agree (some u) none p n h = tt
   constraints-agree (some u) (some l) p n h =
       rw (or-comm (l .strict) (u .strict))
       (bounds-agree f (u .coefficients) (u .bound) (l .coefficients) (l .bound) (χ .numerators) (χ .denominator) z p n (constraint-yes χ (combination f u l) h))
 
-  lines-agree : (u l : Line) → T (gives positively χ f u) → T (gives negatively χ f l) → (T (positively (rational f) u) → T (negatively (rational f) l) → T (lineHolds χ (resolvent (rational f) u l))) → Agrees (u .constraint) (l .constraint)
+  lines-agree : (u l : Line) → T (gives positively χ f u) → T (gives negatively χ f l) → (T (positively (rational f) u) → T (negatively (rational f) l) → T (lineHolds χ (resolvent (rational f) u l))) → Compatible (u .constraint) (l .constraint)
   unfolding positively negatively resolvent
   lines-agree u l gu gl h =
       let p = and-yes (isPositive (coefficient f (u .constraint))) (not (aLiteralHolds χ u)) gu in
@@ -92,8 +92,8 @@ module _ (f : ℕ) (χ : Assignment) (z : 1 ≤ χ .denominator) where
       (λ t. constraints-agree (u .constraint) (l .constraint) (p .0) (n .0) t) (line-cases χ (resolvent (rational f) u l) (h (p .0) (n .0)))
 
   module _ (ls : List Line) (ps : PairsHold χ (rational f) ls) where
-    lowers-agree : (k : Option Constraint) → All (λ l. T (gives negatively χ f l) → Agrees k (l .constraint)) ls → OfBound (λ g. All (λ h. Below (h .strict || g .strict) (h .at) (g .at)) (gather negatively χ f ls)) χ f k
-    unfolding Agrees
+    lowers-agree : (k : Option Constraint) → All (λ l. T (gives negatively χ f l) → Compatible k (l .constraint)) ls → OfBound (λ g. All (λ h. Below (h .strict || g .strict) (h .at) (g .at)) (gather negatively χ f ls)) χ f k
+    unfolding Compatible
     lowers-agree none h = tt
     lowers-agree (some c) h = gather-all (λ h. Below (h .strict || c .strict) (h .at) (boundOf χ f c)) χ f negatively ls h
 
@@ -103,7 +103,7 @@ module _ (f : ℕ) (χ : Assignment) (z : 1 ≤ χ .denominator) where
         (all-map (λ u. All (λ l. T (positively (rational f) u) → T (negatively (rational f) l) → T (lineHolds χ (resolvent (rational f) u l))) ls)
         (λ u. T (gives positively χ f u) → OfBound (λ g. All (λ h. Below (h .strict || g .strict) (h .at) (g .at)) (gather negatively χ f ls)) χ f (u .constraint)) ls
         (λ u h gu. lowers-agree (u .constraint)
-        (all-map (λ l. T (positively (rational f) u) → T (negatively (rational f) l) → T (lineHolds χ (resolvent (rational f) u l))) (λ l. T (gives negatively χ f l) → Agrees (u .constraint) (l .constraint)) ls (λ l k gl. lines-agree u l gu gl k) h))
+        (all-map (λ l. T (positively (rational f) u) → T (negatively (rational f) l) → T (lineHolds χ (resolvent (rational f) u l))) (λ l. T (gives negatively χ f l) → Compatible (u .constraint) (l .constraint)) ls (λ l k gl. lines-agree u l gu gl k) h))
         ps)
 
     -- ---- the rule's value
