@@ -66,3 +66,9 @@ pub each-constraint-has-its-split-variable : shown (problemOf 0 1 (clauseOf [] (
     ≡ satisfiable 6 4 (loaded 0 0 ∷ loaded 0 1 ∷ loaded 0 2 ∷ loaded 1 0 ∷ resolved (rational 0) 0 3 ∷ resolved (rational 0) 2 3 ∷ []) [] (pos 6 ∷ []) 1
 unfolding definitions
 each-constraint-has-its-split-variable = refl
+
+-- "divided by the greatest common divisor of coefficients and bound": 2x ≤ 2 is x ≤ 1, which is loaded once; with -x ≤ -2 no x does
+pub equal-once-divided : shown (problemOf 0 1 (alone (atMost (pos 2 ∷ []) (pos 2)) ∷ alone (atMost (pos 1 ∷ []) (pos 1)) ∷ alone (atMost (negsuc 0 ∷ []) (negsuc 1)) ∷ []))
+    ≡ unsatisfiable 3 1 (loaded 0 0 ∷ loaded 2 0 ∷ resolved (rational 0) 0 1 ∷ [])
+unfolding definitions
+equal-once-divided = refl
