@@ -1,43 +1,35 @@
--- How a course ends: no line that it holds is empty, but the last one where it ended so.
+-- What ends a course, as the code says it.
 use mathlib.Core.Path.{_≡_, refl}
-use mathlib.Core.Bool.{Bool, false, not}
-use mathlib.Core.List.{List, [], _∷_, _++_}
-use Prim.Native.Nat.{ℕ, suc}
-use lib.Dec.{T}
-use Rattle.rules.specs.Lines.{Variable, isEmpty}
-use Rattle.rules.specs.Steps.{Step}
-use Rattle.rules.specs.Elimination.{Stops, State, running, ended, empty, overflow, outOfSteps, add, eliminate}
-use Rattle.lists.specs.All.{All, all-append}
-use Rattle.elimination.specs.States.{add-cases}
-use Rattle.elimination.specs.Induction.{resolventOf, elimination-induction}
+use mathlib.Core.List.{List}
+use Prim.Native.Nat.{ℕ}
+use Rattle.rules.specs.Elimination.{State, running, ended, empty, overflow, outOfSteps}
+use Rattle.placing.specs.declared.place.Progress.{Progress}
+use Rattle.placing.specs.declared.place.Progress.the-variants as progress
+use Rattle.placing.specs.declared.place.Point.{Point}
+use Rattle.steps.specs.Held.{stepsIn}
+use Rattle.placing.specs.Point.{stateOf, stateAt}
+use Rattle.elimination.specs.declared.eliminate.End.{End}
+use Rattle.elimination.specs.declared.eliminate.End.the-variants.{Saturated, Empty, Overflow, OutOfSteps}
 
-abbrev pub NoneEmpty : List Step → Type 0
-NoneEmpty steps = All (λ s. T (not (isEmpty (s .line)))) steps
+abbrev pub endBy : Progress → End
+endBy progress.Running = Saturated
+endBy progress.Empty = Empty
+endBy progress.Overflow = Overflow
+endBy progress.OutOfSteps = OutOfSteps
 
-pub record LastEmpty (steps : List Step) : Type 0 where
-  pub before : List Step
-  pub last : Step
-  pub is : steps ≡ before ++ (last ∷ [])
-  pub blank : T (isEmpty (last .line))
-  pub others : NoneEmpty before
+-- of the course that was run to its end
+unfoldable pub endOf : State → End
+endOf (running steps n) = Saturated
+endOf (ended empty steps n) = Empty
+endOf (ended overflow steps n) = Overflow
+endOf (ended outOfSteps steps n) = OutOfSteps
 
-abbrev pub EndsRight : State → Type 0
-EndsRight (running steps n) = NoneEmpty steps
-EndsRight (ended empty steps n) = LastEmpty steps
-EndsRight (ended overflow steps n) = NoneEmpty steps
-EndsRight (ended outOfSteps steps n) = NoneEmpty steps
-
-module _ (stops : Stops) where
-  add-ends : (w : Bool) (s : Step) (steps : List Step) (n : ℕ) → NoneEmpty steps → EndsRight (add stops w s steps n)
-  add-ends w s steps n h =
-      add-cases EndsRight s steps n stops w (λ w. h) (λ k. h) (λ m. h) (λ m e. record { before = steps; last = s; is = refl; blank = e; others = h })
-      (λ m e. all-append (λ s. T (not (isEmpty (s .line)))) steps (s ∷ []) h (e, tt))
-
-  pub elimination-ends : (variables : List Variable) (parts : List Step) → EndsRight (eliminate stops variables parts)
-  elimination-ends variables parts =
-      elimination-induction stops variables parts EndsRight
-      (record {
-        part = λ s steps n m h. add-ends false s steps n h;
-        dropped = λ t v vs e p steps n q r h. h;
-        result = λ t v vs e p l steps n q r h. add-ends (stops .atLine l) (resolventOf v p l) steps (suc n) h;
-      }) tt
+pub end-at : (proof : List ℕ) (p : Point) → endBy (p .progress) ≡ endOf (stateAt proof p)
+unfolding stateAt stateOf endOf
+end-at proof p = by (p .progress)
+  where
+    by : (g : Progress) → endBy g ≡ endOf (stateOf g (stepsIn proof (p .steps)) (p .pairs))
+    by progress.Running = refl
+    by progress.Empty = refl
+    by progress.Overflow = refl
+    by progress.OutOfSteps = refl

@@ -1,1 +1,4 @@
-// Laws of the course: specs/. There is no code here.
+// The elimination of a problem in a proof's bytes: the parts of the clauses are loaded in order, then the rounds run.
+pub mod clause;
+pub mod eliminate;
+pub mod load;

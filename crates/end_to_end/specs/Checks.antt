@@ -8,19 +8,19 @@ use Prim.Native.Nat.{ℕ, _/_, _≤_}
 use native.Mathlib.Omega.{arith}
 use lib.Dec.{T}
 use lib.ListN.{length}
-use Rattle.types.specs.declared.answers.Checked.{Checked}
-use Rattle.types.specs.declared.answers.Checked.the-variants as checked
-use Rattle.types.specs.Limits as limit
-use Rattle.types.specs.Limits.{standard}
-use Rattle.types.specs.Answers.{checkedNumber, checkedValue}
+use Rattle.rules_types.specs.declared.answers.Checked.{Checked}
+use Rattle.rules_types.specs.declared.answers.Checked.the-variants as checked
+use Rattle.rules_types.specs.Limits as limit
+use Rattle.rules_types.specs.Limits.{standard}
+use Rattle.rules_types.specs.Answers.{checkedNumber, checkedValue}
 use Rattle.rules.specs.Problem.{Problem, got}
 use Rattle.rules.specs.Meaning.{Assignment}
 use Rattle.rules.specs.Model.{model}
 use Rattle.rules.specs.Elimination.{loadableOf}
 use Rattle.rules.specs.Calls.{sound, read, wholeSteps, proofChecked, modelChecked}
-use Rattle.soundness.specs.ProofChecked.{CheckedProof, checked-proof, proof-checked-refutes}
-use Rattle.soundness.specs.ModelChecked.{CheckedModel, model-checked-satisfies}
-use Rattle.verdicts.specs.Decided.{NoAssignment}
+use Rattle.theory_checks.specs.ProofChecked.{CheckedProof, checked-proof, proof-checked-refutes}
+use Rattle.theory_checks.specs.ModelChecked.{CheckedModel, model-checked-satisfies}
+use Rattle.promises.specs.Decided.{NoAssignment}
 use Rattle.promises.specs.Words.{Refutes, WritesAssignment}
 use Rattle.promises.specs.HandedBack.{refusal-below}
 use Rattle.promises.specs.Failing.{ClauseFails, model-fails, LineFails, proof-fails}
@@ -66,16 +66,21 @@ fails-number (checked.Refused f p) e = absurd (omega (arith, refusal-below f))
 
 told-fails : (t : Told) (c : Checked) → t ≡ checkedTold c → t .number ≡ 68 → c ≡ checked.Fails (t .value)
 unfolding checkedTold
-told-fails t c given e = fails-number c (sym (ap (λ (t : Told). t .number) given) ∙ e) ∙ ap checked.Fails (sym (ap (λ (t : Told). t .value) given))
+told-fails t c given e = fails-number c (sym (ap (λ (t : Told). t .number) given) ∙ e)
+    ∙ ap checked.Fails (sym (ap (λ (t : Told). t .value) given))
 
 module _ (input : List ℕ) (p : Problem) (reads : read input ≡ sound p) where
-  pub proof-fails-told : (proof : List ℕ) → wholeSteps standard (length proof) ≡ true → (t : Told) → t ≡ checkedTold (proofChecked standard input proof) → t .number ≡ 68
+  pub proof-fails-told : (proof : List ℕ) → wholeSteps standard (length proof) ≡ true → (t : Told)
+      → t ≡ checkedTold (proofChecked standard input proof) → t .number ≡ 68
       → LineFails (loadableOf p) (length proof / limit.stepBytes) [] false proof (t .value)
-  proof-fails-told proof whole t given e = proof-fails input p reads standard (omega arith) proof whole (t .value) .0 (told-fails t (proofChecked standard input proof) given e)
+  proof-fails-told proof whole t given e =
+      proof-fails input p reads standard (omega arith) proof whole (t .value) .0 (told-fails t (proofChecked standard input proof) given e)
 
-  pub model-fails-told : (bytes : List ℕ) (χ : Assignment) (rest : List ℕ) (place : ℕ) → limit.modelBytes ≤ length bytes → model (p .booleans) (p .rationals) bytes 0 ≡ got χ rest place
+  pub model-fails-told : (bytes : List ℕ) (χ : Assignment) (rest : List ℕ) (place : ℕ) → limit.modelBytes ≤ length bytes
+      → model (p .booleans) (p .rationals) bytes 0 ≡ got χ rest place
       → (t : Told) → t ≡ checkedTold (modelChecked input bytes) → t .number ≡ 68 → ClauseFails χ (p .clauses) (t .value)
-  model-fails-told bytes χ rest place size states t given e = model-fails input p reads bytes χ rest place size states (t .value) .0 (told-fails t (modelChecked input bytes) given e)
+  model-fails-told bytes χ rest place size states t given e =
+      model-fails input p reads bytes χ rest place size states (t .value) .0 (told-fails t (modelChecked input bytes) given e)
 
 -- ---- what accepting means, of any bytes
 
@@ -86,12 +91,14 @@ pub record Refuted (input : List ℕ) : Type 0 where
   pub refuted : NoAssignment problem
 
 -- `jemuling_check_book`: whoever wrote the book
-pub accepted-proof : (input proof : List ℕ) (t : Told) → t ≡ checkedTold (proofChecked standard input proof) → t .number ≡ 67 → Refuted input
+pub accepted-proof : (input proof : List ℕ) (t : Told) → t ≡ checkedTold (proofChecked standard input proof)
+    → t .number ≡ 67 → Refuted input
 accepted-proof input proof t given e =
     let a = told-accepted t (proofChecked standard input proof) given .0 e in
     let c : CheckedProof input proof = checked-proof standard input proof a in
     record { problem = c .problem; reads = c .reads; refuted = proof-checked-refutes standard input proof a (c .problem) (c .reads) }
 
 -- `jemuling_check_sheet`: the choice on the sheet satisfies the question
-pub accepted-model : (input model : List ℕ) (t : Told) → t ≡ checkedTold (modelChecked input model) → t .number ≡ 67 → CheckedModel input model
+pub accepted-model : (input model : List ℕ) (t : Told) → t ≡ checkedTold (modelChecked input model) → t .number ≡ 67
+    → CheckedModel input model
 accepted-model input model t given e = model-checked-satisfies input model (told-accepted t (modelChecked input model) given .0 e)

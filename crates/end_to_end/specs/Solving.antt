@@ -4,12 +4,12 @@ use mathlib.Core.Logic.{_↔_}
 use mathlib.Core.List.{List}
 use Prim.Native.Nat.{ℕ}
 use native.Mathlib.Omega.{arith}
-use Rattle.types.specs.declared.answers.Verdict.{Verdict}
-use Rattle.types.specs.declared.answers.Verdict.the-variants.{Satisfiable, Unsatisfiable, Unwritten}
-use Rattle.types.specs.declared.answers.Answer.{Answer}
-use Rattle.types.specs.declared.answers.Answer.the-variants.{Decided, Refused}
-use Rattle.types.specs.Limits.{standard}
-use Rattle.types.specs.Answers.{verdictNumber, answerNumber, answerValue}
+use Rattle.rules_types.specs.declared.answers.Verdict.{Verdict}
+use Rattle.rules_types.specs.declared.answers.Verdict.the-variants.{Satisfiable, Unsatisfiable, Unwritten}
+use Rattle.rules_types.specs.declared.answers.Answer.{Answer}
+use Rattle.rules_types.specs.declared.answers.Answer.the-variants.{Decided, Refused}
+use Rattle.rules_types.specs.Limits.{standard}
+use Rattle.rules_types.specs.Answers.{verdictNumber, answerNumber, answerValue}
 use Rattle.rules.specs.Problem.{Problem}
 use Rattle.rules.specs.Calls.{sound, read, Solving, solve}
 use Rattle.promises.specs.Words.{Comes, FullSize}
@@ -49,10 +49,12 @@ pub record Delivered (input lentProof lentModel : List ℕ) (told : SolvedTold) 
   pub first : Demand1 standard input lentProof lentModel ours
   pub second : (p : Problem) → read input ≡ sound p → Demand2 input p
   pub back : HandedBack standard input ours
-  pub third : (p : Problem) → read input ≡ sound p → FullSize standard lentProof lentModel → Demand3 standard input p lentProof lentModel ours
+  pub third : (p : Problem) → read input ≡ sound p → FullSize standard lentProof lentModel
+      → Demand3 standard input p lentProof lentModel ours
 
 pub delivered : (input lentProof lentModel : List ℕ) (told : SolvedTold) (proof model : List ℕ)
-    → told ≡ solvedTold (solve standard input lentProof lentModel .solved) → proof ≡ solve standard input lentProof lentModel .proof → model ≡ solve standard input lentProof lentModel .model
+    → told ≡ solvedTold (solve standard input lentProof lentModel .solved) → proof ≡ solve standard input lentProof lentModel .proof
+    → model ≡ solve standard input lentProof lentModel .model
     → Delivered input lentProof lentModel told proof model
 unfolding solvedTold
 delivered input lentProof lentModel told proof model t b s =

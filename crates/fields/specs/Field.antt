@@ -12,9 +12,9 @@ use lib.Signed.{ltZ}
 use lib.Dec.{T}
 use lib.ListN.{length, set, take, drop, length-append, length-take, length-drop, take-append-drop}
 use lib.Seq.{drop-drop, take-at, drop-at, length-take-le, sets-eq}
-use Rattle.integers.specs.Difference.{v, #, _⊖_, ≡-by}
+use Rattle.theory_integers.specs.Difference.{v, #, _⊖_, ≡-by}
 use Rattle.rules.specs.Bytes.{toBytes, fromBytes, fromUnsigned, toUnsigned, fieldAt}
-use Rattle.layout.specs.Amounts.{fromUnsigned-high}
+use Rattle.theory_bytes.specs.Amounts.{fromUnsigned-high}
 
 -- the bytes written over those from a place on
 abbrev pub stored : ℕ → List ℕ → List ℕ → List ℕ
@@ -41,7 +41,8 @@ module _ (at n : ℕ) (s : List ℕ) where
   stored-2 h = rw (add-one at) (sets-eq (toBytes 2 n) s at h)
 
   pub stored-4 : at + 4 ≤ length s
-      → set (set (set (set s at (n % 256)) (at + 1) (n / 256 % 256)) (at + 2) (n / 65536 % 256)) (at + 3) (n / 16777216 % 256) ≡ stored at (toBytes 4 n) s
+      → set (set (set (set s at (n % 256)) (at + 1) (n / 256 % 256)) (at + 2) (n / 65536 % 256)) (at + 3) (n / 16777216 % 256)
+      ≡ stored at (toBytes 4 n) s
   unfolding toBytes
   stored-4 h =
       let i₁ : at + 1 ≡ suc at = omega arith in
@@ -59,23 +60,30 @@ pub fieldAt-stored : (at : ℕ) (bytes s : List ℕ) → at ≤ length s → fie
 unfolding fieldAt
 fieldAt-stored at bytes s h =
     let n : length (take at s) ≡ at = length-take-le at s h in
-    ap fromBytes (rw (append-assoc, drop-at (take at s) (bytes ++ drop (at + length bytes) s) at n, take-at bytes (drop (at + length bytes) s) (length bytes) refl))
+    ap fromBytes (rw (
+      append-assoc,
+      drop-at (take at s) (bytes ++ drop (at + length bytes) s) at n,
+      take-at bytes (drop (at + length bytes) s) (length bytes) refl,
+    ))
 
-pub stored-++ : (at : ℕ) (front back s : List ℕ) → at ≤ length s → stored (at + length front) back (stored at front s) ≡ stored at (front ++ back) s
+pub stored-++ : (at : ℕ) (front back s : List ℕ) → at ≤ length s
+    → stored (at + length front) back (stored at front s) ≡ stored at (front ++ back) s
 stored-++ at front back s h =
     let p = take at s ++ front in
     let i = at + length front in
     let n : length p ≡ i = length-append (take at s) front ∙ ap (λ (k : ℕ). k + length front) (length-take-le at s h) in
     let t : take i (stored at front s) ≡ p = take-at p (drop i s) i n in
     let d : drop (i + length back) (stored at front s) ≡ drop (i + length back) s =
-    sym (drop-drop (length back) i (stored at front s)) ∙ ap (drop (length back)) (drop-at p (drop i s) i n) ∙ drop-drop (length back) i s in
+    sym (drop-drop (length back) i (stored at front s)) ∙ ap (drop (length back)) (drop-at p (drop i s) i n)
+    ∙ drop-drop (length back) i s in
     rw (t, d, length-append front back, ← add-assoc at (length front) (length back), append-assoc (take at s) front back)
 
 -- nothing, and one byte more
 pub stored-nothing : (at : ℕ) (s : List ℕ) → s ≡ stored at [] s
 stored-nothing at s = let e : at + 0 ≡ at = omega arith in rw (append-nil (take at s), e) (sym (take-append-drop at s))
 
-pub byte-stored : (at j v : ℕ) (x s : List ℕ) → at + length x ≡ j → j < length (stored at x s) → at ≤ length s → set (stored at x s) j v ≡ stored at (x ++ (v ∷ [])) s
+pub byte-stored : (at j v : ℕ) (x s : List ℕ) → at + length x ≡ j → j < length (stored at x s) → at ≤ length s
+    → set (stored at x s) j v ≡ stored at (x ++ (v ∷ [])) s
 byte-stored at j v x s e h k =
     sets-eq (v ∷ []) (stored at x s) j (omega arith)
     ∙ ap (λ (i : ℕ). stored i (v ∷ []) (stored at x s)) (sym e)

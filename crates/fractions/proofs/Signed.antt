@@ -9,10 +9,10 @@ use lib.Dec.{lit<}
 use mir.Syntax.{w64}
 use mir.Val.{Fits, SFits, toZ, ofZ}
 use mir.Facts.{toZ-ofZ, toZ-pos}
-use Rattle.types.specs.Limits.{amount}
-use Rattle.integers.specs.Ring.{zero-minus}
-use Rattle.integers.specs.Size.{abs-neg, abs-+-≤}
-use Rattle.integers.specs.Quotient.{abs-quot-≤}
+use Rattle.rules_types.specs.Limits.{amount}
+use Rattle.theory_integers.specs.Ring.{zero-minus}
+use Rattle.theory_integers.specs.Size.{abs-neg, abs-+-≤}
+use Rattle.theory_integers.specs.Quotient.{abs-quot-≤}
 use Rattle.machine.specs.Signed.{fits-size}
 use Rattle.fractions.specs.Range.{word}
 use Rattle.fractions.specs.Enough.{cross-≤}

@@ -7,14 +7,14 @@ use native.Mathlib.Omega.{arith}
 use lib.IntN.{ℤ, natAbs}
 use lib.Dec.{ltb}
 use borrow.Author.Tests.{ltb-false, le-ltb}
-use Rattle.types.specs.Limits.{amount}
-use Rattle.integers.specs.Quotient.{abs-quot-≤}
+use Rattle.rules_types.specs.Limits.{amount}
+use Rattle.theory_integers.specs.Quotient.{abs-quot-≤}
 use Rattle.rules.specs.Arithmetic.{gcd}
 use Rattle.rules.specs.Values.{Fraction, reduce, quotient, beyond, Bound, absent, present, tighter, value}
-use Rattle.bounds.specs.Below.{Positive}
-use Rattle.bounds.specs.Arithmetic.{reduce-positive, quotient-has}
-use Rattle.bounds.specs.Tightest.{Each, tighter-has}
-use Rattle.bounds.specs.Value.{value-positive}
+use Rattle.theory_bounds.specs.Below.{Positive}
+use Rattle.theory_bounds.specs.Arithmetic.{reduce-positive, quotient-has}
+use Rattle.theory_bounds.specs.Tightest.{Each, tighter-has}
+use Rattle.theory_bounds.specs.Value.{value-positive}
 use Rattle.fractions.specs.Range.{Small, Within, Scaled}
 
 neither : (a b : Bool) → a || b ≡ false → (a ≡ false) × (b ≡ false)
@@ -50,7 +50,8 @@ pub quotient-small : (n a : ℤ) (d : ℕ) → Scaled n a d → beyond (quotient
 quotient-small n a d h e = not-beyond (quotient n a d) (quotient-has Positive reduce-positive n a d (h .nonzero) (h .positive)) e
 
 -- ---- the tightest bound so far
-pub tighter-within : (before : Fraction → Fraction → Bool) (x : Fraction) (s : Bool) (B : Bound) → Small x → Within B → Within (tighter before x s B)
+pub tighter-within : (before : Fraction → Fraction → Bool) (x : Fraction) (s : Bool) (B : Bound) → Small x → Within B
+    → Within (tighter before x s B)
 tighter-within before = tighter-has before (λ x s. Small x) (λ x y s t e f h k. k)
 
 -- ---- the value between two bounds, whether they agree or not

@@ -1,9 +1,9 @@
 -- The ranges of numbers that the functions ask for. They are sizes alone: no caller has to show more.
 use Prim.Native.Nat.{ℕ, _≤_, _<_}
 use lib.IntN.{ℤ, natAbs}
-use Rattle.types.specs.Limits.{amount}
+use Rattle.rules_types.specs.Limits.{amount}
 use Rattle.rules.specs.Values.{Fraction, Bound}
-use Rattle.bounds.specs.Tightest.{Each}
+use Rattle.theory_bounds.specs.Tightest.{Each}
 
 -- 9 × 10^18, which a signed word of 64 bits holds
 abbrev pub word : ℕ

@@ -6,7 +6,7 @@ use crate::product::sum;
 use crate::product::twice;
 use machine::gcd::gcd;
 use machine::sign::size;
-use types::limits::Limits;
+use rules_types::limits::Limits;
 ghost use mathlib.Core.Path.{_≡_};
 ghost use Prim.Native.Nat.{_≤_};
 ghost use lib.IntN.{pos, negsuc, natAbs};

@@ -3,7 +3,7 @@ ghost use mathlib.Core.Path.{_≡_};
 ghost use Prim.Native.Nat.{_*_, _≤_, _<_};
 ghost use lib.IntN.{pos, natAbs, negℤ, _+ℤ_, _*ℤ_};
 ghost use lib.Signed.{quotZ};
-ghost use Rattle.types.specs.Limits.{amount};
+ghost use Rattle.rules_types.specs.Limits.{amount};
 ghost use Rattle.fractions.specs.Range.{word};
 
 // A numerator times another fraction's denominator.

@@ -1,11 +1,11 @@
 -- Answers as numbers: the number and the value of every case, as types/Answers states them.
 use Prim.Native.Nat.{ℕ}
-use Rattle.types.specs.declared.answers.Refusal.{Refusal}
-use Rattle.types.specs.declared.answers.Answer.{Answer}
-use Rattle.types.specs.declared.answers.Solved.{Solved}
-use Rattle.types.specs.declared.answers.Checked.{Checked}
-use Rattle.types.specs.declared.answers.Evidence.{Evidence}
-use Rattle.types.specs.Answers.{refusalNumber, answerNumber, answerValue, checkedNumber, checkedValue, evidenceNumber, evidenceLength}
+use Rattle.rules_types.specs.declared.answers.Refusal.{Refusal}
+use Rattle.rules_types.specs.declared.answers.Answer.{Answer}
+use Rattle.rules_types.specs.declared.answers.Solved.{Solved}
+use Rattle.rules_types.specs.declared.answers.Checked.{Checked}
+use Rattle.rules_types.specs.declared.answers.Evidence.{Evidence}
+use Rattle.rules_types.specs.Answers.{refusalNumber, answerNumber, answerValue, checkedNumber, checkedValue, evidenceNumber, evidenceLength}
 use Rattle.jemuling.specs.declared.told.Told.{Told}
 use Rattle.jemuling.specs.declared.told.SolvedTold.{SolvedTold}
 

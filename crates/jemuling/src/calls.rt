@@ -1,16 +1,16 @@
 // The calls. None has a `requires`: nothing checks C's arguments but the code itself.
+use crate::evidence::evidence;
 use crate::told::SolvedTold;
 use crate::told::Told;
 use crate::told::checked_told;
 use crate::told::evidence_told;
 use crate::told::solved_told;
-use evidence::evidence;
 use model_check::check::check_model;
 use proof_check::check::check_standard;
+use rules_types::limits::Limits;
 use solving::solve::solve;
-use types::limits::Limits;
 ghost use mathlib.Core.Path.{_≡_};
-ghost use Rattle.types.specs.Limits.{standard};
+ghost use Rattle.rules_types.specs.Limits.{standard};
 ghost use Rattle.rules.specs.Calls.{solve, proofChecked, modelChecked, evidence};
 ghost use Rattle.jemuling.specs.Told.{solvedTold, checkedTold, evidenceTold};
 

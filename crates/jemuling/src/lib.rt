@@ -1,3 +1,4 @@
 // The library's calls, for C: byte slices and numbers in, numbers out. include/jemuling.h declares them.
 pub mod calls;
+pub mod evidence;
 pub mod told;

@@ -1,12 +1,12 @@
 // Answers as numbers.
-use types::answers::Answer;
-use types::answers::Checked;
-use types::answers::Evidence;
-use types::answers::Refusal;
-use types::answers::Solved;
-use types::answers::Verdict;
+use rules_types::answers::Answer;
+use rules_types::answers::Checked;
+use rules_types::answers::Evidence;
+use rules_types::answers::Refusal;
+use rules_types::answers::Solved;
+use rules_types::answers::Verdict;
 ghost use mathlib.Core.Path.{_≡_};
-ghost use Rattle.types.specs.Answers.{verdictNumber};
+ghost use Rattle.rules_types.specs.Answers.{verdictNumber};
 ghost use Rattle.jemuling.specs.Told.{refusedTold, answerTold, checkedTold, evidenceTold, solvedTold};
 
 // An answer's number and value.

@@ -21,9 +21,9 @@ use Rattle.rules.specs.Lines as rules
 use Rattle.rules.specs.Lines.{Variable, rational, boolean, contains, coefficient, isEmpty, noConstraint, sameConstraint, sameLine}
 use Rattle.rules.specs.Steps.{row}
 use Rattle.rules.specs.Elimination.{order, roundOf, overflows}
-use Rattle.resolution.specs.Members.{has-union}
-use Rattle.resolution.specs.Variables.{contains-rational, contains-boolean}
-use Rattle.lists.specs.All.{getD-replicate-same}
+use Rattle.theory_resolution.specs.Members.{has-union}
+use Rattle.theory_resolution.specs.Variables.{contains-rational, contains-boolean}
+use Rattle.theory_lists.specs.All.{getD-replicate-same}
 use Rattle.lines.specs.declared.line.Line.{Line}
 use Rattle.masks.specs.Mask.{bits, has-bits, union-bits, shifted, none-bits, same-digit, same-bits}
 use Rattle.lines.specs.Line.{constraintOf, constraintIn, meaning, Shaped}
@@ -36,7 +36,11 @@ relations P (suc (suc zero)) h a b c = c
 relations P (suc (suc (suc r))) h a b c = absurd (omega arith)
 
 -- ---- its constraint
-pub constraint-at : (r : ℕ) (cs : List ℤ) (b : ℤ) → 0 < r → constraintOf r cs b ≡ some (record { strict = eqb r 2; coefficients = cs; bound = b })
+pub constraint-at : (r : ℕ) (cs : List ℤ) (b : ℤ) → 0 < r → constraintOf r cs b ≡ some (record {
+  strict = eqb r 2;
+  coefficients = cs;
+  bound = b;
+})
 unfolding constraintOf
 constraint-at zero cs b h = absurd (omega arith)
 constraint-at (suc r) cs b h = λ i. some (record { strict = sym (eqb·suc-suc r 1) i; coefficients = cs; bound = b })
@@ -45,7 +49,8 @@ pub constraint-is : (l : Line) → 0 < l .relation → meaning l .constraint ≡
 unfolding meaning
 constraint-is l h = constraint-at (l .relation) (l .coefficients) (l .bound) h
 
-coefficient-at : (r : ℕ) (cs : List ℤ) (b : ℤ) (f : ℕ) → (r ≡ 0 → cs ≡ replicate 8 (pos 0)) → coefficient f (constraintOf r cs b) ≡ getD cs f (pos 0)
+coefficient-at : (r : ℕ) (cs : List ℤ) (b : ℤ) (f : ℕ) → (r ≡ 0 → cs ≡ replicate 8 (pos 0))
+    → coefficient f (constraintOf r cs b) ≡ getD cs f (pos 0)
 unfolding coefficient constraintOf
 coefficient-at zero cs b f h = sym (getD-replicate-same 8 f (pos 0)) ∙ ap (λ (s : List ℤ). getD s f (pos 0)) (sym (h refl))
 coefficient-at (suc r) cs b f h = refl
@@ -55,7 +60,8 @@ unfolding meaning
 coefficient-is l h f = coefficient-at (l .relation) (l .coefficients) (l .bound) f (h .coefficients)
 
 -- a test of a coefficient's machine word
-pub coefficient-test : (t : ℤ → Bool) (l : Line) (f : ℕ) {r : Bool} → Shaped l → SFits w64 (getD (l .coefficients) f (pos 0)) → r ≡ t (toZ w64 (ofZ w64 (getD (l .coefficients) f (pos 0)))) → r ≡ t (coefficient f (meaning l .constraint))
+pub coefficient-test : (t : ℤ → Bool) (l : Line) (f : ℕ) {r : Bool} → Shaped l → SFits w64 (getD (l .coefficients) f (pos 0))
+    → r ≡ t (toZ w64 (ofZ w64 (getD (l .coefficients) f (pos 0)))) → r ≡ t (coefficient f (meaning l .constraint))
 coefficient-test t l f h w e = e ∙ ap t (toZ-ofZ w ∙ sym (coefficient-is l h f))
 
 none-at : (r : ℕ) (cs : List ℤ) (b : ℤ) → noConstraint (constraintOf r cs b) ≡ eqb r 0
@@ -63,18 +69,21 @@ unfolding noConstraint constraintOf
 none-at zero cs b = refl
 none-at (suc r) cs b = sym (eqb·suc-zero r)
 
-pub empty-is : (l : Line) → l .positive < 2 ^ 32 → l .negative < 2 ^ 32 → isEmpty (meaning l) ≡ eqb (l .positive) 0 && eqb (l .negative) 0 && eqb (l .relation) 0
+pub empty-is : (l : Line) → l .positive < 2 ^ 32 → l .negative < 2 ^ 32 → isEmpty (meaning l) ≡ eqb (l .positive) 0
+    && eqb (l .negative) 0 && eqb (l .relation) 0
 unfolding meaning isEmpty
 empty-is l h k = rw (none-bits 32 (l .positive) h, none-bits 32 (l .negative) k, none-at (l .relation) (l .coefficients) (l .bound))
 
 -- ---- equal lines
-same-at : (r : ℕ) (cs : List ℤ) (b : ℤ) (s : ℕ) (ds : List ℤ) (d : ℤ) → r ≤ 2 → s ≤ 2 → (r ≡ 0 → cs ≡ replicate 8 (pos 0)) → (s ≡ 0 → ds ≡ replicate 8 (pos 0)) → (r ≡ 0 → b ≡ pos 0) → (s ≡ 0 → d ≡ pos 0)
+same-at : (r : ℕ) (cs : List ℤ) (b : ℤ) (s : ℕ) (ds : List ℤ) (d : ℤ) → r ≤ 2 → s ≤ 2 → (r ≡ 0 → cs ≡ replicate 8 (pos 0))
+    → (s ≡ 0 → ds ≡ replicate 8 (pos 0)) → (r ≡ 0 → b ≡ pos 0) → (s ≡ 0 → d ≡ pos 0)
     → sameConstraint (constraintOf r cs b) (constraintOf s ds d) ≡ equal b d && (eqb r s && same equal cs ds)
 unfolding sameConstraint constraintOf equal same
 same-at zero cs b zero ds d l m h i j k = rw (h refl, i refl, j refl, k refl)
 same-at zero cs b (suc s) ds d l m h i j k = rw (eqb·zero-suc s) (sym (and-false (equal b d)))
 same-at (suc r) cs b zero ds d l m h i j k = rw (eqb·suc-zero r) (sym (and-false (equal b d)))
-same-at (suc r) cs b (suc s) ds d l m h i j k = rw (eqb·suc-suc r s, same-digit r s (omega arith) (omega arith)) (and-assoc (equal b d) (eqb r s) (same equal cs ds))
+same-at (suc r) cs b (suc s) ds d l m h i j k =
+    rw (eqb·suc-suc r s, same-digit r s (omega arith) (omega arith)) (and-assoc (equal b d) (eqb r s) (same equal cs ds))
 
 regroup : (a e s p n : Bool) → (a && (e && s)) && p && n ≡ a && (e && (p && (n && s)))
 regroup false e s p n = refl
@@ -88,15 +97,23 @@ regroup true true false true true = refl
 
 -- the bound first: it tells most lines apart
 pub same-is : (l m : Line) → Shaped l → Shaped m → l .positive < 2 ^ 32 → l .negative < 2 ^ 32 → m .positive < 2 ^ 32 → m .negative < 2 ^ 32
-    → sameLine (meaning l) (meaning m) ≡ equal (l .bound) (m .bound) && (eqb (l .relation) (m .relation) && (eqb (l .positive) (m .positive) && (eqb (l .negative) (m .negative) && same equal (l .coefficients) (m .coefficients))))
+    → sameLine (meaning l) (meaning m) ≡ equal (l .bound) (m .bound) && (eqb (l .relation) (m .relation)
+    && (eqb (l .positive) (m .positive) && (eqb (l .negative) (m .negative) && same equal (l .coefficients) (m .coefficients))))
 unfolding meaning sameLine
 same-is l m h k a b c d =
-    rw (same-at (l .relation) (l .coefficients) (l .bound) (m .relation) (m .coefficients) (m .bound) (h .related) (k .related) (h .coefficients) (k .coefficients) (h .bound) (k .bound), same-bits 32 (l .positive) (m .positive) a c, same-bits 32 (l .negative) (m .negative) b d)
-    (regroup (equal (l .bound) (m .bound)) (eqb (l .relation) (m .relation)) (same equal (l .coefficients) (m .coefficients)) (eqb (l .positive) (m .positive)) (eqb (l .negative) (m .negative)))
+    rw (
+      same-at (l .relation) (l .coefficients) (l .bound) (m .relation) (m .coefficients) (m .bound) (h .related) (k .related)
+          (h .coefficients) (k .coefficients) (h .bound) (k .bound),
+      same-bits 32 (l .positive) (m .positive) a c,
+      same-bits 32 (l .negative) (m .negative) b d,
+    )
+    (regroup (equal (l .bound) (m .bound)) (eqb (l .relation) (m .relation)) (same equal (l .coefficients) (m .coefficients))
+    (eqb (l .positive) (m .positive)) (eqb (l .negative) (m .negative)))
 
 -- ---- amounts
 -- rows of zeros, and so of equal numbers
-row-at : (r : ℕ) (cs : List ℤ) (b : ℤ) → (r ≡ 0 → cs ≡ replicate 8 (pos 0)) → (r ≡ 0 → b ≡ pos 0) → row (constraintOf r cs b) ≡ cs ++ (b ∷ [])
+row-at : (r : ℕ) (cs : List ℤ) (b : ℤ) → (r ≡ 0 → cs ≡ replicate 8 (pos 0)) → (r ≡ 0 → b ≡ pos 0)
+    → row (constraintOf r cs b) ≡ cs ++ (b ∷ [])
 unfolding row constraintOf
 row-at zero cs b h k = rw (h refl, k refl)
 row-at (suc r) cs b h k = refl
@@ -133,13 +150,15 @@ round-step v vs l = by (contains v l)
     by true = refl
     by false = refl
 
-rounds-rational : (n : ℕ) (f : ℕ → Variable) (cs : List ℤ) (vs : List Variable) (l : rules.Line) → length cs ≡ n → ((i : ℕ) → contains (f i) l ≡ not (isZero (getD cs i (pos 0))))
+rounds-rational : (n : ℕ) (f : ℕ → Variable) (cs : List ℤ) (vs : List Variable) (l : rules.Line) → length cs ≡ n
+    → ((i : ℕ) → contains (f i) l ≡ not (isZero (getD cs i (pos 0))))
     → roundOf (tabulate n f ++ vs) l ≡ leading cs (roundOf vs l)
 unfolding tabulate roundOf leading
 rounds-rational zero f [] vs l h e = refl
 rounds-rational zero f (c ∷ cs) vs l h e = absurd (omega arith)
 rounds-rational (suc n) f [] vs l h e = absurd (omega arith)
-rounds-rational (suc n) f (c ∷ cs) vs l h e = round-step (f 0) (tabulate n (λ i. f (suc i)) ++ vs) l ∙ rw (e 0, rounds-rational n (λ i. f (suc i)) cs vs l (omega arith) (λ i. e (suc i)))
+rounds-rational (suc n) f (c ∷ cs) vs l h e = round-step (f 0) (tabulate n (λ i. f (suc i)) ++ vs) l
+    ∙ rw (e 0, rounds-rational n (λ i. f (suc i)) cs vs l (omega arith) (λ i. e (suc i)))
 
 contains-bits : (l : Line) (i : ℕ) → i < 32 → contains (boolean i) (meaning l) ≡ eqb (bitOr (l .positive) (l .negative) / 2 ^ i % 2) 1
 unfolding meaning
@@ -149,12 +168,17 @@ contains-bits l i h =
     ∙ ap (λ (s : rules.Booleans). getD s i false) (union-bits 32 (l .positive) (l .negative))
     ∙ has-bits 32 (bitOr (l .positive) (l .negative)) i h
 
-rounds-boolean : (k : ℕ) (f : ℕ → Variable) (m : ℕ) (l : rules.Line) → ((i : ℕ) → i < k → contains (f i) l ≡ eqb (m / 2 ^ i % 2) 1) → roundOf (tabulate k f) l ≡ trailingZeros k m
+rounds-boolean : (k : ℕ) (f : ℕ → Variable) (m : ℕ) (l : rules.Line) → ((i : ℕ) → i < k → contains (f i) l ≡ eqb (m / 2 ^ i % 2) 1)
+    → roundOf (tabulate k f) l ≡ trailingZeros k m
 unfolding tabulate roundOf trailingZeros
 rounds-boolean zero f m l e = refl
 rounds-boolean (suc k) f m l e =
     round-step (f 0) (tabulate k (λ i. f (suc i))) l
-    ∙ rw (e 0 (omega arith), div-one m, rounds-boolean k (λ i. f (suc i)) (m / 2) l (λ i h. e (suc i) (omega arith) ∙ ap (λ (x : ℕ). eqb (x % 2) 1) (shifted m i)))
+    ∙ rw (
+      e 0 (omega arith),
+      div-one m,
+      rounds-boolean k (λ i. f (suc i)) (m / 2) l (λ i h. e (suc i) (omega arith) ∙ ap (λ (x : ℕ). eqb (x % 2) 1) (shifted m i)),
+    )
     (by (m % 2) (mod-lt m (omega arith)))
   where
     by : (d : ℕ) → d < 2 → here (eqb d 1) (trailingZeros k (m / 2)) ≡ under d (trailingZeros k (m / 2))
@@ -162,11 +186,14 @@ rounds-boolean (suc k) f m l e =
     by (suc zero) h = refl
     by (suc (suc d)) h = absurd (omega arith)
 
-pub round-is : (l : Line) → Shaped l → length (l .coefficients) ≡ 8 → roundOf order (meaning l) ≡ leading (l .coefficients) (trailingZeros 32 (bitOr (l .positive) (l .negative)))
+pub round-is : (l : Line) → Shaped l → length (l .coefficients) ≡ 8
+    → roundOf order (meaning l) ≡ leading (l .coefficients) (trailingZeros 32 (bitOr (l .positive) (l .negative)))
 unfolding order
 round-is l h n =
-    rounds-rational 8 rational (l .coefficients) (tabulate 32 boolean) (meaning l) n (λ f. contains-rational f (meaning l) ∙ ap (λ (z : ℤ). not (isZero z)) (coefficient-is l h f))
-    ∙ ap (λ (r : ℕ). leading (l .coefficients) r) (rounds-boolean 32 boolean (bitOr (l .positive) (l .negative)) (meaning l) (λ i k. contains-bits l i k))
+    rounds-rational 8 rational (l .coefficients) (tabulate 32 boolean) (meaning l) n
+    (λ f. contains-rational f (meaning l) ∙ ap (λ (z : ℤ). not (isZero z)) (coefficient-is l h f))
+    ∙ ap (λ (r : ℕ). leading (l .coefficients) r)
+    (rounds-boolean 32 boolean (bitOr (l .positive) (l .negative)) (meaning l) (λ i k. contains-bits l i k))
 
 pub leading-≤ : (cs : List ℤ) (rest : ℕ) → leading cs rest ≤ length cs + rest
 unfolding leading
@@ -178,13 +205,16 @@ leading-≤ (c ∷ cs) rest = by (not (isZero c)) (leading-≤ cs rest)
     by false h = omega arith
 
 -- where a scan has found it, and after all
-pub leading-at : (cs : List ℤ) (i rest : ℕ) → ((k : ℕ) → k < i → not (isZero (getD cs k (pos 0))) ≡ false) → i < length cs → not (isZero (getD cs i (pos 0))) ≡ true → leading cs rest ≡ i
+pub leading-at : (cs : List ℤ) (i rest : ℕ) → ((k : ℕ) → k < i → not (isZero (getD cs k (pos 0))) ≡ false) → i < length cs
+    → not (isZero (getD cs i (pos 0))) ≡ true → leading cs rest ≡ i
 unfolding leading
 leading-at [] i rest e h f = absurd (omega arith)
 leading-at (c ∷ cs) zero rest e h f = rw f
-leading-at (c ∷ cs) (suc i) rest e h f = rw (e 0 (omega arith)) (ap suc (leading-at cs i rest (λ k l. e (suc k) (omega arith)) (omega arith) f))
+leading-at (c ∷ cs) (suc i) rest e h f =
+    rw (e 0 (omega arith)) (ap suc (leading-at cs i rest (λ k l. e (suc k) (omega arith)) (omega arith) f))
 
-pub leading-none : (cs : List ℤ) (rest : ℕ) → ((k : ℕ) → k < length cs → not (isZero (getD cs k (pos 0))) ≡ false) → leading cs rest ≡ length cs + rest
+pub leading-none : (cs : List ℤ) (rest : ℕ) → ((k : ℕ) → k < length cs → not (isZero (getD cs k (pos 0))) ≡ false)
+    → leading cs rest ≡ length cs + rest
 unfolding leading
 leading-none [] rest e = omega arith
 leading-none (c ∷ cs) rest e = let r = leading-none cs rest (λ k l. e (suc k) (omega arith)) in rw (e 0 (omega arith)) (omega arith)

@@ -8,7 +8,7 @@ use lib.Dec.{eqb}
 use lib.ListN.{replicate}
 use Rattle.rules.specs.Problem.{Constraint}
 use Rattle.rules.specs.Lines as rules
-use Rattle.vectors.specs.Amounts.{Small, Amounts}
+use Rattle.theory_vectors.specs.Amounts.{Small, Amounts}
 use Rattle.lines.specs.declared.line.Line.{Line}
 use Rattle.masks.specs.Mask.{bits}
 
@@ -22,7 +22,11 @@ abbrev pub constraintIn : Line → Constraint
 constraintIn l = record { strict = eqb (l .relation) 2; coefficients = l .coefficients; bound = l .bound }
 
 unfoldable pub meaning : Line → rules.Line
-meaning l = record { positive = bits 32 (l .positive); negative = bits 32 (l .negative); constraint = constraintOf (l .relation) (l .coefficients) (l .bound) }
+meaning l = record {
+  positive = bits 32 (l .positive);
+  negative = bits 32 (l .negative);
+  constraint = constraintOf (l .relation) (l .coefficients) (l .bound);
+}
 
 -- "Without a condition, coefficients and bound are 0."
 pub record Shaped (l : Line) : Type 0 where

@@ -4,9 +4,9 @@ use mathlib.Core.Bool.{false}
 use mathlib.Core.List.{[], _∷_}
 use Prim.Native.Nat.{ℕ, zero, suc}
 use Rattle.rules.specs.Elimination.{overflows}
-use Rattle.lists.specs.Tests.{of-false}
-use Rattle.lists.specs.All.{All, append-all}
-use Rattle.vectors.specs.Amounts.{Small, SmallAmounts, amounts-small, small-amounts, row-small, overflows-no}
+use Rattle.theory_lists.specs.Tests.{of-false}
+use Rattle.theory_lists.specs.All.{All, append-all}
+use Rattle.theory_vectors.specs.Amounts.{Small, SmallAmounts, amounts-small, small-amounts, row-small, overflows-no}
 use Rattle.lines.specs.declared.line.Line.{Line}
 use Rattle.lines.specs.Line.{constraintOf, meaning, Shaped, Ready}
 use Rattle.lines.specs.Forms.{row-is}

@@ -10,8 +10,8 @@ use mir.Syntax.{w64}
 use mir.Val.{SFits, ofZ, toZ}
 use mir.Facts.{toZ-ofZ}
 use Rattle.rules.specs.Arithmetic.{equal}
-use Rattle.lists.specs.Tests.{tests-agree}
-use Rattle.vectors.specs.Sign.{equal-yes, yes-equal}
+use Rattle.theory_lists.specs.Tests.{tests-agree}
+use Rattle.theory_vectors.specs.Sign.{equal-yes, yes-equal}
 use Rattle.machine.specs.Signed.{bits-injective}
 
 -- the test has held at no place so far

@@ -2,12 +2,13 @@
 use mathlib.Core.Path.{_≡_, refl, sym, ap, _∙_}
 use mathlib.Core.Logic.{⊎-elim}
 use Prim.Native.Nat.{ℕ, zero, suc, _+_, _*_, _-_, _/_, _%_, _^_, _≤_, _<_, _∣_, min, max}
-use native.Mathlib.Nat.{div-one, div-div-eq-div-mul, pow-succ', dvd-antisymm, dvd-mul-left-of-dvd, mul-div-cancel', dvd-mul-right, dvd-sub, dvd-add, le-of-dvd, mul-assoc, mul-comm, mod-eq-of-lt, eq-zero-or-pos}
+use native.Mathlib.Nat.{div-one, div-div-eq-div-mul, pow-succ', dvd-antisymm, dvd-mul-left-of-dvd, mul-div-cancel', dvd-mul-right, dvd-sub}
+use native.Mathlib.Nat.{dvd-add, le-of-dvd, mul-assoc, mul-comm, mod-eq-of-lt, eq-zero-or-pos}
 use native.Mathlib.Omega.{arith}
 use lib.Count.{trailingZeros, under}
 use lib.Pow.{pow-add, pow-mono, shr-le}
 use Rattle.rules.specs.Arithmetic.{gcd}
-use Rattle.vectors.specs.Gcd.{gcd-dvdˡ, gcd-dvdʳ, gcd-greatest, gcd-comm, gcd-*}
+use Rattle.theory_vectors.specs.Gcd.{gcd-dvdˡ, gcd-dvdʳ, gcd-greatest, gcd-comm, gcd-*}
 
 -- how many factors 2 it has, and what is left without them
 unfoldable pub twos : ℕ → ℕ
@@ -55,7 +56,11 @@ unfolding oddPart
 oddPart-≤ n = shr-le n (twos n)
 
 pub twos-< : (n : ℕ) → 0 < n → n < 2 ^ 64 → twos n < 64
-twos-< n h l = ⊎-elim (λ k. absurd (omega (arith, pow-mono {i = 64} {j = twos n} (omega arith), le-of-dvd h (rw oddPart-* at (dvd-mul-right (2 ^ twos n) (oddPart n)))))) (λ k. omega arith) (eq-zero-or-pos (64 - twos n))
+twos-< n h l = ⊎-elim (λ k. absurd (omega (
+  arith,
+  pow-mono {i = 64} {j = twos n} (omega arith),
+  le-of-dvd h (rw oddPart-* at (dvd-mul-right (2 ^ twos n) (oddPart n))),
+))) (λ k. omega arith) (eq-zero-or-pos (64 - twos n))
 
 -- ---- an odd number shares no factor 2
 -- d × q = 2 × y with d odd makes q even
@@ -84,7 +89,8 @@ gcd-double : (x y : ℕ) → x % 2 ≡ 1 → gcd x (2 * y) ≡ gcd x y
 gcd-double x y o =
     let g = gcd x (2 * y) in
     let p : g ∣ y = odd-dvd g y (divisor-odd g x o (gcd-dvdˡ x (2 * y))) (gcd-dvdʳ x (2 * y)) in
-    dvd-antisymm (gcd-greatest g (gcd-dvdˡ x (2 * y)) p) (gcd-greatest (gcd x y) (gcd-dvdˡ x y) (dvd-mul-left-of-dvd (gcd x y) (gcd-dvdʳ x y) 2))
+    dvd-antisymm (gcd-greatest g (gcd-dvdˡ x (2 * y)) p)
+    (gcd-greatest (gcd x y) (gcd-dvdˡ x y) (dvd-mul-left-of-dvd (gcd x y) (gcd-dvdʳ x y) 2))
 
 gcd-power : (k x y : ℕ) → x % 2 ≡ 1 → gcd x (2 ^ k * y) ≡ gcd x y
 gcd-power zero x y o = let e : 1 * y ≡ y = omega arith in rw e
@@ -103,7 +109,8 @@ fewer i j x y o h =
 both : (i j x y : ℕ) → x % 2 ≡ 1 → y % 2 ≡ 1 → gcd (2 ^ i * x) (2 ^ j * y) ≡ 2 ^ min i j * gcd x y
 both i j x y o u = ⊎-elim
     (λ h. let e : min i j ≡ i = omega arith in rw e (fewer i j x y o (omega arith)))
-    (λ h. let e : min i j ≡ j = omega arith in rw e (gcd-comm (2 ^ i * x) (2 ^ j * y) ∙ fewer j i y x u (omega arith) ∙ ap (λ (g : ℕ). 2 ^ j * g) (gcd-comm y x)))
+    (λ h. let e : min i j ≡ j = omega arith in
+    rw e (gcd-comm (2 ^ i * x) (2 ^ j * y) ∙ fewer j i y x u (omega arith) ∙ ap (λ (g : ℕ). 2 ^ j * g) (gcd-comm y x)))
     (eq-zero-or-pos (i - j))
 
 gcd-twos : (a b : ℕ) → 0 < a → a < 2 ^ 64 → 0 < b → b < 2 ^ 64 → gcd (oddPart a) b * 2 ^ min (twos a) (twos b) ≡ gcd a b
@@ -122,7 +129,8 @@ gcd-shifted a b h l k m = rw (gcd-twos a b h l k m) (mod-eq-of-lt (omega (arith,
 pub gcd-distance : (x y : ℕ) → gcd (min x y) (max x y - min x y) ≡ gcd x y
 gcd-distance x y = ⊎-elim
     (λ h. let e : min x y ≡ x = omega arith in let f : max x y - min x y ≡ y - x = omega arith in rw (f, e) (less x y (omega arith)))
-    (λ h. let e : min x y ≡ y = omega arith in let f : max x y - min x y ≡ x - y = omega arith in rw (f, e) (less y x (omega arith) ∙ gcd-comm y x))
+    (λ h. let e : min x y ≡ y = omega arith in let f : max x y - min x y ≡ x - y = omega arith in
+    rw (f, e) (less y x (omega arith) ∙ gcd-comm y x))
     (eq-zero-or-pos (x - y))
   where
     less : (x y : ℕ) → x ≤ y → gcd x (y - x) ≡ gcd x y
@@ -130,7 +138,8 @@ gcd-distance x y = ⊎-elim
         let d = gcd x (y - x) in
         let e : x + (y - x) ≡ y = omega arith in
         let p : d ∣ y = rw e at (dvd-add d (gcd-dvdˡ x (y - x)) (gcd-dvdʳ x (y - x))) in
-        dvd-antisymm (gcd-greatest d (gcd-dvdˡ x (y - x)) p) (gcd-greatest (gcd x y) (gcd-dvdˡ x y) (dvd-sub (gcd x y) (gcd-dvdʳ x y) (gcd-dvdˡ x y)))
+        dvd-antisymm (gcd-greatest d (gcd-dvdˡ x (y - x)) p)
+        (gcd-greatest (gcd x y) (gcd-dvdˡ x y) (dvd-sub (gcd x y) (gcd-dvdʳ x y) (gcd-dvdˡ x y)))
 
 -- ---- a turn: from x, which is odd, and y to the lesser of x and y's odd part, and their difference
 module _ (x y : ℕ) (odd : x % 2 ≡ 1) where

@@ -11,8 +11,8 @@ use mir.Syntax.{w64}
 use mir.Val.{Fits, SFits, ofZ, toZ}
 use mir.Facts.{toZ-ofZ, sfits-lit}
 use borrow.Author.Tests.{ltb-true, lt-ltb, le-ltb, ne-eqb}
-use Rattle.integers.specs.Difference.{v, #, ⊝, _⊕_, _⊖_, ≡-by}
-use Rattle.integers.specs.Size.{abs-neg}
+use Rattle.theory_integers.specs.Difference.{v, #, ⊝, _⊕_, _⊖_, ≡-by}
+use Rattle.theory_integers.specs.Size.{abs-neg}
 use Rattle.rules.specs.Arithmetic.{isPositive, isNegative, isZero}
 
 -- a number of a size below 2^63 fits

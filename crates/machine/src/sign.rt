@@ -1,5 +1,5 @@
 // The size and the sign of an integer.
-use types::limits::Limits;
+use rules_types::limits::Limits;
 ghost use mathlib.Core.Path.{_≡_};
 ghost use lib.IntN.{pos, natAbs};
 ghost use Rattle.rules.specs.Arithmetic.{isPositive, isNegative, isZero, related};

@@ -11,7 +11,7 @@ use lib.Dec.{T, eqb, eqb→eq}
 use lib.ListN.{length, getD}
 use lib.Bits.{bitOr, bitAnd, or-step, or-zero-r, and-step, and-lt}
 use mir.Facts.{and-yes, yes-and}
-use Rattle.lists.specs.Tests.{tests-agree, of-true}
+use Rattle.theory_lists.specs.Tests.{tests-agree, of-true}
 use Rattle.rules.specs.Lists.{any, same}
 use Rattle.rules.specs.Lines.{Booleans, union, meet, including, excluding}
 use Rattle.rules.specs.Steps.{mask}
@@ -34,10 +34,12 @@ digit P (suc zero) h p q = q
 digit P (suc (suc x)) h p q = absurd (omega arith)
 
 or-digit : (x y : ℕ) → x < 2 → y < 2 → eqb (max x y) 1 ≡ eqb x 1 || eqb y 1
-or-digit x y h k = digit (λ x. eqb (max x y) 1 ≡ eqb x 1 || eqb y 1) x h (digit (λ y. eqb (max 0 y) 1 ≡ eqb y 1) y k refl refl) (digit (λ y. eqb (max 1 y) 1 ≡ true) y k refl refl)
+or-digit x y h k = digit (λ x. eqb (max x y) 1 ≡ eqb x 1 || eqb y 1) x h (digit (λ y. eqb (max 0 y) 1 ≡ eqb y 1) y k refl refl)
+    (digit (λ y. eqb (max 1 y) 1 ≡ true) y k refl refl)
 
 and-digit : (x y : ℕ) → x < 2 → y < 2 → eqb (min x y) 1 ≡ eqb x 1 && eqb y 1
-and-digit x y h k = digit (λ x. eqb (min x y) 1 ≡ eqb x 1 && eqb y 1) x h (digit (λ y. eqb (min 0 y) 1 ≡ false) y k refl refl) (digit (λ y. eqb (min 1 y) 1 ≡ eqb y 1) y k refl refl)
+and-digit x y h k = digit (λ x. eqb (min x y) 1 ≡ eqb x 1 && eqb y 1) x h (digit (λ y. eqb (min 0 y) 1 ≡ false) y k refl refl)
+    (digit (λ y. eqb (min 1 y) 1 ≡ eqb y 1) y k refl refl)
 
 cond-digit : (x : ℕ) → x < 2 → cond (eqb x 1) 1 0 ≡ x
 cond-digit x h = digit (λ x. cond (eqb x 1) 1 0 ≡ x) x h refl refl
@@ -66,7 +68,8 @@ pub union-bits : (k a b : ℕ) → union (bits k a) (bits k b) ≡ bits k (bitOr
 unfolding bits union
 union-bits zero a b = refl
 union-bits (suc k) a b =
-    let r = half (bitOr a b) (bitOr (a / 2) (b / 2)) (max (a % 2) (b % 2)) (or-step a b) (digits-< (a % 2) (b % 2) (digit-< a) (digit-< b)) in
+    let r = half (bitOr a b) (bitOr (a / 2) (b / 2)) (max (a % 2) (b % 2)) (or-step a b)
+    (digits-< (a % 2) (b % 2) (digit-< a) (digit-< b)) in
     rw (r .0, r .1, or-digit (a % 2) (b % 2) (digit-< a) (digit-< b), union-bits k (a / 2) (b / 2))
   where
     digits-< : (x y : ℕ) → x < 2 → y < 2 → max x y < 2
@@ -82,8 +85,10 @@ unfolding bits any
 none-bits zero n h = sym (eq-eqb n 0 (omega arith))
 none-bits (suc k) n h = by (n % 2) refl (none-bits k (n / 2) (omega (arith, pow-succ' 2 k)))
   where
-    by : (d : ℕ) → n % 2 ≡ d → not (any (λ a. a) (bits k (n / 2))) ≡ eqb (n / 2) 0 → not (eqb d 1 || any (λ a. a) (bits k (n / 2))) ≡ eqb n 0
-    by zero e r = r ∙ agree (eqb (n / 2) 0) n 0 (λ t. omega (arith, eqb→eq (n / 2) 0 t)) (λ z. of-true (eqb (n / 2) 0) (eq-eqb (n / 2) 0 (omega arith)))
+    by : (d : ℕ) → n % 2 ≡ d → not (any (λ a. a) (bits k (n / 2))) ≡ eqb (n / 2) 0
+        → not (eqb d 1 || any (λ a. a) (bits k (n / 2))) ≡ eqb n 0
+    by zero e r = r ∙ agree (eqb (n / 2) 0) n 0 (λ t. omega (arith, eqb→eq (n / 2) 0 t))
+        (λ z. of-true (eqb (n / 2) 0) (eq-eqb (n / 2) 0 (omega arith)))
     by (suc zero) e r = sym (ne-eqb n 0 (λ z. omega arith))
     by (suc (suc d)) e r = absurd (omega arith)
 
@@ -109,20 +114,26 @@ pub meet-bits : (k a b : ℕ) → a < 2 ^ k → b < 2 ^ k → meet (bits k a) (b
 meet-bits k a b h l = meet-any k a b ∙ any-bits k (bitAnd a b) (and-lt k a b h l)
 
 pub same-digit : (x y : ℕ) → x < 2 → y < 2 → Bool·beq (eqb x 1) (eqb y 1) ≡ eqb x y
-same-digit x y h k = digit (λ x. Bool·beq (eqb x 1) (eqb y 1) ≡ eqb x y) x h (digit (λ y. Bool·beq false (eqb y 1) ≡ eqb 0 y) y k refl refl) (digit (λ y. Bool·beq true (eqb y 1) ≡ eqb 1 y) y k refl refl)
+same-digit x y h k = digit (λ x. Bool·beq (eqb x 1) (eqb y 1) ≡ eqb x y) x h (digit (λ y. Bool·beq false (eqb y 1) ≡ eqb 0 y) y k refl refl)
+    (digit (λ y. Bool·beq true (eqb y 1) ≡ eqb 1 y) y k refl refl)
 
 pub same-bits : (k a b : ℕ) → a < 2 ^ k → b < 2 ^ k → same Bool·beq (bits k a) (bits k b) ≡ eqb a b
 unfolding bits same
 same-bits zero a b h l = sym (eq-eqb a b (omega arith))
 same-bits (suc k) a b h l =
-    rw (same-digit (a % 2) (b % 2) (digit-< a) (digit-< b), same-bits k (a / 2) (b / 2) (omega (arith, pow-succ' 2 k)) (omega (arith, pow-succ' 2 k)))
+    rw (
+      same-digit (a % 2) (b % 2) (digit-< a) (digit-< b),
+      same-bits k (a / 2) (b / 2) (omega (arith, pow-succ' 2 k)) (omega (arith, pow-succ' 2 k)),
+    )
     (agree (eqb (a % 2) (b % 2) && eqb (a / 2) (b / 2)) a b to from)
   where
     to : T (eqb (a % 2) (b % 2) && eqb (a / 2) (b / 2)) → a ≡ b
-    to t = let r = and-yes (eqb (a % 2) (b % 2)) (eqb (a / 2) (b / 2)) t in omega (arith, eqb→eq (a % 2) (b % 2) (r .0), eqb→eq (a / 2) (b / 2) (r .1))
+    to t = let r = and-yes (eqb (a % 2) (b % 2)) (eqb (a / 2) (b / 2)) t in
+        omega (arith, eqb→eq (a % 2) (b % 2) (r .0), eqb→eq (a / 2) (b / 2) (r .1))
 
     from : a ≡ b → T (eqb (a % 2) (b % 2) && eqb (a / 2) (b / 2))
-    from e = yes-and (eqb (a % 2) (b % 2)) (eqb (a / 2) (b / 2)) (of-true (eqb (a % 2) (b % 2)) (eq-eqb (a % 2) (b % 2) (omega arith))) (of-true (eqb (a / 2) (b / 2)) (eq-eqb (a / 2) (b / 2) (omega arith)))
+    from e = yes-and (eqb (a % 2) (b % 2)) (eqb (a / 2) (b / 2)) (of-true (eqb (a % 2) (b % 2)) (eq-eqb (a % 2) (b % 2) (omega arith)))
+        (of-true (eqb (a / 2) (b / 2)) (eq-eqb (a / 2) (b / 2) (omega arith)))
 
 -- without one member: its power is taken away, or is not there
 pub shifted : (n i : ℕ) → n / 2 ^ suc i ≡ n / 2 / 2 ^ i
@@ -174,7 +185,8 @@ including-bits (suc k) n zero =
 including-bits (suc k) n (suc i) =
     let e : 2 ^ suc i / 2 ≡ 2 ^ i = omega (arith, pow-succ' 2 i) in
     let o : 2 ^ suc i % 2 ≡ 0 = omega (arith, pow-succ' 2 i) in
-    let r = half (bitOr n (2 ^ suc i)) (bitOr (n / 2) (2 ^ suc i / 2)) (max (n % 2) (2 ^ suc i % 2)) (or-step n (2 ^ suc i)) (omega (arith, digit-< n)) in
+    let r = half (bitOr n (2 ^ suc i)) (bitOr (n / 2) (2 ^ suc i / 2)) (max (n % 2) (2 ^ suc i % 2)) (or-step n (2 ^ suc i))
+    (omega (arith, digit-< n)) in
     let z : max (n % 2) 0 ≡ n % 2 = omega arith in
     rw (r .0, r .1, e, o, z, ← including-bits k (n / 2) i)
 

@@ -5,17 +5,17 @@ use mathlib.Core.List.{List}
 use Prim.Native.Nat.{ℕ, _≤_, _<_}
 use borrow.Author.Tests.{lt-ltb, le-ltb}
 use lib.ListN.{length}
-use Rattle.types.specs.declared.answers.Refusal.{Refusal}
-use Rattle.types.specs.declared.answers.Refusal.the-variants as refusal
-use Rattle.types.specs.declared.answers.Checked.the-variants.{Refused}
-use Rattle.types.specs.Limits as limit
+use Rattle.rules_types.specs.declared.answers.Refusal.{Refusal}
+use Rattle.rules_types.specs.declared.answers.Refusal.the-variants as refusal
+use Rattle.rules_types.specs.declared.answers.Checked.the-variants.{Refused}
+use Rattle.rules_types.specs.Limits as limit
 use Rattle.rules.specs.Calls.{sound, read, modelChecked}
 use Rattle.rules.specs.Checker.{checkClauses}
-use Rattle.reader.specs.declared.cursor.Scan.the-variants.{Fault}
-use Rattle.reading.specs.Clauses.{clausesAt}
-use Rattle.reading.specs.Outcome.{outcome, outcome-faulty}
-use Rattle.reading.specs.Readable.{Readable}
-use Rattle.evaluation.specs.Model.{assignment}
+use Rattle.problem_scan.specs.declared.cursor.Scan.the-variants.{Fault}
+use Rattle.problem_read.specs.Clauses.{clausesAt}
+use Rattle.problem_read.specs.Outcome.{outcome, outcome-faulty}
+use Rattle.problem_read.specs.Readable.{Readable}
+use Rattle.models.specs.Model.{assignment}
 use Rattle.models.specs.declared.read.ModelRead.{ModelRead}
 use Rattle.models.specs.Fields.{reading}
 use Rattle.models.specs.Read.{ReadModel}

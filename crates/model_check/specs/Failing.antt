@@ -5,12 +5,12 @@ use mathlib.Core.List.{List, _∷_}
 use Prim.Native.Nat.{ℕ, _+_, _-_, _≤_, _<_}
 use native.Mathlib.Numerals.{add-one}
 use native.Mathlib.Omega.{arith}
-use Rattle.types.specs.declared.answers.Checked.the-variants.{Accepted, Fails}
+use Rattle.rules_types.specs.declared.answers.Checked.the-variants.{Accepted, Fails}
 use Rattle.rules.specs.Meaning.{Assignment, clauseHolds}
 use Rattle.rules.specs.Checker.{checkClauses}
-use Rattle.reader.specs.Values.{clauseAt, clauseEnd}
-use Rattle.reader.specs.Sound.{SoundClause, SoundClauses, clauses-first, clauses-rest}
-use Rattle.reading.specs.Clauses.{clausesAt, clauses-next}
+use Rattle.problem_scan.specs.Values.{clauseAt, clauseEnd}
+use Rattle.problem_scan.specs.Sound.{SoundClause, SoundClauses, clauses-first, clauses-rest}
+use Rattle.problem_read.specs.Clauses.{clausesAt, clauses-next}
 
 -- ---- the loop: k clauses hold, `left` are left, from `at` on
 pub record Checking (q : List ℕ) (r from count : ℕ) (χ : Assignment) (at left k : ℕ) : Type 0 where

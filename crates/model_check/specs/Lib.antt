@@ -1,2 +1,4 @@
+pub mod Scan
+pub mod Sum
 pub mod Failing
 pub mod Check

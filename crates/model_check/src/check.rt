@@ -1,14 +1,14 @@
 // The call: "question faults (3 to 13), then ... 2 and 17", then the clauses.
 use crate::failing::check_clauses;
 use models::read::read_model;
-use reader::cursor::Scan;
-use reading::read::read;
-use types::answers::Checked;
-use types::answers::Refusal;
-use types::limits::Limits;
+use problem_read::read::read;
+use problem_scan::cursor::Scan;
+use rules_types::answers::Checked;
+use rules_types::answers::Refusal;
+use rules_types::limits::Limits;
 ghost use mathlib.Core.Path.{_≡_};
 ghost use Rattle.rules.specs.Calls.{modelChecked};
-ghost use Rattle.reading.specs.Readable.{Readable};
+ghost use Rattle.problem_read.specs.Readable.{Readable};
 
 // Of a question that was read without fault.
 fn check_readable(input: &[u8], bytes: &[u8], b: u8, r: u8, n: u64) -> Checked

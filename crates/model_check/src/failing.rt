@@ -1,15 +1,15 @@
 // "accepted, or the first clause that fails".
-use clauses::walk::next;
-use evaluation::clause::clause_holds;
-use evaluation::model::Model;
-use types::answers::Checked;
+use crate::clause::clause_holds;
+use models::model::Model;
+use problem_clauses::places::next;
+use rules_types::answers::Checked;
 ghost use mathlib.Core.Path.{_≡_};
 ghost use Prim.Native.Nat.{_≤_};
 ghost use Rattle.rules.specs.Checker.{checkClauses};
-ghost use Rattle.vectors.specs.Amounts.{Amounts};
-ghost use Rattle.evaluation.specs.Model.{assignment};
-ghost use Rattle.reading.specs.Clauses.{clausesAt};
-ghost use Rattle.reader.specs.Sound.{SoundClauses};
+ghost use Rattle.theory_vectors.specs.Amounts.{Amounts};
+ghost use Rattle.models.specs.Model.{assignment};
+ghost use Rattle.problem_read.specs.Clauses.{clausesAt};
+ghost use Rattle.problem_scan.specs.Sound.{SoundClauses};
 
 // Of so many clauses, numbered from 0.
 pub fn check_clauses(q: &[u8], from: usize, r: u8, count: u64, model: Model) -> Checked

@@ -8,15 +8,15 @@ use borrow.Author.Tests.{le-leb, lt-leb}
 use lib.Dec.{eqb, leb}
 use lib.ListN.{length, drop, getD, set}
 use lib.Seq.{getD-set-same, getD-set-other}
-use Rattle.types.specs.declared.answers.Refusal.the-variants as refusal
+use Rattle.rules_types.specs.declared.answers.Refusal.the-variants as refusal
 use Rattle.rules.specs.Problem.{Reader, repeat, field}
 use Rattle.rules.specs.Lines.{Booleans, including}
-use Rattle.lists.specs.Tests.{clash, of-false}
-use Rattle.lists.specs.All.{getD-replicate-same}
-use Rattle.layout.specs.Fields.{fieldAt-1}
+use Rattle.theory_lists.specs.Tests.{clash, of-false}
+use Rattle.theory_lists.specs.All.{getD-replicate-same}
+use Rattle.theory_bytes.specs.Fields.{fieldAt-1}
 use Rattle.masks.specs.Mask.{bits, length-bits}
-use Rattle.reader.specs.Fields.{field-good, field-bad}
-use Rattle.reader.specs.Values.{valuesAt}
+use Rattle.problem_scan.specs.Fields.{field-good, field-bad}
+use Rattle.problem_scan.specs.Values.{valuesAt}
 use Rattle.models.specs.declared.booleans.Flags.{Flags}
 use Rattle.models.specs.Fields.{reading, Tested, repeat-good, repeat-bad, Filled, filled-none, filled-more, filled-values}
 
@@ -63,20 +63,23 @@ module _ (i byte : ℕ) (s : Booleans) where
 
 -- ---- the loop: the first i bytes are 0 or 1, and those that are 1 are members
 pub record FlagsTo (s : List ℕ) (from i mask : ℕ) : Type 0 where
-  pub filled : Filled (λ j. leb (getD s (from + j * 1) 0) 1) (λ j. eqb (getD s (from + j * 1) 0) 1) false i (λ j. getD (bits 32 mask) j false)
+  pub filled : Filled (λ j. leb (getD s (from + j * 1) 0) 1) (λ j. eqb (getD s (from + j * 1) 0) 1) false i
+      (λ j. getD (bits 32 mask) j false)
 
 module _ {s : List ℕ} {from : ℕ} where
   pub flags-none : FlagsTo s from 0 0
   unfolding bits
   flags-none = record { filled = filled-none (λ j. getD-replicate-same 32 j false) }
 
-  pub flags-more : {i mask : ℕ} (m : ℕ) → FlagsTo s from i mask → i < 32 → getD s (from + i) 0 ≤ 1 → bits 32 m ≡ joined i (getD s (from + i) 0) (bits 32 mask) → FlagsTo s from (i + 1) m
+  pub flags-more : {i mask : ℕ} (m : ℕ) → FlagsTo s from i mask → i < 32 → getD s (from + i) 0 ≤ 1
+      → bits 32 m ≡ joined i (getD s (from + i) 0) (bits 32 mask) → FlagsTo s from (i + 1) m
   flags-more {i} {mask} m f l t e =
       let p : from + i ≡ from + i * 1 = omega arith in
       let k : i < length (bits 32 mask) = omega (arith, length-bits 32 mask) in
       record {
         filled = filled-more (f .filled) (rw (sym p) (le-leb (getD s (from + i) 0) 1 t))
-            (rw e (joined-here i (getD s (from + i) 0) (bits 32 mask) k (f .filled .beyond i (omega arith))) ∙ ap (λ (at : ℕ). eqb (getD s at 0) 1) p)
+            (rw e (joined-here i (getD s (from + i) 0) (bits 32 mask) k (f .filled .beyond i (omega arith)))
+            ∙ ap (λ (at : ℕ). eqb (getD s at 0) 1) p)
             (λ j o. rw e (joined-other i (getD s (from + i) 0) (bits 32 mask) j o));
       }
 
@@ -85,12 +88,17 @@ module _ {s : List ℕ} {from : ℕ} where
   flags-bad {i} {mask} {count} f l h t =
       let p : from + i ≡ from + i * 1 = omega arith in
       record {
-        same = repeat-bad (flag-tested s) i count from l (omega arith) (f .filled .passed) (rw (sym p) (lt-leb (getD s (from + i) 0) 1 t)) ∙ rw (sym p);
+        same = repeat-bad (flag-tested s) i count from l (omega arith) (f .filled .passed)
+            (rw (sym p) (lt-leb (getD s (from + i) 0) 1 t)) ∙ rw (sym p);
         end = λ e. absurd (clash true tt (of-false true (sym e)));
         members = λ e. absurd (clash true tt (of-false true (sym e)));
       }
 
-  pub flags-done : {i mask count : ℕ} → FlagsTo s from i mask → i ≡ count → from + count ≤ length s → ReadBooleans s from count (record { sound = true; place = from + count; mask = mask })
+  pub flags-done : {i mask count : ℕ} → FlagsTo s from i mask → i ≡ count → from + count ≤ length s → ReadBooleans s from count (record {
+    sound = true;
+    place = from + count;
+    mask = mask;
+  })
   flags-done {i} {mask} {count} f e h =
       let p : from + count * 1 ≡ from + count = omega arith in
       let g : FlagsTo s from count mask = rw e at f in

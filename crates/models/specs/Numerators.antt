@@ -10,20 +10,21 @@ use borrow.Author.Tests.{leb-true}
 use lib.IntN.{ℤ, pos, natAbs}
 use lib.ListN.{length, drop, getD, set, replicate}
 use lib.Seq.{getD-set-same, getD-set-other}
-use Rattle.types.specs.declared.answers.Refusal.the-variants as refusal
-use Rattle.types.specs.Limits as limit
+use Rattle.rules_types.specs.declared.answers.Refusal.the-variants as refusal
+use Rattle.rules_types.specs.Limits as limit
 use Rattle.rules.specs.Bytes.{fromUnsigned}
 use Rattle.rules.specs.Problem.{after, repeat, amount, inRange}
-use Rattle.lists.specs.Tests.{clash, of-false}
-use Rattle.lists.specs.All.{getD-replicate-same}
-use Rattle.vectors.specs.Amounts.{Amounts}
-use Rattle.reader.specs.Fields.{field-good, field-bad}
-use Rattle.reader.specs.Values.{valuesAt, amountAt}
+use Rattle.theory_lists.specs.Tests.{clash, of-false}
+use Rattle.theory_lists.specs.All.{getD-replicate-same}
+use Rattle.theory_vectors.specs.Amounts.{Amounts}
+use Rattle.problem_scan.specs.Fields.{field-good, field-bad}
+use Rattle.problem_scan.specs.Values.{valuesAt, amountAt}
 use Rattle.models.specs.declared.numerators.Row.{Row}
 use Rattle.models.specs.Fields.{reading, Tested, repeat-good, repeat-bad, Filled, filled-none, filled-more, filled-values}
 
 pub record ReadNumerators (s : List ℕ) (from count : ℕ) (row : Row) : Type 0 where
-  pub same : repeat count (amount refusal.BadModel) (drop from s) from ≡ reading s (row .sound) (row .place) (valuesAt (amountAt s) 4 count from)
+  pub same : repeat count (amount refusal.BadModel) (drop from s) from
+      ≡ reading s (row .sound) (row .place) (valuesAt (amountAt s) 4 count from)
   pub small : Amounts (row .numerators)
   pub values : row .sound ≡ true → (j : ℕ) → getD (row .numerators) j (pos 0) ≡ getD (valuesAt (amountAt s) 4 count from) j (pos 0)
 
@@ -43,9 +44,13 @@ module _ {s : List ℕ} {from : ℕ} where
   pub row-none : RowTo s from 0 (replicate 8 (pos 0))
   row-none = record { filled = filled-none (λ j. getD-replicate-same 8 j (pos 0)) }
 
-  pub row-more : {i : ℕ} {out : List ℤ} (z : ℤ) → RowTo s from i out → i < length out → z ≡ amountAt s (from + i * 4) → inRange z ≡ true → RowTo s from (i + 1) (set out i z)
+  pub row-more : {i : ℕ} {out : List ℤ} (z : ℤ) → RowTo s from i out → i < length out → z ≡ amountAt s (from + i * 4) → inRange z ≡ true
+      → RowTo s from (i + 1) (set out i z)
   row-more {i} {out} z f l e t =
-      record { filled = filled-more (f .filled) (ap inRange (sym e) ∙ t) (getD-set-same out i z (pos 0) l ∙ e) (λ j o. getD-set-other out i j z (pos 0) o) }
+      record {
+        filled = filled-more (f .filled) (ap inRange (sym e) ∙ t) (getD-set-same out i z (pos 0) l ∙ e)
+            (λ j o. getD-set-other out i j z (pos 0) o);
+      }
 
   amounts : {i : ℕ} {out : List ℤ} → RowTo s from i out → Amounts out
   unfolding inRange
@@ -53,11 +58,13 @@ module _ {s : List ℕ} {from : ℕ} where
       record {
         small = λ j. ⊎-elim
             (λ z. rw (f .filled .beyond j (omega arith)) (omega arith))
-            (λ z. rw (f .filled .here j (omega arith)) (leb-true (natAbs (amountAt s (from + j * 4))) limit.amount (f .filled .passed j (omega arith))))
+            (λ z. rw (f .filled .here j (omega arith))
+            (leb-true (natAbs (amountAt s (from + j * 4))) limit.amount (f .filled .passed j (omega arith))))
             (eq-zero-or-pos (i - j));
       }
 
-  pub row-bad : {i count : ℕ} {out : List ℤ} → RowTo s from i out → i < count → from + count * 4 ≤ length s → (z : ℤ) → z ≡ amountAt s (from + i * 4) → inRange z ≡ false
+  pub row-bad : {i count : ℕ} {out : List ℤ} → RowTo s from i out → i < count → from + count * 4 ≤ length s → (z : ℤ)
+      → z ≡ amountAt s (from + i * 4) → inRange z ≡ false
       → ReadNumerators s from count (record { sound = false; place = from + i * 4; numerators = out })
   row-bad {i} {count} {out} f l h z e t =
       record {
@@ -66,7 +73,12 @@ module _ {s : List ℕ} {from : ℕ} where
         values = λ e. absurd (clash true tt (of-false true (sym e)));
       }
 
-  pub row-done : {i count : ℕ} {out : List ℤ} → RowTo s from i out → i ≡ count → from + count * 4 ≤ length s → ReadNumerators s from count (record { sound = true; place = from + count * 4; numerators = out })
+  pub row-done : {i count : ℕ} {out : List ℤ} → RowTo s from i out → i ≡ count → from + count * 4 ≤ length s
+      → ReadNumerators s from count (record {
+        sound = true;
+        place = from + count * 4;
+        numerators = out;
+      })
   row-done {i} {count} {out} f e h =
       let g : RowTo s from count out = rw e at f in
       record {

@@ -9,19 +9,19 @@ use lib.IntN.{pos}
 use lib.Dec.{eqb, leb, leb→le}
 use lib.ListN.{length, drop, getD, replicate}
 use mir.Facts.{and-yes}
-use Rattle.types.specs.declared.answers.Refusal.{Refusal}
-use Rattle.types.specs.declared.answers.Refusal.the-variants as refusal
-use Rattle.types.specs.Limits as limit
+use Rattle.rules_types.specs.declared.answers.Refusal.{Refusal}
+use Rattle.rules_types.specs.declared.answers.Refusal.the-variants as refusal
+use Rattle.rules_types.specs.Limits as limit
 use Rattle.rules.specs.Bytes.{fieldAt}
 use Rattle.rules.specs.Problem.{fault, got, Reader, after, _>>=_, return, repeat, field, amount}
 use Rattle.rules.specs.Meaning.{Assignment}
 use Rattle.rules.specs.Model.{model}
-use Rattle.lists.specs.Tests.{of-true}
-use Rattle.vectors.specs.Amounts.{Amounts, zeros-amounts}
-use Rattle.layout.specs.Fields.{fieldAt-1}
-use Rattle.reader.specs.Fields.{field-good, field-bad}
-use Rattle.reader.specs.Values.{valuesAt, amountAt}
-use Rattle.evaluation.specs.Model.{value, assignment}
+use Rattle.theory_lists.specs.Tests.{of-true}
+use Rattle.theory_vectors.specs.Amounts.{Amounts, zeros-amounts}
+use Rattle.theory_bytes.specs.Fields.{fieldAt-1}
+use Rattle.problem_scan.specs.Fields.{field-good, field-bad}
+use Rattle.problem_scan.specs.Values.{valuesAt, amountAt}
+use Rattle.models.specs.Model.{value, assignment}
 use Rattle.models.specs.declared.booleans.Flags.{Flags}
 use Rattle.models.specs.declared.numerators.Row.{Row}
 use Rattle.models.specs.declared.read.ModelRead.{ModelRead}
@@ -102,7 +102,8 @@ module _ {s : List ℕ} {b r : ℕ} where
 
   pub booleans-differ : Sized s b r → (getD s 0 0 ≡ b → ⊥) → model b r s 0 ≡ fault refusal.BadModel 0
   unfolding model
-  booleans-differ h n = stops s 1 (eqb b) refusal.BadModel 0 _ (omega (arith, h .long)) (rw (fieldAt-1 0 s (omega (arith, h .long))) (ne-eqb b (getD s 0 0) (λ e. n (sym e))))
+  booleans-differ h n = stops s 1 (eqb b) refusal.BadModel 0 _ (omega (arith, h .long))
+      (rw (fieldAt-1 0 s (omega (arith, h .long))) (ne-eqb b (getD s 0 0) (λ e. n (sym e))))
 
   module _ {flags : Flags} where
     booleans-on : BooleansRead s b r flags → model b r s 0 ≡ after (repeat b flag (drop 1 s) 1) (rationalsOn r)
@@ -119,44 +120,63 @@ module _ {s : List ℕ} {b r : ℕ} where
     unfolding reading after
     rationals-on h e = booleans-on h ∙ rw (h .given .same, e, h .given .end e)
 
-    pub rationals-differ : BooleansRead s b r flags → flags .sound ≡ true → (getD s (1 + b) 0 ≡ r → ⊥) → model b r s 0 ≡ fault refusal.BadModel (1 + b)
+    pub rationals-differ : BooleansRead s b r flags → flags .sound ≡ true → (getD s (1 + b) 0 ≡ r → ⊥)
+        → model b r s 0 ≡ fault refusal.BadModel (1 + b)
     unfolding rationalsOn
     rationals-differ h e n =
         let l = r-there (h .sized) in
-        rationals-on h e ∙ stops s 1 (eqb r) refusal.BadModel (1 + b) _ (omega arith) (rw (fieldAt-1 (1 + b) s l) (ne-eqb r (getD s (1 + b) 0) (λ e. n (sym e))))
+        rationals-on h e ∙ stops s 1 (eqb r) refusal.BadModel (1 + b) _ (omega arith)
+        (rw (fieldAt-1 (1 + b) s l) (ne-eqb r (getD s (1 + b) 0) (λ e. n (sym e))))
 
     denominator-on : RationalsAhead s b r flags → model b r s 0 ≡ denominatorOn r (bytesAt s b 1) (drop (1 + b + 1) s) (1 + b + 1)
     unfolding rationalsOn
     denominator-on h =
         let l = r-there (h .booleans .sized) in
-        rationals-on (h .booleans) (h .sound) ∙ goes s 1 (eqb r) refusal.BadModel (1 + b) _ (omega arith) (rw (fieldAt-1 (1 + b) s l) (eq-eqb r (getD s (1 + b) 0) (sym (h .count))))
+        rationals-on (h .booleans) (h .sound) ∙ goes s 1 (eqb r) refusal.BadModel (1 + b) _ (omega arith)
+        (rw (fieldAt-1 (1 + b) s l) (eq-eqb r (getD s (1 + b) 0) (sym (h .count))))
 
-    pub denominator-bad : RationalsAhead s b r flags → isDenominator (fieldAt (1 + b + 1) 4 s) ≡ false → model b r s 0 ≡ fault refusal.BadModel (1 + b + 1)
+    pub denominator-bad : RationalsAhead s b r flags → isDenominator (fieldAt (1 + b + 1) 4 s) ≡ false
+        → model b r s 0 ≡ fault refusal.BadModel (1 + b + 1)
     unfolding denominatorOn
-    denominator-bad h e = denominator-on h ∙ stops s 4 isDenominator refusal.BadModel (1 + b + 1) _ (denominator-there (h .booleans .sized)) e
+    denominator-bad h e = denominator-on h
+        ∙ stops s 4 isDenominator refusal.BadModel (1 + b + 1) _ (denominator-there (h .booleans .sized)) e
 
     module _ {row : Row} (h : RationalsRead s b r flags row) where
       numerators-on : model b r s 0 ≡ numeratorsAfter r (bytesAt s b 1) (fieldAt (1 + b + 1) 4 s) (drop (1 + b + 5) s) (1 + b + 5)
       unfolding denominatorOn
       numerators-on =
           let e : 1 + b + 1 + 4 ≡ 1 + b + 5 = omega arith in
-          denominator-on (h .ahead) ∙ goes s 4 isDenominator refusal.BadModel (1 + b + 1) _ (denominator-there (h .ahead .booleans .sized)) (h .denominator) ∙ rw e
+          denominator-on (h .ahead) ∙ goes s 4 isDenominator refusal.BadModel (1 + b + 1) _
+          (denominator-there (h .ahead .booleans .sized)) (h .denominator) ∙ rw e
 
       pub numerator-bad : row .sound ≡ false → model b r s 0 ≡ fault refusal.BadModel (row .place)
       unfolding numeratorsAfter reading after
       numerator-bad e = numerators-on ∙ rw (h .given .same, e)
 
       pub model-read : row .sound ≡ true
-          → ReadModel s b r (record { sound = true; place = row .place; model = record { booleans = flags .mask; numerators = row .numerators; denominator = fieldAt (1 + b + 1) 4 s } })
+          → ReadModel s b r (record {
+            sound = true;
+            place = row .place;
+            model = record { booleans = flags .mask; numerators = row .numerators; denominator = fieldAt (1 + b + 1) 4 s };
+          })
       unfolding numeratorsAfter reading after isDenominator assignment value
       model-read e =
-          let d = and-yes (leb 1 (fieldAt (1 + b + 1) 4 s)) (leb (fieldAt (1 + b + 1) 4 s) limit.amount) (of-true (isDenominator (fieldAt (1 + b + 1) 4 s)) (h .denominator)) in
+          let d = and-yes (leb 1 (fieldAt (1 + b + 1) 4 s)) (leb (fieldAt (1 + b + 1) 4 s) limit.amount)
+          (of-true (isDenominator (fieldAt (1 + b + 1) 4 s)) (h .denominator)) in
           record {
             same = numerators-on ∙ rw (h .given .same, e) (ap (λ (χ : Assignment). got χ (drop (row .place) s) (row .place)) (made e));
             numerators = h .given .small;
             denominator = (leb→le 1 (fieldAt (1 + b + 1) 4 s) (d .0), leb→le (fieldAt (1 + b + 1) 4 s) limit.amount (d .1));
           }
         where
-          made : row .sound ≡ true → record { booleans = λ i. eqb (getD (bytesAt s b 1) i 0) 1; numerators = λ f. getD (valuesAt (amountAt s) 4 r (1 + b + 5)) f (pos 0); denominator = fieldAt (1 + b + 1) 4 s }
+          made : row .sound ≡ true → record {
+            booleans = λ i. eqb (getD (bytesAt s b 1) i 0) 1;
+            numerators = λ f. getD (valuesAt (amountAt s) 4 r (1 + b + 5)) f (pos 0);
+            denominator = fieldAt (1 + b + 1) 4 s;
+          }
               ≡ assignment (record { booleans = flags .mask; numerators = row .numerators; denominator = fieldAt (1 + b + 1) 4 s })
-          made e = λ j. record { booleans = λ i. sym (h .ahead .booleans .given .members (h .ahead .sound) i) j; numerators = λ f. sym (h .given .values e f) j; denominator = fieldAt (1 + b + 1) 4 s }
+          made e = λ j. record {
+            booleans = λ i. sym (h .ahead .booleans .given .members (h .ahead .sound) i) j;
+            numerators = λ f. sym (h .given .values e f) j;
+            denominator = fieldAt (1 + b + 1) 4 s;
+          }

@@ -1,9 +1,9 @@
 // A sheet to check: "b; b bytes of 0 or 1; r; four bytes denominator; r numerators of four bytes".
 use crate::booleans::booleans;
+use crate::model::Model;
 use crate::numerators::numerators;
-use evaluation::model::Model;
 use fields::u32_at;
-use types::limits::Limits;
+use rules_types::limits::Limits;
 ghost use mathlib.Core.Path.{_≡_};
 ghost use Prim.Native.Nat.{_≤_};
 ghost use lib.ListN.{length};

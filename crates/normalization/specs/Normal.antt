@@ -12,7 +12,7 @@ use Rattle.rules.specs.Arithmetic.{isZero, related}
 use Rattle.rules.specs.Lines as rules
 use Rattle.rules.specs.Lines.{meet}
 use Rattle.rules.specs.Normalize.{settled, settledLine, normalLine}
-use Rattle.resolution.specs.NormalLine.{having}
+use Rattle.theory_resolution.specs.NormalLine.{having}
 use Rattle.lines.specs.declared.line.Line.{Line}
 use Rattle.lines.specs.Line.{constraintOf, constraintIn, meaning}
 use Rattle.lines.specs.Forms.{here, leading, constraint-is}
@@ -37,7 +37,8 @@ unfolding leading all
 zeros-leading [] = refl
 zeros-leading (c ∷ cs) = by (isZero c) (zeros-leading cs)
   where
-    by : (z : Bool) → eqb (leading cs 0) (length cs) ≡ all isZero cs → eqb (here (not z) (leading cs 0)) (suc (length cs)) ≡ z && all isZero cs
+    by : (z : Bool) → eqb (leading cs 0) (length cs) ≡ all isZero cs
+        → eqb (here (not z) (leading cs 0)) (suc (length cs)) ≡ z && all isZero cs
     by true r = eqb·suc-suc (leading cs 0) (length cs) ∙ r
     by false r = eqb·zero-suc (length cs)
 
@@ -57,7 +58,8 @@ module _ (l : Line) where
     module _ (r : 0 < l .relation) where
       normal-settled : normalLine (meaning l) ≡ settledLine (meaning l) (settled (constraintIn l))
       unfolding normalLine
-      normal-settled = rw (m, normalLine, constraint-is l r) (λ i. settledLine (having (meaning l) (constraint-is l r i)) (settled (constraintIn l)))
+      normal-settled = rw (m, normalLine, constraint-is l r)
+          (λ i. settledLine (having (meaning l) (constraint-is l r i)) (settled (constraintIn l)))
 
       pub normal-reduced : all isZero (l .coefficients) ≡ false → normalLine (meaning l) ≡ some (reducedLine (meaning l))
       unfolding settled settledLine
@@ -68,6 +70,7 @@ module _ (l : Line) where
         unfolding settled settledLine
         normal-trivial t = normal-settled ∙ rw (z, t, settled)
 
-        pub normal-struck : related (eqb (l .relation) 2) (pos 0) (l .bound) ≡ false → normalLine (meaning l) ≡ some (having (meaning l) none)
+        pub normal-struck : related (eqb (l .relation) 2) (pos 0) (l .bound) ≡ false
+            → normalLine (meaning l) ≡ some (having (meaning l) none)
         unfolding settled settledLine
         normal-struck t = normal-settled ∙ rw (z, t, settled)

@@ -10,16 +10,16 @@ use lib.IntN.{ℤ, pos, natAbs}
 use lib.Signed.{quotZ}
 use lib.Dec.{T}
 use lib.ListN.{getD, replicate}
-use Rattle.lists.specs.Tests.{of-false, clash}
+use Rattle.theory_lists.specs.Tests.{of-false, clash}
 use Rattle.rules.specs.Lists.{all}
 use Rattle.rules.specs.Arithmetic.{gcdAll, isZero}
 use Rattle.rules.specs.Problem.{Constraint}
 use Rattle.rules.specs.Lines as rules
 use Rattle.rules.specs.Normalize.{reduced}
-use Rattle.vectors.specs.Gcd.{gcd-dvdʳ, gcdAll-nonzero, gcdAll-proper}
-use Rattle.vectors.specs.GcdFold.{gcdAll-≤}
-use Rattle.vectors.specs.Constraint.{quotients}
-use Rattle.vectors.specs.Amounts.{SmallAmounts, reduced-small}
+use Rattle.theory_vectors.specs.Gcd.{gcd-dvdʳ, gcdAll-nonzero, gcdAll-proper}
+use Rattle.theory_vectors.specs.GcdFold.{gcdAll-≤}
+use Rattle.theory_vectors.specs.Constraint.{quotients}
+use Rattle.theory_vectors.specs.Amounts.{SmallAmounts, reduced-small}
 use Rattle.lines.specs.declared.line.Line.{Line}
 use Rattle.lines.specs.Line.{constraintOf, meaning, Shaped, Ready}
 use Rattle.lines.specs.Ready.{small-ready, ready-small}
@@ -38,11 +38,16 @@ reducedOf (some c) = some (reduced c)
 unfoldable pub reducedLine : rules.Line → rules.Line
 reducedLine l = record { positive = l .positive; negative = l .negative; constraint = reducedOf (l .constraint) }
 
-pub reduced-line : (l : rules.Line) (c : Constraint) → l .constraint ≡ some c → reducedLine l ≡ record { positive = l .positive; negative = l .negative; constraint = some (reduced c) }
+pub reduced-line : (l : rules.Line) (c : Constraint) → l .constraint ≡ some c → reducedLine l ≡ record {
+  positive = l .positive;
+  negative = l .negative;
+  constraint = some (reduced c);
+}
 unfolding reducedLine reducedOf
 reduced-line l c e = λ i. record { positive = l .positive; negative = l .negative; constraint = reducedOf (e i) }
 
-pub reduced-is : (r : ℕ) (cs : List ℤ) (b : ℤ) → constraintOf r (quotients (gcdAll (b ∷ cs)) cs) (quotZ b (pos (gcdAll (b ∷ cs)))) ≡ reducedOf (constraintOf r cs b)
+pub reduced-is : (r : ℕ) (cs : List ℤ) (b : ℤ)
+    → constraintOf r (quotients (gcdAll (b ∷ cs)) cs) (quotZ b (pos (gcdAll (b ∷ cs)))) ≡ reducedOf (constraintOf r cs b)
 unfolding constraintOf reducedOf reduced
 reduced-is zero cs b = refl
 reduced-is (suc r) cs b = refl
@@ -58,7 +63,8 @@ pub with-constraint : (l : Line) → Shaped l → all isZero (l .coefficients) �
 with-constraint l h e = by (l .relation) refl
   where
     by : (r : ℕ) → l .relation ≡ r → 0 < r
-    by zero z = clash (all isZero (l .coefficients)) (subst (λ (cs : List ℤ). T (all isZero cs)) (sym (h .coefficients z)) (zeros-all 8)) (of-false (all isZero (l .coefficients)) e)
+    by zero z = clash (all isZero (l .coefficients)) (subst (λ (cs : List ℤ). T (all isZero cs)) (sym (h .coefficients z)) (zeros-all 8))
+        (of-false (all isZero (l .coefficients)) e)
     by (suc r) z = omega arith
 
 -- its content divides that coefficient

@@ -12,7 +12,7 @@ ghost use Rattle.rules.specs.Lists.{all};
 ghost use Rattle.rules.specs.Arithmetic.{isZero, related};
 ghost use Rattle.rules.specs.Lines.{meet};
 ghost use Rattle.rules.specs.Normalize.{normalLine};
-ghost use Rattle.resolution.specs.NormalLine.{having};
+ghost use Rattle.theory_resolution.specs.NormalLine.{having};
 ghost use Rattle.lines.specs.Line.{meaning, Shaped};
 ghost use Rattle.normalization.specs.Reduced.{Bounded};
 ghost use Rattle.normalization.specs.Normal.{normalized};

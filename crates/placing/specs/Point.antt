@@ -7,17 +7,18 @@ use borrow.Author.Tests.{le-leb, lt-leb}
 use native.Mathlib.Omega.{arith}
 use lib.ListN.{length, take, drop}
 use lib.Seq.{take-take, drop-drop}
-use Rattle.types.specs.declared.limits.Limits.{Limits}
+use Rattle.rules_types.specs.declared.limits.Limits.{Limits}
 use Rattle.rules.specs.Steps.{Step}
 use Rattle.rules.specs.Lines.{isEmpty}
 use Rattle.rules.specs.Elimination.{End, State, running, ended, empty, overflow, outOfSteps, limited, covered, placed, add}
 use Rattle.rules.specs.Needs.{pairsOf}
-use Rattle.line_bytes.specs.Places.{stepAt}
+use Rattle.steps.specs.Places.{stepAt}
 use Rattle.fields.specs.Field.{stored}
 use Rattle.placing.specs.declared.place.Progress.{Progress}
 use Rattle.placing.specs.declared.place.Progress.the-variants.{Running, Empty, Overflow, OutOfSteps}
 use Rattle.placing.specs.declared.place.Point.{Point}
-use Rattle.placing.specs.Steps.{stepFrom, stepsIn, length-stepsIn, Kept, Held, stepAt-same, stepsIn-same, stored-steps, stored-held, stored-front, stored-rest, stored-length}
+use Rattle.steps.specs.Held.{stepFrom, stepsIn, length-stepsIn, Kept, Held, stepAt-same, stepsIn-same, stored-steps, stored-held}
+use Rattle.steps.specs.Held.{stored-front, stored-rest, stored-length}
 
 unfoldable pub stateOf : Progress → List Step → ℕ → State
 stateOf Running steps pairs = running steps pairs
@@ -53,7 +54,8 @@ leads-trans {a = a} {b = b} {c = c} {n = n} {m = m} {k = k} x y =
       standing = y .standing;
       grows = omega (arith, x .grows, y .grows);
       front = sym (shorter c) ∙ ap (take (64 * n)) (y .front) ∙ shorter b ∙ x .front;
-      rest = y .rest ∙ rw (← e) (sym (drop-drop (64 * (k - m)) (64 * m) b) ∙ ap (drop (64 * (k - m))) (x .rest) ∙ drop-drop (64 * (k - m)) (64 * m) a);
+      rest = y .rest ∙ rw (← e)
+          (sym (drop-drop (64 * (k - m)) (64 * m) b) ∙ ap (drop (64 * (k - m))) (x .rest) ∙ drop-drop (64 * (k - m)) (64 * m) a);
       as-long = y .as-long ∙ x .as-long;
     }
   where
@@ -61,11 +63,14 @@ leads-trans {a = a} {b = b} {c = c} {n = n} {m = m} {k = k} x y =
     shorter s = take-take (64 * n) (64 * m) s (omega (arith, x .grows))
 
 -- what the first n steps say is said after them too
-pub leads-steps : {limits : Limits} {a b : List ℕ} {n m : ℕ} → Leads limits a n b m → 64 * n ≤ length a → (k : ℕ) → k ≤ n → stepsIn b k ≡ stepsIn a k
+pub leads-steps : {limits : Limits} {a b : List ℕ} {n m : ℕ} → Leads limits a n b m → 64 * n ≤ length a → (k : ℕ) → k ≤ n
+    → stepsIn b k ≡ stepsIn a k
 leads-steps {a = a} {b = b} {n = n} x h k l =
-    stepsIn-same a b k (sym (take-take (64 * k) (64 * n) b (omega arith)) ∙ ap (take (64 * k)) (x .front) ∙ take-take (64 * k) (64 * n) a (omega arith)) (omega arith) (x .as-long)
+    stepsIn-same a b k (sym (take-take (64 * k) (64 * n) b (omega arith)) ∙ ap (take (64 * k)) (x .front)
+    ∙ take-take (64 * k) (64 * n) a (omega arith)) (omega arith) (x .as-long)
 
-pub leads-step : {limits : Limits} {a b : List ℕ} {n m : ℕ} → Leads limits a n b m → 64 * n ≤ length a → (i : ℕ) → i < n → stepAt b i ≡ stepAt a i
+pub leads-step : {limits : Limits} {a b : List ℕ} {n m : ℕ} → Leads limits a n b m → 64 * n ≤ length a → (i : ℕ) → i < n
+    → stepAt b i ≡ stepAt a i
 leads-step {a = a} {b = b} {n = n} x h = stepAt-same a b n (x .front) h (x .as-long)
 
 -- the pairs of a point
@@ -114,16 +119,28 @@ module _ {limits : Limits} {proof : List ℕ} (p : Point) (standing : Standing l
   abbrev added : State
   added = add (limited limits) false s (stepsIn proof (p .steps)) (p .pairs)
 
-  pub place-known : covered (s .line) (stepsIn proof (p .steps)) ≡ true → Reaches limits proof p proof (record { progress = Running; steps = p .steps; pairs = p .pairs }) added
+  pub place-known : covered (s .line) (stepsIn proof (p .steps)) ≡ true → Reaches limits proof p proof (record {
+    progress = Running;
+    steps = p .steps;
+    pairs = p .pairs;
+  }) added
   unfolding stateAt stateOf add placed
   place-known e = record { is = rw e; leads = leads-none standing }
 
   module _ (new : covered (s .line) (stepsIn proof (p .steps)) ≡ false) where
-    pub place-out-of-steps : limits .steps ≤ p .steps → Reaches limits proof p proof (record { progress = OutOfSteps; steps = p .steps; pairs = p .pairs }) added
+    pub place-out-of-steps : limits .steps ≤ p .steps → Reaches limits proof p proof (record {
+      progress = OutOfSteps;
+      steps = p .steps;
+      pairs = p .pairs;
+    }) added
     unfolding stateAt stateOf add placed limited
-    place-out-of-steps h = record { is = rw (new, length-stepsIn proof (p .steps), le-leb (limits .steps) (p .steps) h); leads = leads-none standing }
+    place-out-of-steps h = record {
+      is = rw (new, length-stepsIn proof (p .steps), le-leb (limits .steps) (p .steps) h);
+      leads = leads-none standing;
+    }
 
-    module _ (bytes : List ℕ) (kept : Kept bytes) (is-step : stepFrom bytes ≡ s) (more : p .steps < limits .steps) (whole : length bytes ≡ 64) where
+    module _ (bytes : List ℕ) (kept : Kept bytes) (is-step : stepFrom bytes ≡ s) (more : p .steps < limits .steps)
+        (whole : length bytes ≡ 64) where
       abbrev put : Point
       put = record { progress = cond (isEmpty (s .line)) Empty Running; steps = p .steps + 1; pairs = p .pairs }
 
@@ -141,7 +158,11 @@ module _ {limits : Limits} {proof : List ℕ} (p : Point) (standing : Standing l
             is = rw (steps, new, length-stepsIn proof n, lt-leb (limits .steps) n more) (by (isEmpty (s .line)));
             leads =
                 record {
-                  standing = record { held = rw one (stored-held proof bytes n room whole (standing .held) kept); few = omega arith; room = rw (stored-length proof bytes n room whole) (standing .room) };
+                  standing = record {
+                    held = rw one (stored-held proof bytes n room whole (standing .held) kept);
+                    few = omega arith;
+                    room = rw (stored-length proof bytes n room whole) (standing .room);
+                  };
                   grows = omega arith;
                   front = stored-front proof bytes n room whole;
                   rest = rw one (stored-rest proof bytes n room whole);
@@ -149,6 +170,7 @@ module _ {limits : Limits} {proof : List ℕ} (p : Point) (standing : Standing l
                 };
           }
         where
-          by : (blank : Bool) → stateOf (cond blank Empty Running) (stepsIn proof (p .steps) ++ (s ∷ [])) (p .pairs) ≡ placed false false false blank s (stepsIn proof (p .steps)) (p .pairs)
+          by : (blank : Bool) → stateOf (cond blank Empty Running) (stepsIn proof (p .steps) ++ (s ∷ [])) (p .pairs)
+              ≡ placed false false false blank s (stepsIn proof (p .steps)) (p .pairs)
           by true = refl
           by false = refl

@@ -17,18 +17,18 @@ use Rattle.rules.specs.Lines as rules
 use Rattle.rules.specs.Lines.{sameConstraint, sameLine}
 use Rattle.rules.specs.Steps.{Step, Header, header, headerBytes, lineBytes}
 use Rattle.rules.specs.Elimination.{covered}
-use Rattle.lists.specs.Tests.{tests-agree}
-use Rattle.lists.specs.Tabulated.{length-tabulate, getD-tabulate}
-use Rattle.lists.specs.Equal.{same-yes, yes-same}
-use Rattle.lists.specs.Scan.{any-next, any-end}
-use Rattle.vectors.specs.Sign.{equal-refl}
-use Rattle.saturation.specs.Equal.{sameLine-yes}
+use Rattle.theory_lists.specs.Tests.{tests-agree}
+use Rattle.theory_lists.specs.Tabulated.{length-tabulate, getD-tabulate}
+use Rattle.theory_lists.specs.Equal.{same-yes, yes-same}
+use Rattle.theory_lists.specs.Scan.{any-next, any-end}
+use Rattle.theory_vectors.specs.Sign.{equal-refl}
+use Rattle.theory_saturation.specs.Equal.{sameLine-yes}
 use Rattle.lines.specs.declared.line.Line.{Line}
 use Rattle.lines.specs.Line.{meaning}
-use Rattle.line_bytes.specs.Encoding.{headerOf, encoded, encodeStep-is, length-headerBytes}
-use Rattle.line_bytes.specs.Decoding.{decoded, decoded-encoded}
-use Rattle.line_bytes.specs.Places.{stepAt}
-use Rattle.placing.specs.Steps.{stepFrom, stepsIn, length-stepsIn, Kept, Held, Words, kept-words}
+use Rattle.steps.specs.Encoding.{headerOf, encoded, encodeStep-is, length-headerBytes}
+use Rattle.steps.specs.Decoding.{decoded, decoded-encoded}
+use Rattle.steps.specs.Places.{stepAt}
+use Rattle.steps.specs.Held.{stepFrom, stepsIn, length-stepsIn, Kept, Held, Words, kept-words}
 
 -- ---- a line equals itself
 self : (a : Bool) → T (Bool·beq a a)
@@ -39,12 +39,17 @@ constraint-self : (c : Option Constraint) → T (sameConstraint c c)
 unfolding sameConstraint
 constraint-self none = tt
 constraint-self (some c) =
-    yes-and (equal (c .bound) (c .bound) && Bool·beq (c .strict) (c .strict)) (same equal (c .coefficients) (c .coefficients)) (yes-and (equal (c .bound) (c .bound)) (Bool·beq (c .strict) (c .strict)) (equal-refl (c .bound)) (self (c .strict))) (yes-same equal equal-refl (c .coefficients) (c .coefficients) refl)
+    yes-and (equal (c .bound) (c .bound) && Bool·beq (c .strict) (c .strict)) (same equal (c .coefficients) (c .coefficients))
+    (yes-and (equal (c .bound) (c .bound)) (Bool·beq (c .strict) (c .strict)) (equal-refl (c .bound)) (self (c .strict)))
+    (yes-same equal equal-refl (c .coefficients) (c .coefficients) refl)
 
 line-self : (l : rules.Line) → T (sameLine l l)
 unfolding sameLine
 line-self l =
-    yes-and (sameConstraint (l .constraint) (l .constraint) && same Bool·beq (l .positive) (l .positive)) (same Bool·beq (l .negative) (l .negative)) (yes-and (sameConstraint (l .constraint) (l .constraint)) (same Bool·beq (l .positive) (l .positive)) (constraint-self (l .constraint)) (yes-same Bool·beq self (l .positive) (l .positive) refl)) (yes-same Bool·beq self (l .negative) (l .negative) refl)
+    yes-and (sameConstraint (l .constraint) (l .constraint) && same Bool·beq (l .positive) (l .positive)) (same Bool·beq (l .negative)
+    (l .negative)) (yes-and (sameConstraint (l .constraint) (l .constraint)) (same Bool·beq (l .positive) (l .positive))
+    (constraint-self (l .constraint)) (yes-same Bool·beq self (l .positive) (l .positive) refl))
+    (yes-same Bool·beq self (l .negative) (l .negative) refl)
 
 -- ---- the bytes behind the header
 unfoldable pub behind : List ℕ → List ℕ
@@ -57,7 +62,8 @@ tail l = lineBytes l ++ replicate (64 - (6 + length (lineBytes l))) 0
 encoded-tail : (h : Header) (l : rules.Line) → encoded h l ≡ headerBytes h ++ tail l
 unfolding encoded padded tail
 encoded-tail h l =
-    ap (λ (k : ℕ). (headerBytes h ++ lineBytes l) ++ replicate {A = ℕ} (64 - k) 0) (length-append (headerBytes h) (lineBytes l) ∙ ap (λ (k : ℕ). k + length (lineBytes l)) (length-headerBytes h))
+    ap (λ (k : ℕ). (headerBytes h ++ lineBytes l) ++ replicate {A = ℕ} (64 - k) 0)
+    (length-append (headerBytes h) (lineBytes l) ∙ ap (λ (k : ℕ). k + length (lineBytes l)) (length-headerBytes h))
     ∙ append-assoc (headerBytes h) (lineBytes l) (replicate (64 - (6 + length (lineBytes l))) 0)
 
 behind-encoded : (h : Header) (l : rules.Line) → behind (encoded h l) ≡ tail l
@@ -65,7 +71,8 @@ unfolding behind
 behind-encoded h l = ap (drop 6) (encoded-tail h l) ∙ drop-at (headerBytes h) (tail l) 6 (length-headerBytes h)
 
 line-by-tail : (l : Line) → Words l → decoded (headerBytes (headerOf 0 0 0 0) ++ tail (meaning l)) ≡ l
-line-by-tail l w = ap decoded (sym (encoded-tail (headerOf 0 0 0 0) (meaning l))) ∙ decoded-encoded (headerOf 0 0 0 0) l (w .ready) (w .eight) (w .positive) (w .negative)
+line-by-tail l w = ap decoded (sym (encoded-tail (headerOf 0 0 0 0) (meaning l)))
+    ∙ decoded-encoded (headerOf 0 0 0 0) l (w .ready) (w .eight) (w .positive) (w .negative)
 
 -- a step's bytes against those of a line
 module _ (b : List ℕ) (kept : Kept b) (h : Header) (l : Line) (words : Words l) where
@@ -79,7 +86,8 @@ module _ (b : List ℕ) (kept : Kept b) (h : Header) (l : Line) (words : Words l
       (λ t.
       let e : behind b ≡ behind (encoded h (meaning l)) = same-yes eqb eqb→eq (behind b) (behind (encoded h (meaning l))) t in
       let f : tail (meaning (decoded b)) ≡ tail (meaning l) = sym behind-kept ∙ e ∙ behind-encoded h (meaning l) in
-      let g : decoded b ≡ l = sym (line-by-tail (decoded b) (kept-words b kept)) ∙ ap (λ (x : List ℕ). decoded (headerBytes (headerOf 0 0 0 0) ++ x)) f ∙ line-by-tail l words in
+      let g : decoded b ≡ l = sym (line-by-tail (decoded b) (kept-words b kept))
+      ∙ ap (λ (x : List ℕ). decoded (headerBytes (headerOf 0 0 0 0) ++ x)) f ∙ line-by-tail l words in
       subst (λ (m : Line). T (sameLine (meaning (decoded b)) (meaning m))) g (line-self (meaning (decoded b))))
       (λ t.
       let e : meaning (decoded b) ≡ meaning l = sameLine-yes (meaning (decoded b)) (meaning l) t in
@@ -111,12 +119,14 @@ module _ (l : rules.Line) (proof : List ℕ) (n : ℕ) where
   unfolding covered coveredFrom
   covered-all = refl
 
-  pub covered-next : (i : ℕ) → i < n → coveredFrom i l proof n ≡ sameLine (meaning (decoded (stepAt proof i))) l || coveredFrom (i + 1) l proof n
+  pub covered-next : (i : ℕ) → i < n → coveredFrom i l proof n ≡ sameLine (meaning (decoded (stepAt proof i))) l
+      || coveredFrom (i + 1) l proof n
   unfolding coveredFrom stepsIn stepFrom
   covered-next i h =
       let f : ℕ → Step = λ k. stepFrom (stepAt proof k) in
       any-next (f i) (λ s. sameLine (s .line) l) (tabulate n f) i (omega (arith, length-tabulate n f))
-      ∙ ap (λ (s : Step). sameLine (s .line) l || any (λ s. sameLine (s .line) l) (drop (i + 1) (tabulate n f))) (getD-tabulate n f i (f i) h)
+      ∙ ap (λ (s : Step). sameLine (s .line) l || any (λ s. sameLine (s .line) l) (drop (i + 1) (tabulate n f)))
+      (getD-tabulate n f i (f i) h)
 
   pub covered-none : (i : ℕ) → n ≤ i → i ≤ n → coveredFrom i l proof n ≡ false
   unfolding coveredFrom
@@ -124,6 +134,8 @@ module _ (l : rules.Line) (proof : List ℕ) (n : ℕ) where
 
 -- of these bytes of a line
 pub covered-step : {proof : List ℕ} {n : ℕ} → Held proof n → (i : ℕ) → i < n → (h : Header) (l : Line) → Words l
-    → coveredFrom i (meaning l) proof n ≡ same eqb (behind (stepAt proof i)) (behind (encoded h (meaning l))) || coveredFrom (i + 1) (meaning l) proof n
+    → coveredFrom i (meaning l) proof n ≡ same eqb (behind (stepAt proof i)) (behind (encoded h (meaning l)))
+    || coveredFrom (i + 1) (meaning l) proof n
 covered-step {proof} {n} held i k h l w =
-    covered-next (meaning l) proof n i k ∙ ap (λ (t : Bool). t || coveredFrom (i + 1) (meaning l) proof n) (sym (same-bytes (stepAt proof i) (held .steps i k) h l w))
+    covered-next (meaning l) proof n i k
+    ∙ ap (λ (t : Bool). t || coveredFrom (i + 1) (meaning l) proof n) (sym (same-bytes (stepAt proof i) (held .steps i k) h l w))

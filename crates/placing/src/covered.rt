@@ -1,7 +1,7 @@
 // Whether an equal line is held already: the one place that looks for it.
 use fields::u32_at;
-use line_bytes::encode::encode;
 use lines::line::Line;
+use steps::encode::encode;
 ghost use mathlib.Core.Path.{_≡_};
 ghost use Prim.Native.Nat.{_+_, _*_, _≤_};
 ghost use lib.Dec.{eqb};
@@ -10,8 +10,8 @@ ghost use Rattle.rules.specs.Bytes.{fieldAt};
 ghost use Rattle.rules.specs.Lists.{same};
 ghost use Rattle.rules.specs.Elimination.{covered};
 ghost use Rattle.lines.specs.Line.{meaning, Ready};
-ghost use Rattle.line_bytes.specs.Places.{stepAt};
-ghost use Rattle.placing.specs.Steps.{stepsIn, Held};
+ghost use Rattle.steps.specs.Places.{stepAt};
+ghost use Rattle.steps.specs.Held.{stepsIn, Held};
 ghost use Rattle.placing.specs.Same.{behind};
 
 // Whether step i and these bytes are equal behind their headers. The bound, which tells most lines apart, is compared first, and then the

@@ -1,15 +1,15 @@
 // A line put to the tests: equal to an earlier one, one too many, empty; and else held.
 use crate::covered::covered;
-use line_bytes::encode::encode;
-use line_bytes::steps::put;
 use lines::line::Line;
-use types::limits::Limits;
+use rules_types::limits::Limits;
+use steps::encode::encode;
+use steps::store::put;
 ghost use mathlib.Core.Path.{_≡_};
 ghost use mathlib.Core.Bool.{false, cond};
 ghost use Rattle.rules.specs.Lines.{isEmpty};
 ghost use Rattle.rules.specs.Elimination.{limited, add};
 ghost use Rattle.lines.specs.Line.{meaning, Ready};
-ghost use Rattle.placing.specs.Steps.{stepsIn, Named, stepOf};
+ghost use Rattle.steps.specs.Held.{stepsIn, Named, stepOf};
 ghost use Rattle.placing.specs.Point.{isRunning, Standing, Reaches};
 ghost use Rattle.placing.specs.declared.place.Progress.the-variants.{Running, Empty};
 

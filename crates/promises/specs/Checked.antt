@@ -10,12 +10,12 @@ use borrow.Author.Tests.{lt-ltb, le-ltb}
 use lib.Dec.{T, eqb, leb, leb→le}
 use lib.ListN.{length, take, drop, length-append}
 use mir.Facts.{and-yes}
-use Rattle.types.specs.declared.answers.Refusal.{Refusal}
-use Rattle.types.specs.declared.answers.Refusal.the-variants.{ShortModel, ProofLength}
-use Rattle.types.specs.declared.answers.Checked.{Checked}
-use Rattle.types.specs.declared.answers.Checked.the-variants.{Accepted, Fails, Refused}
-use Rattle.types.specs.declared.limits.Limits.{Limits}
-use Rattle.types.specs.Limits as limit
+use Rattle.rules_types.specs.declared.answers.Refusal.{Refusal}
+use Rattle.rules_types.specs.declared.answers.Refusal.the-variants.{ShortModel, ProofLength}
+use Rattle.rules_types.specs.declared.answers.Checked.{Checked}
+use Rattle.rules_types.specs.declared.answers.Checked.the-variants.{Accepted, Fails, Refused}
+use Rattle.rules_types.specs.declared.limits.Limits.{Limits}
+use Rattle.rules_types.specs.Limits as limit
 use Rattle.rules.specs.Problem.{Problem, fault}
 use Rattle.rules.specs.Lines.{Line, isEmpty}
 use Rattle.rules.specs.Steps.{Step}
@@ -23,70 +23,95 @@ use Rattle.rules.specs.Elimination.{loadableOf}
 use Rattle.rules.specs.Model.{model}
 use Rattle.rules.specs.Checker.{statedLine, checkSteps, checkProof}
 use Rattle.rules.specs.Calls.{faulty, sound, read, wholeSteps, proofChecked, modelChecked}
-use Rattle.lists.specs.Tests.{split, is-true, is-false, clash}
-use Rattle.soundness.specs.ProofChecked.{refused-not, same-problem}
-use Rattle.soundness.specs.ModelChecked.{CheckedModel, model-checked-satisfies, satisfying-model-checked}
-use Rattle.lists.specs.All.{All, all-append}
-use Rattle.soundness.specs.WellFormed.{WellFormed}
-use Rattle.soundness.specs.Reading.{read-well-formed}
-use Rattle.encoding.specs.Lines.{Encodable, AllEncodable}
-use Rattle.encoding.specs.Following.{Follows, stated-follows, follows-stated, follows-encodable}
-use Rattle.encoding.specs.EliminationAccepted.{parts-encodable}
+use Rattle.theory_lists.specs.Tests.{split, is-true, is-false, clash}
+use Rattle.theory_checks.specs.ProofChecked.{refused-not, same-problem}
+use Rattle.theory_checks.specs.ModelChecked.{CheckedModel, model-checked-satisfies, satisfying-model-checked}
+use Rattle.theory_lists.specs.All.{All, all-append}
+use Rattle.theory_splitting.specs.WellFormed.{WellFormed}
+use Rattle.theory_splitting.specs.Reading.{read-well-formed}
+use Rattle.theory_bytes.specs.Lines.{Encodable, AllEncodable}
+use Rattle.theory_checks.specs.Following.{Follows, stated-follows, follows-stated, follows-encodable}
+use Rattle.theory_checks.specs.EliminationAccepted.{parts-encodable}
 use Rattle.promises.specs.Words.{RefutesFrom, Refutes, WritesAssignment}
 
 never : {X : Type 0} (n : ℕ) → Fails n ≡ Accepted → X
 never n e = absurd (let z : _≡_ {A = ℕ} 0 1 = cc in omega arith)
 
 module _ (parts : List Step) (known : AllEncodable parts) where
-  steps-exactly : (k : ℕ) (earlier : List Line) (ends : Bool) (bytes : List ℕ) → All Encodable earlier → length earlier + k ≤ 65536 → checkSteps parts k earlier ends bytes ≡ Accepted ↔ RefutesFrom parts k earlier ends bytes
+  steps-exactly : (k : ℕ) (earlier : List Line) (ends : Bool) (bytes : List ℕ) → All Encodable earlier → length earlier + k ≤ 65536
+      → checkSteps parts k earlier ends bytes ≡ Accepted ↔ RefutesFrom parts k earlier ends bytes
   unfolding checkSteps
   steps-exactly zero earlier true bytes h n = (λ a. tt, λ a. refl)
   steps-exactly zero earlier false bytes h n = (λ a. never (length earlier) a, λ a. absurd a)
   steps-exactly (suc k) earlier ends bytes h n =
       both
-      (λ l f. steps-exactly k (earlier ++ (l ∷ [])) (isEmpty l) (drop limit.stepBytes bytes) (all-append Encodable earlier (l ∷ []) h (follows-encodable parts known earlier (omega arith) h line l f, tt))
+      (λ l f. steps-exactly k (earlier ++ (l ∷ [])) (isEmpty l) (drop limit.stepBytes bytes)
+      (all-append Encodable earlier (l ∷ []) h (follows-encodable parts known earlier (omega arith) h line l f, tt))
       (rw (length-append earlier (l ∷ [])) (omega arith)))
     where
       line : List ℕ
       line = take limit.stepBytes bytes
 
       Then : Line → Type 0
-      Then l = checkSteps parts k (earlier ++ (l ∷ [])) (isEmpty l) (drop limit.stepBytes bytes) ≡ Accepted ↔ RefutesFrom parts k (earlier ++ (l ∷ [])) (isEmpty l) (drop limit.stepBytes bytes)
+      Then l = checkSteps parts k (earlier ++ (l ∷ [])) (isEmpty l) (drop limit.stepBytes bytes) ≡ Accepted
+          ↔ RefutesFrom parts k (earlier ++ (l ∷ [])) (isEmpty l) (drop limit.stepBytes bytes)
 
       forth : ((l : Line) → Follows parts earlier line l → Then l) → (o : Option Line) → statedLine parts earlier line ≡ o
-          → _≡_ {A = Checked} (elim o [ none ↦ Fails (length earlier) | some l ↦ checkSteps parts k (earlier ++ (l ∷ [])) (isEmpty l) (drop limit.stepBytes bytes) ]) Accepted → RefutesFrom parts (suc k) earlier ends bytes
+          → _≡_ {A = Checked} (elim o [
+            | none ↦ Fails (length earlier)
+            | some l ↦ checkSteps parts k (earlier ++ (l ∷ [])) (isEmpty l)
+                (drop limit.stepBytes bytes)
+          ]) Accepted → RefutesFrom parts (suc k) earlier ends bytes
       forth then none e a = never (length earlier) a
       forth then (some l) e a = let f = stated-follows line l earlier parts e in (l, f, then l f .0 a)
 
-      both : ((l : Line) → Follows parts earlier line l → Then l) → checkSteps parts (suc k) earlier ends bytes ≡ Accepted ↔ RefutesFrom parts (suc k) earlier ends bytes
-      both then = (λ a. forth then (statedLine parts earlier line) refl a, λ r. rw (follows-stated parts known earlier (omega arith) h line (r .0) (r .1), checkSteps) (then (r .0) (r .1) .1 (r .2)))
+      both : ((l : Line) → Follows parts earlier line l → Then l) → checkSteps parts (suc k) earlier ends bytes ≡ Accepted
+          ↔ RefutesFrom parts (suc k) earlier ends bytes
+      both then = (
+        λ a. forth then (statedLine parts earlier line) refl a,
+        λ r. rw (follows-stated parts known earlier (omega arith) h line (r .0) (r .1), checkSteps) (then (r .0) (r .1) .1 (r .2)),
+      )
 
-accepted-exactly : (p : Problem) → WellFormed p → (bytes : List ℕ) → length bytes / limit.stepBytes ≤ 65536 → checkProof p bytes ≡ Accepted ↔ Refutes (loadableOf p) (length bytes / limit.stepBytes) bytes
+accepted-exactly : (p : Problem) → WellFormed p → (bytes : List ℕ) → length bytes / limit.stepBytes ≤ 65536 → checkProof p bytes ≡ Accepted
+    ↔ Refutes (loadableOf p) (length bytes / limit.stepBytes) bytes
 unfolding checkProof
-accepted-exactly p w bytes n = steps-exactly (loadableOf p) (parts-encodable p w) (length bytes / limit.stepBytes) [] false bytes tt (omega arith)
+accepted-exactly p w bytes n =
+    steps-exactly (loadableOf p) (parts-encodable p w) (length bytes / limit.stepBytes) [] false bytes tt (omega arith)
 
 -- no more lines than the limit
 pub whole-few : (limits : Limits) → limits .steps ≤ 65536 → (n : ℕ) → T (wholeSteps limits n) → n / limit.stepBytes ≤ 65536
 unfolding wholeSteps
 whole-few limits few n t =
     let a = and-yes (leb limit.stepBytes n && leb n (limit.proofBytes limits)) (eqb (n % limit.stepBytes) 0) t in
-    let b : n ≤ limits .steps * 64 = leb→le n (limit.proofBytes limits) (and-yes (leb limit.stepBytes n) (leb n (limit.proofBytes limits)) (a .0) .1) in
+    let b : n ≤ limits .steps * 64 =
+    leb→le n (limit.proofBytes limits) (and-yes (leb limit.stepBytes n) (leb n (limit.proofBytes limits)) (a .0) .1) in
     omega arith
 
 -- ---- the calls, for a question read without fault
 module _ (input : List ℕ) (p : Problem) (e : read input ≡ sound p) where
-  pub proof-exactly : (limits : Limits) → limits .steps ≤ 65536 → (bytes : List ℕ) → proofChecked limits input bytes ≡ Accepted ↔ (T (wholeSteps limits (length bytes)) × Refutes (loadableOf p) (length bytes / limit.stepBytes) bytes)
+  pub proof-exactly : (limits : Limits) → limits .steps ≤ 65536 → (bytes : List ℕ) → proofChecked limits input bytes ≡ Accepted
+      ↔ (T (wholeSteps limits (length bytes)) × Refutes (loadableOf p) (length bytes / limit.stepBytes) bytes)
   unfolding proofChecked
   proof-exactly limits few bytes =
       let whole = wholeSteps limits (length bytes) in
       ⊎-elim
       (λ t. let x = accepted-exactly p (read-well-formed input p e) bytes (whole-few limits few (length bytes) t) in
       (λ a. (t, x .0 (rw (e, proofChecked, is-true whole t) at a)), λ h. rw (e, proofChecked, is-true whole t) (x .1 (h .1))))
-      (λ t. (λ a. absurd (refused-not ProofLength (length bytes) (rw (e, proofChecked, is-false whole t) at a)), λ h. clash whole (h .0) t)) (split whole)
+      (λ t. (
+        λ a. absurd (refused-not ProofLength (length bytes) (rw (e, proofChecked, is-false whole t) at a)),
+        λ h. clash whole (h .0) t,
+      )) (split whole)
 
   read-assignment : (bytes : List ℕ) (c : CheckedModel input bytes) → c .problem ≡ p → WritesAssignment p bytes
   read-assignment bytes c q =
-      record { size = c .size; assignment = c .assignment; rest = c .rest; place = c .place; stated = rw q at (c .states); satisfies = rw q at (c .satisfies) }
+      record {
+        size = c .size;
+        assignment = c .assignment;
+        rest = c .rest;
+        place = c .place;
+        stated = rw q at (c .states);
+        satisfies = rw q at (c .satisfies);
+      }
 
   pub model-exactly : (bytes : List ℕ) → modelChecked input bytes ≡ Accepted ↔ WritesAssignment p bytes
   model-exactly bytes = (
@@ -95,7 +120,8 @@ module _ (input : List ℕ) (p : Problem) (e : read input ≡ sound p) where
   )
 
   -- what a check refuses itself: a book by its length; a sheet too short, else by the first field that is refused
-  pub proof-length-refused : (limits : Limits) (bytes : List ℕ) → wholeSteps limits (length bytes) ≡ false → proofChecked limits input bytes ≡ Refused ProofLength (length bytes)
+  pub proof-length-refused : (limits : Limits) (bytes : List ℕ) → wholeSteps limits (length bytes) ≡ false
+      → proofChecked limits input bytes ≡ Refused ProofLength (length bytes)
   unfolding proofChecked
   proof-length-refused limits bytes h = rw (e, proofChecked, h)
 
@@ -103,7 +129,8 @@ module _ (input : List ℕ) (p : Problem) (e : read input ≡ sound p) where
   unfolding modelChecked
   model-short-refused bytes h = rw (e, modelChecked, lt-ltb (length bytes) limit.modelBytes h)
 
-  pub model-field-refused : (bytes : List ℕ) (f : Refusal) (place : ℕ) → limit.modelBytes ≤ length bytes → model (p .booleans) (p .rationals) bytes 0 ≡ fault f place → modelChecked input bytes ≡ Refused f place
+  pub model-field-refused : (bytes : List ℕ) (f : Refusal) (place : ℕ) → limit.modelBytes ≤ length bytes
+      → model (p .booleans) (p .rationals) bytes 0 ≡ fault f place → modelChecked input bytes ≡ Refused f place
   unfolding modelChecked
   model-field-refused bytes f place h k = rw (e, modelChecked, le-ltb (length bytes) limit.modelBytes h, k)
 

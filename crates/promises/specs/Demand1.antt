@@ -4,14 +4,14 @@ use mathlib.Core.Path.{_≡_}
 use mathlib.Core.List.{List, _++_}
 use Prim.Native.Nat.{ℕ, _*_, _-_, _≤_, _<_}
 use lib.ListN.{length, replicate, drop}
-use Rattle.types.specs.declared.answers.Refusal.{Refusal}
-use Rattle.types.specs.declared.answers.Refusal.the-variants as refusal
-use Rattle.types.specs.declared.answers.Verdict.{Verdict}
-use Rattle.types.specs.declared.answers.Verdict.the-variants.{Satisfiable}
-use Rattle.types.specs.declared.answers.Answer.the-variants.{Refused}
-use Rattle.types.specs.declared.answers.Checked.the-variants as checked
-use Rattle.types.specs.declared.limits.Limits.{Limits}
-use Rattle.types.specs.Limits as limit
+use Rattle.rules_types.specs.declared.answers.Refusal.{Refusal}
+use Rattle.rules_types.specs.declared.answers.Refusal.the-variants as refusal
+use Rattle.rules_types.specs.declared.answers.Verdict.{Verdict}
+use Rattle.rules_types.specs.declared.answers.Verdict.the-variants.{Satisfiable}
+use Rattle.rules_types.specs.declared.answers.Answer.the-variants.{Refused}
+use Rattle.rules_types.specs.declared.answers.Checked.the-variants as checked
+use Rattle.rules_types.specs.declared.limits.Limits.{Limits}
+use Rattle.rules_types.specs.Limits as limit
 use Rattle.rules.specs.Problem.{Problem}
 use Rattle.rules.specs.Steps.{encodeProof}
 use Rattle.rules.specs.Elimination.{limited, elimination}
@@ -29,19 +29,25 @@ pub record Demand1 (limits : Limits) (input lentProof lentModel : List ℕ) (our
   -- "The lent memory, for a question of arbitrary bytes and buffers of every length, ends as document 01 says: book and sheet after a
   -- verdict,": the lines, zeros, and what lay beyond; the value rule's sheet after "agrees", zeros otherwise, and what lay beyond
   pub proof : FullSize limits lentProof lentModel → (p : Problem) → read input ≡ sound p → (v : Verdict) → Comes v (ours .solved .answer)
-      → ours .proof ≡ encodeProof (stepsOf (elimination (limited limits) p)) ++ replicate (limit.proofBytes limits - limit.stepBytes * length (stepsOf (elimination (limited limits) p))) 0 ++ drop (limit.proofBytes limits) lentProof
-  pub satisfiable : FullSize limits lentProof lentModel → (p : Problem) → read input ≡ sound p → Comes Satisfiable (ours .solved .answer) → OurModel p ours lentModel
-  pub others : FullSize limits lentProof lentModel → (p : Problem) → read input ≡ sound p → (v : Verdict) → Comes v (ours .solved .answer) → (v ≡ Satisfiable → ⊥)
+      → ours .proof ≡ encodeProof (stepsOf (elimination (limited limits) p)) ++ replicate (limit.proofBytes limits
+      - limit.stepBytes * length (stepsOf (elimination (limited limits) p))) 0 ++ drop (limit.proofBytes limits) lentProof
+  pub satisfiable : FullSize limits lentProof lentModel → (p : Problem) → read input ≡ sound p → Comes Satisfiable (ours .solved .answer)
+      → OurModel p ours lentModel
+  pub others : FullSize limits lentProof lentModel → (p : Problem) → read input ≡ sound p → (v : Verdict)
+      → Comes v (ours .solved .answer) → (v ≡ Satisfiable → ⊥)
       → ours .model ≡ replicate limit.modelBytes 0 ++ drop limit.modelBytes lentModel
   -- "its old bytes after a faulty question or short buffer,": 1 before 2 before the question's first fault
   pub shortProof : length lentProof < limit.proofBytes limits → ours ≡ untouched refusal.ShortProof 0 lentProof lentModel
-  pub shortModel : limit.proofBytes limits ≤ length lentProof → length lentModel < limit.modelBytes → ours ≡ untouched refusal.ShortModel 0 lentProof lentModel
-  pub faultyInput : FullSize limits lentProof lentModel → (f : Refusal) (place : ℕ) → read input ≡ faulty f place → ours ≡ untouched f place lentProof lentModel
+  pub shortModel : limit.proofBytes limits ≤ length lentProof → length lentModel < limit.modelBytes
+      → ours ≡ untouched refusal.ShortModel 0 lentProof lentModel
+  pub faultyInput : FullSize limits lentProof lentModel → (f : Refusal) (place : ℕ) → read input ≡ faulty f place
+      → ours ≡ untouched f place lentProof lentModel
   -- "a zeroed book and the old sheet after a refused course."
   pub refusedElimination : FullSize limits lentProof lentModel → (p : Problem) → read input ≡ sound p → LimitMet (ours .solved .answer)
       → (ours .proof ≡ replicate (limit.proofBytes limits) 0 ++ drop (limit.proofBytes limits) lentProof) × (ours .model ≡ lentModel)
   -- "and names the first fault in 01's order.": the checks too name the question's before they look at book or sheet
-  pub firstFault : (f : Refusal) (place : ℕ) → read input ≡ faulty f place → (bytes : List ℕ) → (proofChecked limits input bytes ≡ checked.Refused f place) × (modelChecked input bytes ≡ checked.Refused f place)
+  pub firstFault : (f : Refusal) (place : ℕ) → read input ≡ faulty f place → (bytes : List ℕ)
+      → (proofChecked limits input bytes ≡ checked.Refused f place) × (modelChecked input bytes ≡ checked.Refused f place)
   -- no buffer grows or shrinks
   pub sizes : (length (ours .proof) ≡ length lentProof) × (length (ours .model) ≡ length lentModel)
 

@@ -7,22 +7,22 @@ use mathlib.Core.Option.{none, some}
 use Prim.Native.Nat.{ℕ, _*_, _-_, _/_, _≤_}
 use native.Mathlib.Omega.{arith}
 use lib.ListN.{length, replicate, take, drop}
-use Rattle.types.specs.declared.answers.Refusal.the-variants as refusal
-use Rattle.types.specs.declared.answers.Verdict.{Verdict}
-use Rattle.types.specs.declared.answers.Verdict.the-variants.{Satisfiable, Unsatisfiable, Unwritten}
-use Rattle.types.specs.declared.answers.Checked.the-variants.{Accepted}
-use Rattle.types.specs.declared.limits.Limits.{Limits}
-use Rattle.types.specs.Limits as limit
-use Rattle.types.specs.Answers.{answerValue}
+use Rattle.rules_types.specs.declared.answers.Refusal.the-variants as refusal
+use Rattle.rules_types.specs.declared.answers.Verdict.{Verdict}
+use Rattle.rules_types.specs.declared.answers.Verdict.the-variants.{Satisfiable, Unsatisfiable, Unwritten}
+use Rattle.rules_types.specs.declared.answers.Checked.the-variants.{Accepted}
+use Rattle.rules_types.specs.declared.limits.Limits.{Limits}
+use Rattle.rules_types.specs.Limits as limit
+use Rattle.rules_types.specs.Answers.{answerValue}
 use Rattle.rules.specs.Problem.{Problem}
 use Rattle.rules.specs.Steps.{encodeProof}
 use Rattle.rules.specs.Elimination.{limited, overflow, outOfSteps, order, loadableOf, elimination}
 use Rattle.rules.specs.Needs.{stepsOf, pairsOf, Fits}
 use Rattle.rules.specs.Calls.{sound, read, Solving, solve, proofChecked}
-use Rattle.elimination.specs.Events.{events}
-use Rattle.verdicts.specs.Decided.{NoAssignment}
-use Rattle.soundness.specs.Reading.{read-well-formed}
-use Rattle.soundness.specs.ProofChecked.{proof-checked-refutes}
+use Rattle.theory_elimination.specs.Events.{events}
+use Rattle.promises.specs.Decided.{NoAssignment}
+use Rattle.theory_splitting.specs.Reading.{read-well-formed}
+use Rattle.theory_checks.specs.ProofChecked.{proof-checked-refutes}
 use Rattle.promises.specs.Words.{SomeAssignment, modelOf, GivesModel, OurModel, Comes, IsRefused, LimitMet, firstStop, FullSize}
 use Rattle.promises.specs.Outcomes.{unsatisfiable-exactly, satisfiable-exactly, unwritten-exactly, otherwise}
 use Rattle.promises.specs.Reported.{solve-is, reported-lines, reported-pairs, at-most, proof-holds}
@@ -40,21 +40,26 @@ pub record Demand3 (limits : Limits) (input : List ℕ) (p : Problem) (lentProof
   pub unwritten : Fits limits p → Comes Unwritten (ours .solved .answer) ↔ (SomeAssignment p × (modelOf p ≡ none))
   -- "Otherwise, and only otherwise, "wide" or "full" comes, whichever the course meets first."
   pub otherwise : LimitMet (ours .solved .answer) ↔ (Fits limits p → ⊥)
-  pub isOverflow : IsRefused refusal.Overflow (ours .solved .answer) ↔ (firstStop (limited limits) (events order (loadableOf p)) ≡ some overflow)
-  pub isOutOfSteps : IsRefused refusal.OutOfSteps (ours .solved .answer) ↔ (firstStop (limited limits) (events order (loadableOf p)) ≡ some outOfSteps)
+  pub isOverflow : IsRefused refusal.Overflow (ours .solved .answer)
+      ↔ (firstStop (limited limits) (events order (loadableOf p)) ≡ some overflow)
+  pub isOutOfSteps : IsRefused refusal.OutOfSteps (ours .solved .answer)
+      ↔ (firstStop (limited limits) (events order (loadableOf p)) ≡ some outOfSteps)
   -- "In every case the lines and pairs reported are those the course holds and tries, the pairs at most 262,144,"
   pub lines : answerValue (ours .solved .answer) ≡ length (stepsOf (elimination (limited limits) p))
   pub pairs : ours .solved .pairs ≡ pairsOf (elimination (limited limits) p)
   pub atMost : ours .solved .pairs ≤ limits .steps * limits .steps / 4
   -- "and after a verdict the book holds just those lines as 01 writes them."
   pub holds : (v : Verdict) → Comes v (ours .solved .answer)
-      → ours .proof ≡ encodeProof (stepsOf (elimination (limited limits) p)) ++ replicate (limit.proofBytes limits - limit.stepBytes * length (stepsOf (elimination (limited limits) p))) 0 ++ drop (limit.proofBytes limits) lentProof
+      → ours .proof ≡ encodeProof (stepsOf (elimination (limited limits) p)) ++ replicate (limit.proofBytes limits
+      - limit.stepBytes * length (stepsOf (elimination (limited limits) p))) 0 ++ drop (limit.proofBytes limits) lentProof
   -- "And whenever the check accepts a book for Q, as it does the used lines of ours after "cannot agree", no choice satisfies Q,
   -- whoever wrote the book."
   pub refutes : (other : List ℕ) → proofChecked limits input other ≡ Accepted → NoAssignment p
-  pub accepted : Comes Unsatisfiable (ours .solved .answer) → proofChecked limits input (take (limit.stepBytes * answerValue (ours .solved .answer)) (ours .proof)) ≡ Accepted
+  pub accepted : Comes Unsatisfiable (ours .solved .answer)
+      → proofChecked limits input (take (limit.stepBytes * answerValue (ours .solved .answer)) (ours .proof)) ≡ Accepted
 
-pub demand3 : (limits : Limits) → limits .steps ≤ 65536 → (input : List ℕ) (p : Problem) → read input ≡ sound p → (proof model : List ℕ) → FullSize limits proof model → Demand3 limits input p proof model (solve limits input proof model)
+pub demand3 : (limits : Limits) → limits .steps ≤ 65536 → (input : List ℕ) (p : Problem) → read input ≡ sound p → (proof model : List ℕ)
+    → FullSize limits proof model → Demand3 limits input p proof model (solve limits input proof model)
 demand3 limits few input p e proof model full =
     subst (Demand3 limits input p proof model) (sym (solve-is limits input p e proof model full))
     (record {
@@ -74,5 +79,6 @@ demand3 limits few input p e proof model full =
     })
 
 -- with document 01's limit
-pub pairs-262144 : (input : List ℕ) (p : Problem) → read input ≡ sound p → (proof model : List ℕ) → FullSize limit.standard proof model → solve limit.standard input proof model .solved .pairs ≤ 262144
+pub pairs-262144 : (input : List ℕ) (p : Problem) → read input ≡ sound p → (proof model : List ℕ) → FullSize limit.standard proof model
+    → solve limit.standard input proof model .solved .pairs ≤ 262144
 pairs-262144 input p e proof model full = demand3 limit.standard (omega arith) input p e proof model full .atMost

@@ -16,18 +16,18 @@ use Rattle.rules.specs.Needs.{stepsOf}
 use Rattle.rules.specs.Values.{walk}
 use Rattle.rules.specs.Model.{encodeModel, model}
 use Rattle.rules.specs.Calls.{sound, read, Solving}
-use Rattle.lists.specs.All.{all-map, all-mapped}
-use Rattle.soundness.specs.WellFormed.{WellFormed}
-use Rattle.soundness.specs.Reading.{read-well-formed}
-use Rattle.saturation.specs.Aligned.{order-aligned}
-use Rattle.saturation.specs.Unset.{walk-unset}
-use Rattle.saturation.specs.Unbounded.{walk-zero}
-use Rattle.saturation.specs.Least.{Over, over-zero, walk-least}
-use Rattle.elimination.specs.Taken.{lines}
-use Rattle.elimination.specs.Narrow.{NarrowLine, elimination-narrow}
-use Rattle.encoding.specs.Models.{readBack, back-numerator, back-denominator, model-back}
-use Rattle.encoding.specs.Written.{written-fits}
-use Rattle.verdicts.specs.Satisfied.{chosen}
+use Rattle.theory_lists.specs.All.{all-map, all-mapped}
+use Rattle.theory_splitting.specs.WellFormed.{WellFormed}
+use Rattle.theory_splitting.specs.Reading.{read-well-formed}
+use Rattle.theory_saturation.specs.Aligned.{order-aligned}
+use Rattle.theory_saturation.specs.Unset.{walk-unset}
+use Rattle.theory_saturation.specs.Unbounded.{walk-zero}
+use Rattle.theory_saturation.specs.Least.{Over, over-zero, walk-least}
+use Rattle.theory_elimination.specs.Taken.{lines}
+use Rattle.theory_elimination.specs.Narrow.{NarrowLine, elimination-narrow}
+use Rattle.theory_bytes.specs.Models.{readBack, back-numerator, back-denominator, model-back}
+use Rattle.theory_bytes.specs.Written.{written-fits}
+use Rattle.promises.specs.Satisfied.{chosen}
 use Rattle.promises.specs.Words.{modelOf, OurModel}
 
 -- of r figures
@@ -52,18 +52,21 @@ module _ (p : Problem) (w : WellFormed p) where
   unfolding walk
   absent f l =
       walk-zero order (lines steps) f
-      (all-mapped (λ l. coefficient f (l .constraint) ≡ pos 0) (λ s. s .line) steps (all-map (λ s. NarrowLine r (s .line)) (λ s. coefficient f (s .line .constraint) ≡ pos 0) steps (λ s h. h f l) (elimination-narrow unlimited p w)))
+      (all-mapped (λ l. coefficient f (l .constraint) ≡ pos 0) (λ s. s .line) steps (all-map (λ s. NarrowLine r (s .line))
+      (λ s. coefficient f (s .line .constraint) ≡ pos 0) steps (λ s h. h f l) (elimination-narrow unlimited p w)))
       0 order
 
   assignment-least : LeastOf r χ
-  assignment-least m h = walk-least (lines steps) m (λ f. ⊎-elim (λ z. over-zero χ m f (absent f (omega arith))) (λ z. h f (omega arith)) (eq-zero-or-pos (r - f)))
+  assignment-least m h = walk-least (lines steps) m
+      (λ f. ⊎-elim (λ z. over-zero χ m f (absent f (omega arith))) (λ z. h f (omega arith)) (eq-zero-or-pos (r - f)))
 
   -- ---- the choice that the rule's sheet states
   positive : 1 ≤ χ .denominator
   unfolding walk
   positive = walk-unset order (lines steps) 0 order order-aligned .positive
 
-  stated-is : (bytes : List ℕ) → modelOf p ≡ some bytes → (assignment : Assignment) (rest : List ℕ) (place : ℕ) → model b r bytes 0 ≡ got assignment rest place → assignment ≡ readBack b r χ
+  stated-is : (bytes : List ℕ) → modelOf p ≡ some bytes → (assignment : Assignment) (rest : List ℕ) (place : ℕ)
+      → model b r bytes 0 ≡ got assignment rest place → assignment ≡ readBack b r χ
   unfolding modelOf
   stated-is bytes e assignment rest place s =
       let k = written-fits b r (walk order (lines steps)) bytes (w .booleans) (w .rationals) positive e in
@@ -73,9 +76,11 @@ module _ (p : Problem) (w : WellFormed p) where
       cc
 
   stated-least : LeastOf r (readBack b r χ)
-  stated-least m h = rw (back-denominator b r χ) (assignment-least m (λ f l. rw (back-denominator b r χ, back-numerator b r χ f l) at (h f l)))
+  stated-least m h =
+      rw (back-denominator b r χ) (assignment-least m (λ f l. rw (back-denominator b r χ, back-numerator b r χ f l) at (h f l)))
 
-pub least-denominator : (input : List ℕ) {p : Problem} → read input ≡ sound p → {ours : Solving} {lentModel : List ℕ} (o : OurModel p ours lentModel) → LeastOf (p .rationals) (o .assignment)
+pub least-denominator : (input : List ℕ) {p : Problem} → read input ≡ sound p
+    → {ours : Solving} {lentModel : List ℕ} (o : OurModel p ours lentModel) → LeastOf (p .rationals) (o .assignment)
 least-denominator input {p} e o =
     let w = read-well-formed input p e in
     rw (stated-is p w (o .bytes) (o .rule) (o .assignment) (o .rest) (o .place) (o .stated)) (stated-least p w)

@@ -3,9 +3,9 @@ use mathlib.Core.List.{[]}
 use Rattle.rules.specs.Problem.{Problem}
 use Rattle.rules.specs.Elimination.{Stops, order, loadableOf, elimination}
 use Rattle.rules.specs.Needs.{stepsOf}
-use Rattle.elimination.specs.Origins.{Each, Justified, Fresh, elimination-origins, elimination-fresh}
-use Rattle.elimination.specs.Taken.{Complete}
-use Rattle.elimination.specs.Complete.{elimination-complete}
+use Rattle.theory_elimination.specs.Origins.{Each, Justified, Fresh, elimination-origins, elimination-fresh}
+use Rattle.theory_elimination.specs.Taken.{Complete}
+use Rattle.theory_elimination.specs.Complete.{elimination-complete}
 
 module _ (p : Problem) (stops : Stops) where
   pub elimination-lines : Each (Justified order (loadableOf p)) [] (stepsOf (elimination stops p))

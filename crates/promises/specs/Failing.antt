@@ -9,10 +9,10 @@ use Prim.Native.Nat.{ℕ, zero, suc, _+_, _/_, _≤_}
 use native.Mathlib.Omega.{arith}
 use borrow.Author.Tests.{le-ltb}
 use lib.ListN.{length, take, drop, length-append}
-use Rattle.types.specs.declared.answers.Checked.{Checked}
-use Rattle.types.specs.declared.answers.Checked.the-variants.{Fails}
-use Rattle.types.specs.declared.limits.Limits.{Limits}
-use Rattle.types.specs.Limits as limit
+use Rattle.rules_types.specs.declared.answers.Checked.{Checked}
+use Rattle.rules_types.specs.declared.answers.Checked.the-variants.{Fails}
+use Rattle.rules_types.specs.declared.limits.Limits.{Limits}
+use Rattle.rules_types.specs.Limits as limit
 use Rattle.rules.specs.Problem.{Problem, Clause, got}
 use Rattle.rules.specs.Meaning.{Assignment, clauseHolds}
 use Rattle.rules.specs.Lines.{Line, isEmpty}
@@ -21,12 +21,12 @@ use Rattle.rules.specs.Elimination.{loadableOf}
 use Rattle.rules.specs.Model.{model}
 use Rattle.rules.specs.Checker.{statedLine, checkSteps, checkProof, checkClauses}
 use Rattle.rules.specs.Calls.{sound, read, wholeSteps, proofChecked, modelChecked}
-use Rattle.lists.specs.All.{All, all-append}
-use Rattle.lists.specs.Tests.{of-true}
-use Rattle.soundness.specs.Reading.{read-well-formed}
-use Rattle.encoding.specs.Lines.{Encodable, AllEncodable}
-use Rattle.encoding.specs.Following.{Follows, stated-follows, follows-stated, follows-encodable}
-use Rattle.encoding.specs.EliminationAccepted.{parts-encodable}
+use Rattle.theory_lists.specs.All.{All, all-append}
+use Rattle.theory_lists.specs.Tests.{of-true}
+use Rattle.theory_splitting.specs.Reading.{read-well-formed}
+use Rattle.theory_bytes.specs.Lines.{Encodable, AllEncodable}
+use Rattle.theory_checks.specs.Following.{Follows, stated-follows, follows-stated, follows-encodable}
+use Rattle.theory_checks.specs.EliminationAccepted.{parts-encodable}
 use Rattle.promises.specs.Checked.{whole-few}
 
 same-number : {m n : ℕ} → Fails m ≡ Fails n → m ≡ n
@@ -44,7 +44,8 @@ module _ (χ : Assignment) where
   clauses-from [] j m e = absurd (let z : _≡_ {A = ℕ} 0 1 = cc in omega arith)
   clauses-from (c ∷ cs) j m e = by (clauseHolds χ c) (λ e. clauses-from cs (suc j) m e) e
     where
-      by : (t : Bool) → (checkClauses χ (suc j) cs ≡ Fails m → suc j ≤ m) → _≡_ {A = Checked} (elim t [ true ↦ checkClauses χ (suc j) cs | false ↦ Fails j ]) (Fails m) → j ≤ m
+      by : (t : Bool) → (checkClauses χ (suc j) cs ≡ Fails m → suc j ≤ m)
+          → _≡_ {A = Checked} (elim t [ true ↦ checkClauses χ (suc j) cs | false ↦ Fails j ]) (Fails m) → j ≤ m
       by true r e = omega (arith, r e)
       by false r e = omega (arith, same-number e)
 
@@ -53,83 +54,107 @@ module _ (χ : Assignment) where
   clauses-fail [] j k = (λ e. absurd (let z : _≡_ {A = ℕ} 0 1 = cc in omega arith), λ h. absurd h)
   clauses-fail (c ∷ cs) j zero = by (clauseHolds χ c) refl
     where
-      by : (t : Bool) → clauseHolds χ c ≡ t → _≡_ {A = Checked} (elim t [ true ↦ checkClauses χ (suc j) cs | false ↦ Fails j ]) (Fails (j + 0)) ↔ (clauseHolds χ c ≡ false)
-      by true i = (λ e. absurd (omega (arith, clauses-from cs (suc j) (j + 0) e)), λ h. absurd (let z : _≡_ {A = Bool} true false = sym i ∙ h in let y : _≡_ {A = ℕ} 0 1 = cc in omega arith))
+      by : (t : Bool) → clauseHolds χ c ≡ t
+          → _≡_ {A = Checked} (elim t [ true ↦ checkClauses χ (suc j) cs | false ↦ Fails j ]) (Fails (j + 0)) ↔ (clauseHolds χ c ≡ false)
+      by true i = (
+        λ e. absurd (omega (arith, clauses-from cs (suc j) (j + 0) e)),
+        λ h. absurd (let z : _≡_ {A = Bool} true false = sym i ∙ h in let y : _≡_ {A = ℕ} 0 1 = cc in omega arith),
+      )
       by false i = (λ e. i, λ h. ap Fails (omega arith))
   clauses-fail (c ∷ cs) j (suc k) = by (clauseHolds χ c) refl (clauses-fail cs (suc j) k)
     where
       by : (t : Bool) → clauseHolds χ c ≡ t → checkClauses χ (suc j) cs ≡ Fails (suc j + k) ↔ ClauseFails χ cs k
-          → _≡_ {A = Checked} (elim t [ true ↦ checkClauses χ (suc j) cs | false ↦ Fails j ]) (Fails (j + suc k)) ↔ (clauseHolds χ c ≡ true) × ClauseFails χ cs k
+          → _≡_ {A = Checked} (elim t [ true ↦ checkClauses χ (suc j) cs | false ↦ Fails j ]) (Fails (j + suc k))
+          ↔ (clauseHolds χ c ≡ true) × ClauseFails χ cs k
       by true i r = let q : suc j + k ≡ j + suc k = omega arith in (λ e. (i, r .0 (e ∙ ap Fails (sym q))), λ h. r .1 (h .1) ∙ ap Fails q)
-      by false i r = (λ e. absurd (omega (arith, same-number e)), λ h. absurd (let z : _≡_ {A = Bool} true false = sym (h .0) ∙ i in let y : _≡_ {A = ℕ} 0 1 = cc in omega arith))
+      by false i r = (
+        λ e. absurd (omega (arith, same-number e)),
+        λ h. absurd (let z : _≡_ {A = Bool} true false = sym (h .0) ∙ i in let y : _≡_ {A = ℕ} 0 1 = cc in omega arith),
+      )
 
 -- ---- the first line that does not follow, or the end that is not empty: k lines are left after `earlier`
 abbrev pub LineFails : List Step → ℕ → List Line → Bool → List ℕ → ℕ → Type 0
 LineFails parts zero earlier ends bytes n = (ends ≡ false) × (n ≡ 0)
 LineFails parts (suc k) earlier ends bytes zero = (l : Line) → Follows parts earlier (take limit.stepBytes bytes) l → ⊥
-LineFails parts (suc k) earlier ends bytes (suc n) = (l : Line) × Follows parts earlier (take limit.stepBytes bytes) l × LineFails parts k (earlier ++ (l ∷ [])) (isEmpty l) (drop limit.stepBytes bytes) n
+LineFails parts (suc k) earlier ends bytes (suc n) = (l : Line) × Follows parts earlier (take limit.stepBytes bytes) l
+    × LineFails parts k (earlier ++ (l ∷ [])) (isEmpty l) (drop limit.stepBytes bytes) n
 
 module _ (parts : List Step) (known : AllEncodable parts) where
   abbrev Next : ℕ → List Line → List ℕ → Line → Checked
   Next k earlier bytes l = checkSteps parts k (earlier ++ (l ∷ [])) (isEmpty l) (drop limit.stepBytes bytes)
 
-  steps-from : (k : ℕ) (earlier : List Line) (ends : Bool) (bytes : List ℕ) (m : ℕ) → checkSteps parts k earlier ends bytes ≡ Fails m → length earlier ≤ m
+  steps-from : (k : ℕ) (earlier : List Line) (ends : Bool) (bytes : List ℕ) (m : ℕ)
+      → checkSteps parts k earlier ends bytes ≡ Fails m → length earlier ≤ m
   unfolding checkSteps
   steps-from zero earlier true bytes m e = absurd (let z : _≡_ {A = ℕ} 0 1 = cc in omega arith)
   steps-from zero earlier false bytes m e = omega (arith, same-number e)
   steps-from (suc k) earlier ends bytes m e =
-      by (statedLine parts earlier (take limit.stepBytes bytes)) (λ l h. rw (length-append earlier (l ∷ [])) at (steps-from k (earlier ++ (l ∷ [])) (isEmpty l) (drop limit.stepBytes bytes) m h)) e
+      by (statedLine parts earlier (take limit.stepBytes bytes)) (λ l h. rw (length-append earlier (l ∷ []))
+      at (steps-from k (earlier ++ (l ∷ [])) (isEmpty l) (drop limit.stepBytes bytes) m h)) e
     where
-      by : (o : Option Line) → ((l : Line) → Next k earlier bytes l ≡ Fails m → length earlier + 1 ≤ m) → _≡_ {A = Checked} (elim o [ none ↦ Fails (length earlier) | some l ↦ Next k earlier bytes l ]) (Fails m) → length earlier ≤ m
+      by : (o : Option Line) → ((l : Line) → Next k earlier bytes l ≡ Fails m → length earlier + 1 ≤ m)
+          → _≡_ {A = Checked} (elim o [ none ↦ Fails (length earlier) | some l ↦ Next k earlier bytes l ]) (Fails m) → length earlier ≤ m
       by none r e = omega (arith, same-number e)
       by (some l) r e = omega (arith, r l e)
 
   steps-fail : (k : ℕ) (earlier : List Line) (ends : Bool) (bytes : List ℕ) (n : ℕ) → All Encodable earlier → length earlier + k ≤ 65536
       → checkSteps parts k earlier ends bytes ≡ Fails (length earlier + n) ↔ LineFails parts k earlier ends bytes n
   unfolding checkSteps
-  steps-fail zero earlier true bytes n h few = (λ e. absurd (let z : _≡_ {A = ℕ} 0 1 = cc in omega arith), λ a. absurd (let b = a .0 in let z : _≡_ {A = ℕ} 0 1 = cc in omega arith))
+  steps-fail zero earlier true bytes n h few =
+      (λ e. absurd (let z : _≡_ {A = ℕ} 0 1 = cc in omega arith), λ a. absurd (let b = a .0 in let z : _≡_ {A = ℕ} 0 1 = cc in omega arith))
   steps-fail zero earlier false bytes n h few = (λ e. (refl, omega (arith, same-number e)), λ a. ap Fails (omega (arith, a .1)))
   steps-fail (suc k) earlier ends bytes zero h few = by (statedLine parts earlier line) refl
     where
       line : List ℕ
       line = take limit.stepBytes bytes
 
-      by : (o : Option Line) → statedLine parts earlier line ≡ o → _≡_ {A = Checked} (elim o [ none ↦ Fails (length earlier) | some l ↦ Next k earlier bytes l ]) (Fails (length earlier + 0)) ↔ ((l : Line) → Follows parts earlier line l → ⊥)
+      by : (o : Option Line) → statedLine parts earlier line ≡ o
+          → _≡_ {A = Checked} (elim o [ none ↦ Fails (length earlier) | some l ↦ Next k earlier bytes l ]) (Fails (length earlier + 0))
+          ↔ ((l : Line) → Follows parts earlier line l → ⊥)
       by none i = (
-        λ e l f. let j = follows-stated parts known earlier (omega arith) h line l f in absurd (let y = sym i ∙ j in let z : _≡_ {A = ℕ} 0 1 = cc in omega arith),
+        λ e l f. let j = follows-stated parts known earlier (omega arith) h line l f in
+            absurd (let y = sym i ∙ j in let z : _≡_ {A = ℕ} 0 1 = cc in omega arith),
         λ a. ap Fails (omega arith),
       )
       by (some l) i = (
-        λ e. absurd (let b = steps-from k (earlier ++ (l ∷ [])) (isEmpty l) (drop limit.stepBytes bytes) (length earlier + 0) e in omega (arith, b, length-append earlier (l ∷ []))),
+        λ e. absurd (let b = steps-from k (earlier ++ (l ∷ [])) (isEmpty l) (drop limit.stepBytes bytes) (length earlier + 0) e in
+            omega (arith, b, length-append earlier (l ∷ []))),
         λ a. absurd (a l (stated-follows line l earlier parts i)),
       )
   steps-fail (suc k) earlier ends bytes (suc n) h few =
       by (statedLine parts earlier line) refl
-      (λ l f. steps-fail k (earlier ++ (l ∷ [])) (isEmpty l) (drop limit.stepBytes bytes) n (all-append Encodable earlier (l ∷ []) h (follows-encodable parts known earlier (omega arith) h line l f, tt))
+      (λ l f. steps-fail k (earlier ++ (l ∷ [])) (isEmpty l) (drop limit.stepBytes bytes) n
+      (all-append Encodable earlier (l ∷ []) h (follows-encodable parts known earlier (omega arith) h line l f, tt))
       (rw (length-append earlier (l ∷ [])) (omega arith)))
     where
       line : List ℕ
       line = take limit.stepBytes bytes
 
       Then : Line → Type 0
-      Then l = Next k earlier bytes l ≡ Fails (length (earlier ++ (l ∷ [])) + n) ↔ LineFails parts k (earlier ++ (l ∷ [])) (isEmpty l) (drop limit.stepBytes bytes) n
+      Then l = Next k earlier bytes l ≡ Fails (length (earlier ++ (l ∷ [])) + n)
+          ↔ LineFails parts k (earlier ++ (l ∷ [])) (isEmpty l) (drop limit.stepBytes bytes) n
 
       by : (o : Option Line) → statedLine parts earlier line ≡ o → ((l : Line) → Follows parts earlier line l → Then l)
-          → _≡_ {A = Checked} (elim o [ none ↦ Fails (length earlier) | some l ↦ Next k earlier bytes l ]) (Fails (length earlier + suc n)) ↔ LineFails parts (suc k) earlier ends bytes (suc n)
+          → _≡_ {A = Checked} (elim o [ none ↦ Fails (length earlier) | some l ↦ Next k earlier bytes l ])
+          (Fails (length earlier + suc n)) ↔ LineFails parts (suc k) earlier ends bytes (suc n)
       by none i then = (
         λ e. absurd (omega (arith, same-number e)),
-        λ a. let j = follows-stated parts known earlier (omega arith) h line (a .0) (a .1) in absurd (let y = sym i ∙ j in let z : _≡_ {A = ℕ} 0 1 = cc in omega arith),
+        λ a. let j = follows-stated parts known earlier (omega arith) h line (a .0) (a .1) in
+            absurd (let y = sym i ∙ j in let z : _≡_ {A = ℕ} 0 1 = cc in omega arith),
       )
       by (some l) i then =
-          let q : (m : Line) → length (earlier ++ (m ∷ [])) + n ≡ length earlier + suc n = λ m. omega (arith, length-append earlier (m ∷ [])) in
+          let q : (m : Line) → length (earlier ++ (m ∷ [])) + n ≡ length earlier + suc n =
+          λ m. omega (arith, length-append earlier (m ∷ [])) in
           let f = stated-follows line l earlier parts i in (
             λ e. (l, f, then l f .0 (e ∙ ap Fails (sym (q l)))),
-            λ a. let j : l ≡ a .0 = (let y = sym i ∙ follows-stated parts known earlier (omega arith) h line (a .0) (a .1) in cc) in rw j (then (a .0) (a .1) .1 (a .2) ∙ ap Fails (q (a .0))),
+            λ a. let j : l ≡ a .0 = (let y = sym i ∙ follows-stated parts known earlier (omega arith) h line (a .0) (a .1) in cc) in
+                rw j (then (a .0) (a .1) .1 (a .2) ∙ ap Fails (q (a .0))),
           )
 
 -- ---- the calls, for a question read without fault
 module _ (input : List ℕ) (p : Problem) (e : read input ≡ sound p) where
-  pub model-fails : (bytes : List ℕ) (χ : Assignment) (rest : List ℕ) (place : ℕ) → limit.modelBytes ≤ length bytes → model (p .booleans) (p .rationals) bytes 0 ≡ got χ rest place
+  pub model-fails : (bytes : List ℕ) (χ : Assignment) (rest : List ℕ) (place : ℕ) → limit.modelBytes ≤ length bytes
+      → model (p .booleans) (p .rationals) bytes 0 ≡ got χ rest place
       → (k : ℕ) → modelChecked input bytes ≡ Fails k ↔ ClauseFails χ (p .clauses) k
   unfolding modelChecked
   model-fails bytes χ rest place h g k =
@@ -142,4 +167,5 @@ module _ (input : List ℕ) (p : Problem) (e : read input ≡ sound p) where
   proof-fails limits few bytes h k =
       let q : 0 + k ≡ k = omega arith in
       let room = whole-few limits few (length bytes) (of-true (wholeSteps limits (length bytes)) h) in
-      rw (e, proofChecked, h) (rw q at (steps-fail (loadableOf p) (parts-encodable p (read-well-formed input p e)) (length bytes / limit.stepBytes) [] false bytes k tt (omega arith)))
+      rw (e, proofChecked, h) (rw q at (steps-fail (loadableOf p) (parts-encodable p (read-well-formed input p e))
+      (length bytes / limit.stepBytes) [] false bytes k tt (omega arith)))

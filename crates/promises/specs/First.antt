@@ -6,14 +6,15 @@ use mathlib.Core.List.{List, [], _∷_}
 use mathlib.Core.Option.{Option, none, some}
 use Prim.Native.Nat.{ℕ}
 use native.Mathlib.Omega.{arith}
-use Rattle.types.specs.declared.answers.Refusal.the-variants as refusal
-use Rattle.types.specs.declared.limits.Limits.{Limits}
+use Rattle.rules_types.specs.declared.answers.Refusal.the-variants as refusal
+use Rattle.rules_types.specs.declared.limits.Limits.{Limits}
 use Rattle.rules.specs.Problem.{Problem}
-use Rattle.rules.specs.Elimination.{Stops, limited, unlimited, End, empty, overflow, outOfSteps, State, running, ended, order, loadableOf, elimination}
+use Rattle.rules.specs.Elimination.{Stops, limited, unlimited, End, empty, overflow, outOfSteps, State, running, ended, order, loadableOf}
+use Rattle.rules.specs.Elimination.{elimination}
 use Rattle.rules.specs.Calls.{concluded, said}
-use Rattle.elimination.specs.Events.{Event, events}
-use Rattle.elimination.specs.Cut.{stopOf, stopAt, endedAt, cut}
-use Rattle.elimination.specs.Held.{Unstopped, unlimited-unstopped}
+use Rattle.theory_elimination.specs.Events.{Event, events}
+use Rattle.theory_elimination.specs.Cut.{stopOf, stopAt, endedAt, cut}
+use Rattle.theory_elimination.specs.Held.{Unstopped, unlimited-unstopped}
 use Rattle.promises.specs.Words.{IsRefused, firstStop}
 use Rattle.promises.specs.Outcomes.{walkModel, concluded-running, answerOf, finished-not-stopped}
 use Rattle.promises.specs.Reported.{elimination-cut}
@@ -31,7 +32,8 @@ unstopped-end (ended empty steps n) u = refl
 unstopped-end (ended overflow steps n) u = absurd u
 unstopped-end (ended outOfSteps steps n) u = absurd u
 
-at-end : (w known many : Bool) (e : Event) (s : State) (o : Option End) → EndOf s o → EndOf (endedAt (stopOf w known many) e s) (elim (stopOf w known many) [ none ↦ o | some end ↦ some end ])
+at-end : (w known many : Bool) (e : Event) (s : State) (o : Option End) → EndOf s o
+    → EndOf (endedAt (stopOf w known many) e s) (elim (stopOf w known many) [ none ↦ o | some end ↦ some end ])
 unfolding stopOf endedAt
 at-end true known many e s o h = refl
 at-end false true many e s o h = h
@@ -46,25 +48,39 @@ cut-end stops (e ∷ es) s u = at-end _ _ _ e (cut stops es s) (firstStop stops 
 module _ (p : Problem) where
   overflow-by : (s : State) (o : Option End) → EndOf s o → IsRefused refusal.Overflow (answerOf (concluded p s)) ↔ (o ≡ some overflow)
   unfolding concluded said
-  overflow-by (running steps n) o h = (λ k. absurd (finished-not-stopped steps n (walkModel p steps) (inl (rw (concluded-running p steps n) at k))), λ k. absurd (let z : _≡_ {A = ℕ} 0 1 = cc in omega arith))
+  overflow-by (running steps n) o h = (
+    λ k. absurd (finished-not-stopped steps n (walkModel p steps)
+        (inl (rw (concluded-running p steps n) at k))),
+    λ k. absurd (let z : _≡_ {A = ℕ} 0 1 = cc in omega arith),
+  )
   overflow-by (ended empty steps n) o h = (λ k. absurd k, λ k. absurd (let z : _≡_ {A = ℕ} 0 1 = cc in omega arith))
   overflow-by (ended overflow steps n) o h = (λ k. h, λ k. refl)
-  overflow-by (ended outOfSteps steps n) o h = (λ k. absurd (let z : _≡_ {A = ℕ} 0 1 = cc in omega arith), λ k. absurd (let z : _≡_ {A = ℕ} 0 1 = cc in omega arith))
+  overflow-by (ended outOfSteps steps n) o h =
+      (λ k. absurd (let z : _≡_ {A = ℕ} 0 1 = cc in omega arith), λ k. absurd (let z : _≡_ {A = ℕ} 0 1 = cc in omega arith))
 
-  out-of-steps-by : (s : State) (o : Option End) → EndOf s o → IsRefused refusal.OutOfSteps (answerOf (concluded p s)) ↔ (o ≡ some outOfSteps)
+  out-of-steps-by : (s : State) (o : Option End) → EndOf s o
+      → IsRefused refusal.OutOfSteps (answerOf (concluded p s)) ↔ (o ≡ some outOfSteps)
   unfolding concluded said
-  out-of-steps-by (running steps n) o h = (λ k. absurd (finished-not-stopped steps n (walkModel p steps) (inr (rw (concluded-running p steps n) at k))), λ k. absurd (let z : _≡_ {A = ℕ} 0 1 = cc in omega arith))
+  out-of-steps-by (running steps n) o h = (
+    λ k. absurd (finished-not-stopped steps n (walkModel p steps)
+        (inr (rw (concluded-running p steps n) at k))),
+    λ k. absurd (let z : _≡_ {A = ℕ} 0 1 = cc in omega arith),
+  )
   out-of-steps-by (ended empty steps n) o h = (λ k. absurd k, λ k. absurd (let z : _≡_ {A = ℕ} 0 1 = cc in omega arith))
-  out-of-steps-by (ended overflow steps n) o h = (λ k. absurd (let z : _≡_ {A = ℕ} 0 1 = cc in omega arith), λ k. absurd (let z : _≡_ {A = ℕ} 0 1 = cc in omega arith))
+  out-of-steps-by (ended overflow steps n) o h =
+      (λ k. absurd (let z : _≡_ {A = ℕ} 0 1 = cc in omega arith), λ k. absurd (let z : _≡_ {A = ℕ} 0 1 = cc in omega arith))
   out-of-steps-by (ended outOfSteps steps n) o h = (λ k. h, λ k. refl)
 
   module _ (limits : Limits) where
     ends : EndOf (elimination (limited limits) p) (firstStop (limited limits) (events order (loadableOf p)))
     unfolding elimination
-    ends = rw (elimination-cut limits p) (cut-end (limited limits) (events order (loadableOf p)) (elimination unlimited p) (unlimited-unstopped order (loadableOf p)))
+    ends = rw (elimination-cut limits p)
+        (cut-end (limited limits) (events order (loadableOf p)) (elimination unlimited p) (unlimited-unstopped order (loadableOf p)))
 
-    pub overflow-first : IsRefused refusal.Overflow (answerOf (concluded p (elimination (limited limits) p))) ↔ (firstStop (limited limits) (events order (loadableOf p)) ≡ some overflow)
+    pub overflow-first : IsRefused refusal.Overflow (answerOf (concluded p (elimination (limited limits) p)))
+        ↔ (firstStop (limited limits) (events order (loadableOf p)) ≡ some overflow)
     overflow-first = overflow-by (elimination (limited limits) p) _ ends
 
-    pub out-of-steps-first : IsRefused refusal.OutOfSteps (answerOf (concluded p (elimination (limited limits) p))) ↔ (firstStop (limited limits) (events order (loadableOf p)) ≡ some outOfSteps)
+    pub out-of-steps-first : IsRefused refusal.OutOfSteps (answerOf (concluded p (elimination (limited limits) p)))
+        ↔ (firstStop (limited limits) (events order (loadableOf p)) ≡ some outOfSteps)
     out-of-steps-first = out-of-steps-by (elimination (limited limits) p) _ ends

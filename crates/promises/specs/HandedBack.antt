@@ -9,24 +9,26 @@ use lib.Dec.{T, ltb, eqb, eqb→eq, ltb→lt, nltb→le}
 use lib.ListN.{length, take, drop}
 use lib.Seq.{take-at}
 use mir.Facts.{no-ltb, yes-eqb}
-use Rattle.types.specs.declared.answers.Refusal.{Refusal}
-use Rattle.types.specs.declared.answers.Refusal.the-variants.{ShortProof, ShortModel, LongProblem, Truncated, Booleans, Rationals, Clauses, Literal, Constraints, Relation, Amount, Trailing, Splits, Overflow, OutOfSteps, ProofLength, BadModel}
-use Rattle.types.specs.declared.answers.Verdict.{Verdict}
-use Rattle.types.specs.declared.answers.Verdict.the-variants.{Satisfiable, Unsatisfiable, Unwritten}
-use Rattle.types.specs.declared.answers.Answer.{Answer}
-use Rattle.types.specs.declared.answers.Answer.the-variants.{Decided, Refused}
-use Rattle.types.specs.declared.answers.Checked.the-variants.{Accepted}
-use Rattle.types.specs.declared.answers.Evidence.{Evidence}
-use Rattle.types.specs.declared.answers.Evidence.the-variants.{OfProof, OfModel}
-use Rattle.types.specs.declared.limits.Limits.{Limits}
-use Rattle.types.specs.Limits as limit
-use Rattle.types.specs.Answers.{refusalNumber, verdictNumber, answerNumber, answerValue}
+use Rattle.rules_types.specs.declared.answers.Refusal.{Refusal}
+use Rattle.rules_types.specs.declared.answers.Refusal.the-variants.{ShortProof, ShortModel, LongProblem, Truncated, Booleans, Rationals}
+use Rattle.rules_types.specs.declared.answers.Refusal.the-variants.{Clauses, Literal, Constraints, Relation, Amount, Trailing, Splits}
+use Rattle.rules_types.specs.declared.answers.Refusal.the-variants.{Overflow, OutOfSteps, ProofLength, BadModel}
+use Rattle.rules_types.specs.declared.answers.Verdict.{Verdict}
+use Rattle.rules_types.specs.declared.answers.Verdict.the-variants.{Satisfiable, Unsatisfiable, Unwritten}
+use Rattle.rules_types.specs.declared.answers.Answer.{Answer}
+use Rattle.rules_types.specs.declared.answers.Answer.the-variants.{Decided, Refused}
+use Rattle.rules_types.specs.declared.answers.Checked.the-variants.{Accepted}
+use Rattle.rules_types.specs.declared.answers.Evidence.{Evidence}
+use Rattle.rules_types.specs.declared.answers.Evidence.the-variants.{OfProof, OfModel}
+use Rattle.rules_types.specs.declared.limits.Limits.{Limits}
+use Rattle.rules_types.specs.Limits as limit
+use Rattle.rules_types.specs.Answers.{refusalNumber, verdictNumber, answerNumber, answerValue}
 use Rattle.rules.specs.Problem.{Problem}
 use Rattle.rules.specs.Elimination.{order, loadableOf, elimination}
 use Rattle.rules.specs.Calls.{Reading, faulty, sound, read, Solving, solve, proofChecked, modelChecked, evidence, evidenceBytes}
-use Rattle.lists.specs.Tests.{split, is-true, is-false}
-use Rattle.soundness.specs.ModelChecked.{satisfying-model-checked}
-use Rattle.elimination.specs.Held.{limited-held}
+use Rattle.theory_lists.specs.Tests.{split, is-true, is-false}
+use Rattle.theory_checks.specs.ModelChecked.{satisfying-model-checked}
+use Rattle.theory_elimination.specs.Held.{limited-held}
 use Rattle.promises.specs.Words.{Comes, FullSize, OurModel}
 use Rattle.promises.specs.Demand1.{demand1}
 use Rattle.promises.specs.Demand3.{demand3}
@@ -36,19 +38,26 @@ module _ (limits : Limits) (number steps : ℕ) (proof model : List ℕ) where
   abbrev refuses : Bool
   refuses = ltb (length proof) (limit.proofBytes limits) || ltb (length model) limit.modelBytes || ltb (limits .steps) steps
 
-  parts : (P : Evidence → Type 0) → P (OfProof 0) → (number ≡ 64 → P (OfModel limit.modelBytes)) → (number ≡ 65 → P (OfProof (limit.stepBytes * steps))) → P (evidence limits number steps proof model)
+  parts : (P : Evidence → Type 0) → P (OfProof 0) → (number ≡ 64 → P (OfModel limit.modelBytes))
+      → (number ≡ 65 → P (OfProof (limit.stepBytes * steps))) → P (evidence limits number steps proof model)
   unfolding evidence verdictNumber
   parts P z m b =
       ⊎-elim (λ t. rw (is-true refuses t, evidence) z)
       (λ t. ⊎-elim (λ u. rw (is-false refuses t, evidence, is-true (eqb number 64) u) (m (eqb→eq number 64 u)))
       (λ u. ⊎-elim (λ v. rw (is-false refuses t, evidence, is-false (eqb number 64) u, is-true (eqb number 65) v) (b (eqb→eq number 65 v)))
-      (λ v. rw (is-false refuses t, evidence, is-false (eqb number 64) u, is-false (eqb number 65) v) z) (split (eqb number 65))) (split (eqb number 64))) (split refuses)
+      (λ v. rw (is-false refuses t, evidence, is-false (eqb number 64) u, is-false (eqb number 65) v) z) (split (eqb number 65)))
+      (split (eqb number 64))) (split refuses)
 
   -- of buffers that are not refused
-  module _ (proof-size : limit.proofBytes limits ≤ length proof) (model-size : limit.modelBytes ≤ length model) (few : steps ≤ limits .steps) where
+  module _ (proof-size : limit.proofBytes limits ≤ length proof) (model-size : limit.modelBytes ≤ length model)
+      (few : steps ≤ limits .steps) where
     accepts : T (not refuses)
     accepts =
-        rw (is-false (ltb (length proof) (limit.proofBytes limits)) (no-ltb {a = length proof} {b = limit.proofBytes limits} proof-size), is-false (ltb (length model) limit.modelBytes) (no-ltb {a = length model} {b = limit.modelBytes} model-size), is-false (ltb (limits .steps) steps) (no-ltb {a = limits .steps} {b = steps} few)) tt
+        rw (
+          is-false (ltb (length proof) (limit.proofBytes limits)) (no-ltb {a = length proof} {b = limit.proofBytes limits} proof-size),
+          is-false (ltb (length model) limit.modelBytes) (no-ltb {a = length model} {b = limit.modelBytes} model-size),
+          is-false (ltb (limits .steps) steps) (no-ltb {a = limits .steps} {b = steps} few),
+        ) tt
 
     is-model : number ≡ 64 → evidence limits number steps proof model ≡ OfModel limit.modelBytes
     unfolding evidence verdictNumber
@@ -59,10 +68,12 @@ module _ (limits : Limits) (number steps : ℕ) (proof model : List ℕ) where
     is-proof e = rw (is-false refuses accepts, evidence, is-false (eqb number 64) (rw e tt), is-true (eqb number 65) (yes-eqb e))
 
   of-model : (n : ℕ) → evidence limits number steps proof model ≡ OfModel n → (number ≡ 64) × (n ≡ limit.modelBytes)
-  of-model n = parts (λ e. e ≡ OfModel n → (number ≡ 64) × (n ≡ limit.modelBytes)) (λ e. absurd (let z : _≡_ {A = ℕ} 0 1 = cc in omega arith)) (λ k e. (k, cc)) (λ k e. absurd (let z : _≡_ {A = ℕ} 0 1 = cc in omega arith))
+  of-model n = parts (λ e. e ≡ OfModel n → (number ≡ 64) × (n ≡ limit.modelBytes)) (λ e. absurd
+      (let z : _≡_ {A = ℕ} 0 1 = cc in omega arith)) (λ k e. (k, cc)) (λ k e. absurd (let z : _≡_ {A = ℕ} 0 1 = cc in omega arith))
 
   of-proof : (n : ℕ) → evidence limits number steps proof model ≡ OfProof n → (n ≡ 0) ⊎ ((number ≡ 65) × (n ≡ limit.stepBytes * steps))
-  of-proof n = parts (λ e. e ≡ OfProof n → (n ≡ 0) ⊎ ((number ≡ 65) × (n ≡ limit.stepBytes * steps))) (λ e. inl cc) (λ k e. absurd (let z : _≡_ {A = ℕ} 0 1 = cc in omega arith)) (λ k e. inr (k, cc))
+  of-proof n = parts (λ e. e ≡ OfProof n → (n ≡ 0) ⊎ ((number ≡ 65) × (n ≡ limit.stepBytes * steps))) (λ e. inl cc)
+      (λ k e. absurd (let z : _≡_ {A = ℕ} 0 1 = cc in omega arith)) (λ k e. inr (k, cc))
 
 -- ---- whose number it is
 pub refusal-below : (f : Refusal) → refusalNumber f < 64
@@ -114,7 +125,12 @@ module _ (limits : Limits) (input proof model : List ℕ) where
   abbrev ours : Solving
   ours = solve limits input proof model
 
-  refused-not : (v : Verdict) (f : Refusal) (place : ℕ) → ours ≡ record { solved = record { answer = Refused f place; pairs = 0 }; proof = proof; model = model } → Comes v (ours .solved .answer) → ⊥
+  refused-not : (v : Verdict) (f : Refusal) (place : ℕ) → ours ≡ record {
+    solved = record { answer = Refused f place; pairs = 0 };
+    proof =
+        proof;
+    model = model;
+  } → Comes v (ours .solved .answer) → ⊥
   refused-not v f place e h = subst (λ (s : Solving). Comes v (s .solved .answer)) e h
 
   pub verdict-read : (v : Verdict) → Comes v (ours .solved .answer) → Read limits input proof model
@@ -122,7 +138,8 @@ module _ (limits : Limits) (input proof model : List ℕ) where
       ⊎-elim (λ t. absurd (refused-not v ShortProof 0 (d .shortProof (ltb→lt (length proof) (limit.proofBytes limits) t)) h))
       (λ t. let z = nltb→le (length proof) (limit.proofBytes limits) t in
       ⊎-elim (λ u. absurd (refused-not v ShortModel 0 (d .shortModel z (ltb→lt (length model) limit.modelBytes u)) h))
-      (λ u. by (record { proofSize = z; modelSize = nltb→le (length model) limit.modelBytes u }) (read input) refl) (split (ltb (length model) limit.modelBytes)))
+      (λ u. by (record { proofSize = z; modelSize = nltb→le (length model) limit.modelBytes u }) (read input) refl)
+      (split (ltb (length model) limit.modelBytes)))
       (split (ltb (length proof) (limit.proofBytes limits)))
     where
       d : Rattle.promises.specs.Demand1.Demand1 limits input proof model (solve limits input proof model)
@@ -136,12 +153,15 @@ module _ (limits : Limits) (input proof model : List ℕ) where
   abbrev handed : Evidence
   handed = evidence limits (answerNumber (ours .solved .answer)) (answerValue (ours .solved .answer)) (ours .proof) (ours .model)
 
-  model-accepted : (p : Problem) → read input ≡ sound p → OurModel p ours model → modelChecked input (take limit.modelBytes (ours .model)) ≡ Accepted
+  model-accepted : (p : Problem) → read input ≡ sound p → OurModel p ours model
+      → modelChecked input (take limit.modelBytes (ours .model)) ≡ Accepted
   model-accepted p e s =
       rw (s .written, take-at (s .bytes) (drop limit.modelBytes model) limit.modelBytes (s .size))
-      (satisfying-model-checked input (s .bytes) p (s .assignment) (s .rest) (s .place) e (omega (arith, s .size)) (s .stated) (s .satisfies))
+      (satisfying-model-checked input (s .bytes) p (s .assignment) (s .rest) (s .place) e (omega (arith, s .size))
+      (s .stated) (s .satisfies))
 
-  pub model-handed-back : (n : ℕ) → handed ≡ OfModel n → modelChecked input (evidenceBytes (OfModel n) (ours .proof) (ours .model)) ≡ Accepted
+  pub model-handed-back : (n : ℕ) → handed ≡ OfModel n
+      → modelChecked input (evidenceBytes (OfModel n) (ours .proof) (ours .model)) ≡ Accepted
   unfolding evidenceBytes
   model-handed-back n e =
       let k = of-model limits (answerNumber (ours .solved .answer)) (answerValue (ours .solved .answer)) (ours .proof) (ours .model) n e in
@@ -149,7 +169,8 @@ module _ (limits : Limits) (input proof model : List ℕ) where
       let r = verdict-read Satisfiable c in
       rw (k .1) (model-accepted (r .problem) (r .reads) (demand1 limits input proof model .satisfiable (r .full) (r .problem) (r .reads) c))
 
-  pub proof-handed-back : limits .steps ≤ 65536 → (n : ℕ) → handed ≡ OfProof n → (n ≡ 0) ⊎ (proofChecked limits input (evidenceBytes (OfProof n) (ours .proof) (ours .model)) ≡ Accepted)
+  pub proof-handed-back : limits .steps ≤ 65536 → (n : ℕ) → handed ≡ OfProof n → (n ≡ 0)
+      ⊎ (proofChecked limits input (evidenceBytes (OfProof n) (ours .proof) (ours .model)) ≡ Accepted)
   unfolding evidenceBytes
   proof-handed-back few n e =
       ⊎-elim (λ z. inl z)
@@ -164,7 +185,8 @@ module _ (limits : Limits) (input proof model : List ℕ) where
     unfolding elimination
     held p e full = rw (demand3 limits small input p e proof model full .lines) (limited-held limits order (loadableOf p))
 
-    room : (v : Verdict) → Comes v (ours .solved .answer) → (limit.proofBytes limits ≤ length (ours .proof)) × (limit.modelBytes ≤ length (ours .model)) × (answerValue (ours .solved .answer) ≤ limits .steps)
+    room : (v : Verdict) → Comes v (ours .solved .answer) → (limit.proofBytes limits ≤ length (ours .proof))
+        × (limit.modelBytes ≤ length (ours .model)) × (answerValue (ours .solved .answer) ≤ limits .steps)
     room v c =
         let r = verdict-read v c in
         let z = demand1 limits input proof model .sizes in
@@ -174,10 +196,13 @@ module _ (limits : Limits) (input proof model : List ℕ) where
     unfolding verdictNumber
     satisfiable-handed c =
         let r = room Satisfiable c in
-        is-model limits (answerNumber (ours .solved .answer)) (answerValue (ours .solved .answer)) (ours .proof) (ours .model) (r .0) (r .1) (r .2) (comes-number Satisfiable (ours .solved .answer) c)
+        is-model limits (answerNumber (ours .solved .answer)) (answerValue (ours .solved .answer)) (ours .proof) (ours .model) (r .0) (r .1)
+        (r .2) (comes-number Satisfiable (ours .solved .answer) c)
 
-    pub unsatisfiable-handed : Comes Unsatisfiable (ours .solved .answer) → handed ≡ OfProof (limit.stepBytes * answerValue (ours .solved .answer))
+    pub unsatisfiable-handed : Comes Unsatisfiable (ours .solved .answer)
+        → handed ≡ OfProof (limit.stepBytes * answerValue (ours .solved .answer))
     unfolding verdictNumber
     unsatisfiable-handed c =
         let r = room Unsatisfiable c in
-        is-proof limits (answerNumber (ours .solved .answer)) (answerValue (ours .solved .answer)) (ours .proof) (ours .model) (r .0) (r .1) (r .2) (comes-number Unsatisfiable (ours .solved .answer) c)
+        is-proof limits (answerNumber (ours .solved .answer)) (answerValue (ours .solved .answer)) (ours .proof) (ours .model) (r .0) (r .1)
+        (r .2) (comes-number Unsatisfiable (ours .solved .answer) c)

@@ -3,19 +3,19 @@ use mathlib.Core.Path.{_≡_, sym, ap, subst}
 use mathlib.Core.List.{List, _++_}
 use Prim.Native.Nat.{ℕ, _*_, _-_, _≤_, _<_}
 use lib.ListN.{length, replicate, drop}
-use Rattle.types.specs.declared.answers.Refusal.{Refusal}
-use Rattle.types.specs.declared.answers.Refusal.the-variants as refusal
-use Rattle.types.specs.declared.answers.Verdict.{Verdict}
-use Rattle.types.specs.declared.answers.Verdict.the-variants.{Satisfiable}
-use Rattle.types.specs.declared.answers.Answer.the-variants.{Refused}
-use Rattle.types.specs.declared.limits.Limits.{Limits}
-use Rattle.types.specs.Limits as limit
+use Rattle.rules_types.specs.declared.answers.Refusal.{Refusal}
+use Rattle.rules_types.specs.declared.answers.Refusal.the-variants as refusal
+use Rattle.rules_types.specs.declared.answers.Verdict.{Verdict}
+use Rattle.rules_types.specs.declared.answers.Verdict.the-variants.{Satisfiable}
+use Rattle.rules_types.specs.declared.answers.Answer.the-variants.{Refused}
+use Rattle.rules_types.specs.declared.limits.Limits.{Limits}
+use Rattle.rules_types.specs.Limits as limit
 use Rattle.rules.specs.Problem.{Problem}
 use Rattle.rules.specs.Steps.{encodeProof}
 use Rattle.rules.specs.Elimination.{limited, elimination}
 use Rattle.rules.specs.Needs.{stepsOf}
 use Rattle.rules.specs.Calls.{faulty, sound, Outcome, faulted, read, concluded, said, proofAfter, modelAfter, Solving, solve, lent}
-use Rattle.soundness.specs.Lent.{lent-short-proof, lent-short-model, lent-fault}
+use Rattle.theory_splitting.specs.Lent.{lent-short-proof, lent-short-model, lent-fault}
 use Rattle.promises.specs.Words.{Comes, LimitMet, FullSize, OurModel}
 use Rattle.promises.specs.Reported.{left, solve-is, proof-holds}
 use Rattle.promises.specs.Evidence.{our-model}
@@ -31,33 +31,56 @@ module _ (limits : Limits) (input proof′ model : List ℕ) where
     by P h = subst P (sym (solve-is limits input p e proof′ model full)) h
 
     pub proof : (v : Verdict) → Comes v (ours .solved .answer)
-        → ours .proof ≡ encodeProof (stepsOf (elimination (limited limits) p)) ++ replicate (limit.proofBytes limits - limit.stepBytes * length (stepsOf (elimination (limited limits) p))) 0 ++ drop (limit.proofBytes limits) proof′
+        → ours .proof ≡ encodeProof (stepsOf (elimination (limited limits) p)) ++ replicate (limit.proofBytes limits
+        - limit.stepBytes * length (stepsOf (elimination (limited limits) p))) 0 ++ drop (limit.proofBytes limits) proof′
     proof v =
-        by (λ s. Comes v (s .solved .answer) → s .proof ≡ encodeProof (stepsOf (elimination (limited limits) p)) ++ replicate (limit.proofBytes limits - limit.stepBytes * length (stepsOf (elimination (limited limits) p))) 0 ++ drop (limit.proofBytes limits) proof′)
+        by (λ s. Comes v (s .solved .answer) → s .proof ≡ encodeProof (stepsOf (elimination (limited limits) p)) ++ replicate
+        (limit.proofBytes limits - limit.stepBytes * length (stepsOf (elimination (limited limits) p))) 0 ++ drop
+        (limit.proofBytes limits) proof′)
         (proof-holds limits p proof′ (elimination (limited limits) p) v)
 
     pub satisfiable : Comes Satisfiable (ours .solved .answer) → OurModel p ours model
     satisfiable = by (λ s. Comes Satisfiable (s .solved .answer) → OurModel p s model) (our-model limits input p e proof′ model)
 
-    pub others : (v : Verdict) → Comes v (ours .solved .answer) → (v ≡ Satisfiable → ⊥) → ours .model ≡ replicate limit.modelBytes 0 ++ drop limit.modelBytes model
-    others v = by (λ s. Comes v (s .solved .answer) → (v ≡ Satisfiable → ⊥) → s .model ≡ replicate limit.modelBytes 0 ++ drop limit.modelBytes model) (memory.no-model limits p proof′ model v)
+    pub others : (v : Verdict) → Comes v (ours .solved .answer) → (v ≡ Satisfiable → ⊥)
+        → ours .model ≡ replicate limit.modelBytes 0 ++ drop limit.modelBytes model
+    others v = by (λ s. Comes v (s .solved .answer) → (v ≡ Satisfiable → ⊥)
+        → s .model ≡ replicate limit.modelBytes 0 ++ drop limit.modelBytes model) (memory.no-model limits p proof′ model v)
 
-    pub refused-elimination : LimitMet (ours .solved .answer) → (ours .proof ≡ replicate (limit.proofBytes limits) 0 ++ drop (limit.proofBytes limits) proof′) × (ours .model ≡ model)
+    pub refused-elimination : LimitMet (ours .solved .answer)
+        → (ours .proof ≡ replicate (limit.proofBytes limits) 0 ++ drop (limit.proofBytes limits) proof′) × (ours .model ≡ model)
     refused-elimination =
-        by (λ s. LimitMet (s .solved .answer) → (s .proof ≡ replicate (limit.proofBytes limits) 0 ++ drop (limit.proofBytes limits) proof′) × (s .model ≡ model)) (memory.stopped-zeroes limits p proof′ model)
+        by (λ s. LimitMet (s .solved .answer) → (s .proof ≡ replicate (limit.proofBytes limits) 0 ++ drop (limit.proofBytes limits) proof′)
+        × (s .model ≡ model)) (memory.stopped-zeroes limits p proof′ model)
 
   -- ---- a fault before the course
-  faulted-is : (f : Refusal) (place : ℕ) → lent limits input proof′ model ≡ faulted f place → ours ≡ record { solved = record { answer = Refused f place; pairs = 0 }; proof = proof′; model = model }
+  faulted-is : (f : Refusal) (place : ℕ) → lent limits input proof′ model ≡ faulted f place → ours ≡ record {
+    solved = record { answer = Refused f place; pairs = 0 };
+    proof = proof′;
+    model = model;
+  }
   unfolding solve said proofAfter modelAfter
   faulted-is f place e = ap (λ (o : Outcome). left limits o proof′ model) e
 
-  pub short-proof : length proof′ < limit.proofBytes limits → ours ≡ record { solved = record { answer = Refused refusal.ShortProof 0; pairs = 0 }; proof = proof′; model = model }
+  pub short-proof : length proof′ < limit.proofBytes limits → ours ≡ record {
+    solved = record { answer = Refused refusal.ShortProof 0; pairs = 0 };
+    proof = proof′;
+    model = model;
+  }
   short-proof h = faulted-is refusal.ShortProof 0 (lent-short-proof limits input proof′ model h)
 
-  pub short-model : limit.proofBytes limits ≤ length proof′ → length model < limit.modelBytes → ours ≡ record { solved = record { answer = Refused refusal.ShortModel 0; pairs = 0 }; proof = proof′; model = model }
+  pub short-model : limit.proofBytes limits ≤ length proof′ → length model < limit.modelBytes → ours ≡ record {
+    solved = record { answer = Refused refusal.ShortModel 0; pairs = 0 };
+    proof = proof′;
+    model = model;
+  }
   short-model h k = faulted-is refusal.ShortModel 0 (lent-short-model limits input proof′ model h k)
 
-  pub faulty-input : FullSize limits proof′ model → (f : Refusal) (place : ℕ) → read input ≡ faulty f place → ours ≡ record { solved = record { answer = Refused f place; pairs = 0 }; proof = proof′; model = model }
+  pub faulty-input : FullSize limits proof′ model → (f : Refusal) (place : ℕ) → read input ≡ faulty f place → ours ≡ record {
+    solved = record { answer = Refused f place; pairs = 0 };
+    proof = proof′;
+    model = model;
+  }
   faulty-input full f place e = faulted-is f place (lent-fault limits input proof′ model (full .proofSize) (full .modelSize) f place e)
 
   pub sizes : (length (ours .proof) ≡ length proof′) × (length (ours .model) ≡ length model)

@@ -1,3 +1,6 @@
+pub mod Refuted
+pub mod Satisfied
+pub mod Decided
 pub mod Words
 pub mod Outcomes
 pub mod Reported

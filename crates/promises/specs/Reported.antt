@@ -4,23 +4,23 @@ use mathlib.Core.List.{List, _++_}
 use mathlib.Core.Option.{Option, none, some}
 use Prim.Native.Nat.{ℕ, _*_, _-_, _/_, _≤_}
 use lib.ListN.{length, replicate, drop}
-use Rattle.types.specs.declared.answers.Verdict.{Verdict}
-use Rattle.types.specs.declared.limits.Limits.{Limits}
-use Rattle.types.specs.Limits as limit
-use Rattle.types.specs.Answers.{answerValue}
+use Rattle.rules_types.specs.declared.answers.Verdict.{Verdict}
+use Rattle.rules_types.specs.declared.limits.Limits.{Limits}
+use Rattle.rules_types.specs.Limits as limit
+use Rattle.rules_types.specs.Answers.{answerValue}
 use Rattle.rules.specs.Problem.{Problem}
 use Rattle.rules.specs.Steps.{Step, encodeProof}
 use Rattle.rules.specs.Elimination.{limited, unlimited, State, running, ended, empty, overflow, outOfSteps, order, loadableOf, elimination}
 use Rattle.rules.specs.Needs.{stepsOf, pairsOf}
 use Rattle.rules.specs.Calls.{sound, Outcome, read, concluded, said, proofAfter, modelAfter, Solving, solve}
-use Rattle.lists.specs.All.{all-map}
-use Rattle.soundness.specs.WellFormed.{WellFormed}
-use Rattle.soundness.specs.Lent.{lent-sound}
-use Rattle.elimination.specs.Events.{events}
-use Rattle.elimination.specs.Cut.{cut, eliminate-cut}
-use Rattle.elimination.specs.Sound.{Sound, loadable-sound}
-use Rattle.elimination.specs.PairBound.{pairs-bound}
-use Rattle.resolution.specs.Holds.{Consistent}
+use Rattle.theory_lists.specs.All.{all-map}
+use Rattle.theory_splitting.specs.WellFormed.{WellFormed}
+use Rattle.theory_splitting.specs.Lent.{lent-sound}
+use Rattle.theory_elimination.specs.Events.{events}
+use Rattle.theory_elimination.specs.Cut.{cut, eliminate-cut}
+use Rattle.theory_elimination.specs.Sound.{Sound, loadable-sound}
+use Rattle.theory_elimination.specs.PairBound.{pairs-bound}
+use Rattle.theory_resolution.specs.Holds.{Consistent}
 use Rattle.promises.specs.Words.{Comes, FullSize}
 use Rattle.promises.specs.Outcomes.{finished, walkModel, concluded-running, answerOf}
 
@@ -28,9 +28,11 @@ use Rattle.promises.specs.Outcomes.{finished, walkModel, concluded-runni
 abbrev pub left : Limits → Outcome → List ℕ → List ℕ → Solving
 left limits o proof model = record { solved = said o; proof = proofAfter limits o proof; model = modelAfter o model }
 
-pub solve-is : (limits : Limits) (input : List ℕ) (p : Problem) → read input ≡ sound p → (proof model : List ℕ) → FullSize limits proof model → solve limits input proof model ≡ left limits (concluded p (elimination (limited limits) p)) proof model
+pub solve-is : (limits : Limits) (input : List ℕ) (p : Problem) → read input ≡ sound p → (proof model : List ℕ)
+    → FullSize limits proof model → solve limits input proof model ≡ left limits (concluded p (elimination (limited limits) p)) proof model
 unfolding solve
-solve-is limits input p e proof model full = ap (λ (o : Outcome). left limits o proof model) (lent-sound limits input proof model (full .proofSize) (full .modelSize) p e)
+solve-is limits input p e proof model full =
+    ap (λ (o : Outcome). left limits o proof model) (lent-sound limits input proof model (full .proofSize) (full .modelSize) p e)
 
 -- ---- lines and pairs
 finished-lines : (steps : List Step) (n : ℕ) (o : Option (List ℕ)) → answerValue (answerOf (finished steps n o)) ≡ length steps
@@ -58,29 +60,36 @@ module _ (p : Problem) where
   reported-pairs (ended overflow steps n) = refl
   reported-pairs (ended outOfSteps steps n) = refl
 
-pub at-most : (limits : Limits) (p : Problem) → WellFormed p → said (concluded p (elimination (limited limits) p)) .pairs ≤ limits .steps * limits .steps / 4
+pub at-most : (limits : Limits) (p : Problem) → WellFormed p
+    → said (concluded p (elimination (limited limits) p)) .pairs ≤ limits .steps * limits .steps / 4
 unfolding elimination
 at-most limits p w =
     rw (reported-pairs p (elimination (limited limits) p))
-    (pairs-bound limits order (loadableOf p) (all-map (λ s. Sound (s .line)) (λ s. Consistent (s .line)) (loadableOf p) (λ s h. h .consistent) (loadable-sound p w)))
+    (pairs-bound limits order (loadableOf p)
+    (all-map (λ s. Sound (s .line)) (λ s. Consistent (s .line)) (loadableOf p) (λ s h. h .consistent) (loadable-sound p w)))
 
 -- ---- which of "wide" and "full" is first
-pub elimination-cut : (limits : Limits) (p : Problem) → elimination (limited limits) p ≡ cut (limited limits) (events order (loadableOf p)) (elimination unlimited p)
+pub elimination-cut : (limits : Limits) (p : Problem)
+    → elimination (limited limits) p ≡ cut (limited limits) (events order (loadableOf p)) (elimination unlimited p)
 unfolding elimination
 elimination-cut limits p = eliminate-cut (limited limits) order (loadableOf p)
 
 -- ---- the book after a verdict
 abbrev proofOf : Limits → List Step → List ℕ → List ℕ
-proofOf limits steps proof = encodeProof steps ++ replicate (limit.proofBytes limits - limit.stepBytes * length steps) 0 ++ drop (limit.proofBytes limits) proof
+proofOf limits steps proof =
+    encodeProof steps ++ replicate (limit.proofBytes limits - limit.stepBytes * length steps) 0 ++ drop (limit.proofBytes limits) proof
 
-finished-proof : (limits : Limits) (proof : List ℕ) (steps : List Step) (n : ℕ) (o : Option (List ℕ)) → proofAfter limits (finished steps n o) proof ≡ proofOf limits steps proof
+finished-proof : (limits : Limits) (proof : List ℕ) (steps : List Step) (n : ℕ) (o : Option (List ℕ))
+    → proofAfter limits (finished steps n o) proof ≡ proofOf limits steps proof
 unfolding proofAfter
 finished-proof limits proof steps n none = refl
 finished-proof limits proof steps n (some bytes) = refl
 
-pub proof-holds : (limits : Limits) (p : Problem) (proof : List ℕ) (s : State) (v : Verdict) → Comes v (answerOf (concluded p s)) → proofAfter limits (concluded p s) proof ≡ proofOf limits (stepsOf s) proof
+pub proof-holds : (limits : Limits) (p : Problem) (proof : List ℕ) (s : State) (v : Verdict) → Comes v (answerOf (concluded p s))
+    → proofAfter limits (concluded p s) proof ≡ proofOf limits (stepsOf s) proof
 unfolding concluded said proofAfter stepsOf
-proof-holds limits p proof (running steps n) v h = rw (concluded-running p steps n) (finished-proof limits proof steps n (walkModel p steps))
+proof-holds limits p proof (running steps n) v h =
+    rw (concluded-running p steps n) (finished-proof limits proof steps n (walkModel p steps))
 proof-holds limits p proof (ended empty steps n) v h = refl
 proof-holds limits p proof (ended overflow steps n) v h = absurd h
 proof-holds limits p proof (ended outOfSteps steps n) v h = absurd h

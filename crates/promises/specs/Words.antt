@@ -7,13 +7,13 @@ use mathlib.Core.Option.{Option, none, some}
 use Prim.Native.Nat.{ℕ, zero, suc, _≤_}
 use lib.Dec.{T}
 use lib.ListN.{length, take, drop}
-use Rattle.types.specs.declared.answers.Refusal.{Refusal}
-use Rattle.types.specs.declared.answers.Refusal.the-variants as refusal
-use Rattle.types.specs.declared.answers.Verdict.{Verdict}
-use Rattle.types.specs.declared.answers.Answer.{Answer}
-use Rattle.types.specs.declared.answers.Answer.the-variants.{Decided, Refused}
-use Rattle.types.specs.declared.limits.Limits.{Limits}
-use Rattle.types.specs.Limits as limit
+use Rattle.rules_types.specs.declared.answers.Refusal.{Refusal}
+use Rattle.rules_types.specs.declared.answers.Refusal.the-variants as refusal
+use Rattle.rules_types.specs.declared.answers.Verdict.{Verdict}
+use Rattle.rules_types.specs.declared.answers.Answer.{Answer}
+use Rattle.rules_types.specs.declared.answers.Answer.the-variants.{Decided, Refused}
+use Rattle.rules_types.specs.declared.limits.Limits.{Limits}
+use Rattle.rules_types.specs.Limits as limit
 use Rattle.rules.specs.Problem.{Problem, got}
 use Rattle.rules.specs.Meaning.{Assignment, Satisfies}
 use Rattle.rules.specs.Lines.{Line, isEmpty}
@@ -23,9 +23,9 @@ use Rattle.rules.specs.Needs.{stepsOf}
 use Rattle.rules.specs.Values.{walk}
 use Rattle.rules.specs.Model.{written, model}
 use Rattle.rules.specs.Calls.{Solving}
-use Rattle.elimination.specs.Events.{Event}
-use Rattle.elimination.specs.Cut.{stopAt}
-use Rattle.encoding.specs.Following.{Follows}
+use Rattle.theory_elimination.specs.Events.{Event}
+use Rattle.theory_elimination.specs.Cut.{stopAt}
+use Rattle.theory_checks.specs.Following.{Follows}
 
 -- "one does", for: some choice satisfies Q
 abbrev pub SomeAssignment : Problem → Type 0
@@ -87,7 +87,8 @@ pub record WritesAssignment (p : Problem) (bytes : List ℕ) : Type 0 where
 -- those is empty
 abbrev pub RefutesFrom : List Step → ℕ → List Line → Bool → List ℕ → Type 0
 RefutesFrom parts zero earlier ends bytes = T ends
-RefutesFrom parts (suc k) earlier ends bytes = (l : Line) × Follows parts earlier (take limit.stepBytes bytes) l × RefutesFrom parts k (earlier ++ (l ∷ [])) (isEmpty l) (drop limit.stepBytes bytes)
+RefutesFrom parts (suc k) earlier ends bytes = (l : Line) × Follows parts earlier (take limit.stepBytes bytes) l
+    × RefutesFrom parts k (earlier ++ (l ∷ [])) (isEmpty l) (drop limit.stepBytes bytes)
 
 abbrev pub Refutes : List Step → ℕ → List ℕ → Type 0
 Refutes parts k bytes = RefutesFrom parts k [] false bytes

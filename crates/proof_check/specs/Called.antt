@@ -4,16 +4,16 @@ use mathlib.Core.Bool.{true, false}
 use mathlib.Core.List.{List}
 use Prim.Native.Nat.{ℕ}
 use lib.ListN.{length}
-use Rattle.types.specs.declared.answers.Refusal.{Refusal}
-use Rattle.types.specs.declared.answers.Refusal.the-variants as refusal
-use Rattle.types.specs.declared.answers.Checked.the-variants.{Refused}
-use Rattle.types.specs.declared.limits.Limits.{Limits}
+use Rattle.rules_types.specs.declared.answers.Refusal.{Refusal}
+use Rattle.rules_types.specs.declared.answers.Refusal.the-variants as refusal
+use Rattle.rules_types.specs.declared.answers.Checked.the-variants.{Refused}
+use Rattle.rules_types.specs.declared.limits.Limits.{Limits}
 use Rattle.rules.specs.Calls.{read, wholeSteps, proofChecked}
 use Rattle.rules.specs.Checker.{checkProof}
-use Rattle.reader.specs.declared.cursor.Scan.the-variants.{Fault}
-use Rattle.reading.specs.Parsed.{problemAt}
-use Rattle.reading.specs.Outcome.{outcome, outcome-faulty}
-use Rattle.reading.specs.Readable.{Readable}
+use Rattle.problem_scan.specs.declared.cursor.Scan.the-variants.{Fault}
+use Rattle.problem_read.specs.Parsed.{problemAt}
+use Rattle.problem_read.specs.Outcome.{outcome, outcome-faulty}
+use Rattle.problem_read.specs.Readable.{Readable}
 
 module _ (limits : Limits) (q proof : List ℕ) where
   pub called-faulty : (f : Refusal) (place : ℕ) → outcome (read q) ≡ Fault f place → Refused f place ≡ proofChecked limits q proof

@@ -9,18 +9,18 @@ use native.Mathlib.Numerals.{add-one}
 use native.Mathlib.Omega.{arith}
 use lib.ListN.{length, drop}
 use lib.Seq.{drop-drop}
-use Rattle.types.specs.declared.answers.Checked.the-variants.{Accepted, Fails}
+use Rattle.rules_types.specs.declared.answers.Checked.the-variants.{Accepted, Fails}
 use Rattle.rules.specs.Lists.{tabulate}
 use Rattle.rules.specs.Lines as rules
 use Rattle.rules.specs.Lines.{isEmpty}
 use Rattle.rules.specs.Steps.{Step}
 use Rattle.rules.specs.Checker.{statedLine, checkSteps}
-use Rattle.lists.specs.Tabulated.{length-tabulate, tabulate-snoc}
+use Rattle.theory_lists.specs.Tabulated.{length-tabulate, tabulate-snoc}
 use Rattle.lines.specs.Line.{meaning, Ready}
-use Rattle.line_bytes.specs.Places.{stepAt}
-use Rattle.proof_lines.specs.Held.{lineAt, linesIn, ReadyLines}
-use Rattle.checking.specs.declared.compare.Stated.{Stated}
-use Rattle.checking.specs.Stated.{States, found-is, unfound-is}
+use Rattle.steps.specs.Places.{stepAt}
+use Rattle.steps.specs.Lines.{lineAt, linesIn, ReadyLines}
+use Rattle.step_check.specs.declared.compare.Stated.{Stated}
+use Rattle.step_check.specs.Stated.{States, found-is, unfound-is}
 
 length-lines : (proof : List ℕ) (n : ℕ) → length (linesIn proof n) ≡ n
 unfolding linesIn
@@ -43,11 +43,13 @@ module _ {parts : List Step} {proof : List ℕ} {count : ℕ} {ends : Bool} {i :
   unfolding checkSteps
   following-done h =
       let e : count - i ≡ 0 = omega (arith, run .few) in
-      ap (λ (n : ℕ). cond ends Accepted (Fails n)) (sym (length-lines proof i)) ∙ sym (ap (λ (n : ℕ). checkSteps parts n (linesIn proof i) ends (drop (64 * i) proof)) e) ∙ run .same
+      ap (λ (n : ℕ). cond ends Accepted (Fails n)) (sym (length-lines proof i))
+      ∙ sym (ap (λ (n : ℕ). checkSteps parts n (linesIn proof i) ends (drop (64 * i) proof)) e) ∙ run .same
 
   module _ (more : i < count) (s : Stated) (states : States (statedLine parts (linesIn proof i) (stepAt proof i)) (stepAt proof i) s) where
     first : checkSteps parts (suc (count - (i + 1))) (linesIn proof i) ends (drop (64 * i) proof) ≡ checkSteps parts count [] false proof
-    first = let e : suc (count - (i + 1)) ≡ count - i = omega arith in ap (λ (n : ℕ). checkSteps parts n (linesIn proof i) ends (drop (64 * i) proof)) e ∙ run .same
+    first = let e : suc (count - (i + 1)) ≡ count - i = omega arith in
+        ap (λ (n : ℕ). checkSteps parts n (linesIn proof i) ends (drop (64 * i) proof)) e ∙ run .same
 
     pub following-stop : s .found ≡ false → Fails i ≡ checkSteps parts count [] false proof
     unfolding checkSteps stepAt
@@ -69,11 +71,13 @@ module _ {parts : List Step} {proof : List ℕ} {count : ℕ} {ends : Bool} {i :
       pub following-next : Following parts proof count (isEmpty (meaning (s .line))) (i + 1)
       unfolding checkSteps stepAt
       following-next =
-          let d : drop 64 (drop (64 * i) proof) ≡ drop (64 * (i + 1)) proof = drop-drop 64 (64 * i) proof ∙ (let z : 64 * i + 64 ≡ 64 * (i + 1) = omega arith in ap (λ (n : ℕ). drop n proof) z) in
+          let d : drop 64 (drop (64 * i) proof) ≡ drop (64 * (i + 1)) proof = drop-drop 64 (64 * i) proof
+          ∙ (let z : 64 * i + 64 ≡ 64 * (i + 1) = omega arith in ap (λ (n : ℕ). drop n proof) z) in
           record {
             few = omega arith;
             ready = λ j h. ⊎-elim
-                (λ z. let x : i ≡ j = omega arith in subst (λ (n : ℕ). Ready (lineAt proof n)) x (subst Ready (sym line-is) (states .ready)))
+                (λ z. let x : i ≡ j = omega arith in
+                subst (λ (n : ℕ). Ready (lineAt proof n)) x (subst Ready (sym line-is) (states .ready)))
                 (λ z. run .ready j (omega arith))
                 (eq-zero-or-pos (i - j));
             same =

@@ -8,17 +8,17 @@ use native.Mathlib.Omega.{arith}
 use borrow.Author.Tests.{lt-ltb}
 use lib.ListN.{length, getD, getElem?, set}
 use lib.Seq.{getD-set-same, getD-set-other}
-use Rattle.types.specs.Limits as limit
+use Rattle.rules_types.specs.Limits as limit
 use Rattle.rules.specs.Problem.{Problem}
 use Rattle.rules.specs.Split.{partsOf, splitsOf}
 use Rattle.rules.specs.Calls.{read}
-use Rattle.reader.specs.Values.{clauseAt, clauseEnd}
-use Rattle.reader.specs.Sound.{SoundClause}
-use Rattle.clauses.specs.Walk.{clause-≤}
-use Rattle.reading.specs.Clauses.{clausesAt, clauses-next}
-use Rattle.reading.specs.Readable.{Readable, Ahead, ahead-start, ahead-within, ahead-sound, ahead-few, ahead-next}
-use Rattle.reading.specs.Parsed.{problemAt}
-use Rattle.checking.specs.Named.{partNamed}
+use Rattle.problem_scan.specs.Values.{clauseAt, clauseEnd}
+use Rattle.problem_scan.specs.Sound.{SoundClause}
+use Rattle.problem_clauses.specs.Walk.{clause-≤}
+use Rattle.problem_read.specs.Clauses.{clausesAt, clauses-next}
+use Rattle.problem_read.specs.Readable.{Readable, Ahead, ahead-start, ahead-within, ahead-sound, ahead-few, ahead-next}
+use Rattle.problem_read.specs.Parsed.{problemAt}
+use Rattle.step_check.specs.Named.{partNamed}
 use Rattle.proof_check.specs.declared.index.Sizes.{Sizes}
 
 -- clause c stands there, and that is its first split variable
@@ -74,7 +74,8 @@ indexing-start {q} {b} {r} {n} places variables h =
     }
 
 -- one more in both lists
-stored : (P : ℕ → ℕ → ℕ → Type 0) (xs ys : List ℕ) (x y m : ℕ) → m < length xs → m < length ys → ((c : ℕ) → c < m → P (getD xs c 0) (getD ys c 0) c) → P x y m
+stored : (P : ℕ → ℕ → ℕ → Type 0) (xs ys : List ℕ) (x y m : ℕ) → m < length xs → m < length ys
+    → ((c : ℕ) → c < m → P (getD xs c 0) (getD ys c 0) c) → P x y m
     → (c : ℕ) → c < m + 1 → P (getD (set xs m x) c 0) (getD (set ys m y) c 0) c
 stored P xs ys x y m h i old new c l = ⊎-elim
     (λ z. let e : c ≡ m = omega arith in rw (e, getD-set-same xs m x 0 h, getD-set-same ys m y 0 i) new)
@@ -86,11 +87,13 @@ module _ (q : List ℕ) (r variable m at : ℕ) (more : 0 < m) where
   unfolding partNamed
   named-first k = rw (clauses-next q r m at more)
 
-  named-later : (d k : ℕ) → partNamed variable (clausesAt q r m at) (suc d) k ≡ partNamed (variable + splitsOf (clauseAt q r at)) (clausesAt q r (m - 1) (clauseEnd q r at)) d k
+  named-later : (d k : ℕ) → partNamed variable (clausesAt q r m at) (suc d) k
+      ≡ partNamed (variable + splitsOf (clauseAt q r at)) (clausesAt q r (m - 1) (clauseEnd q r at)) d k
   unfolding partNamed
   named-later d k = rw (clauses-next q r m at more)
 
-module _ {q : List ℕ} {b r n : ℕ} {places variables : List ℕ} {at variable m : ℕ} (run : Indexing q b r n places variables at variable m) (more : m < n) where
+module _ {q : List ℕ} {b r n : ℕ} {places variables : List ℕ} {at variable m : ℕ}
+    (run : Indexing q b r n places variables at variable m) (more : m < n) where
   left : 0 < n - m
   left = omega arith
 
@@ -109,7 +112,8 @@ module _ {q : List ℕ} {b r n : ℕ} {places variables : List ℕ} {at variable
       record {
         sound = ahead-sound (run .ahead) left;
         small = omega (arith, indexing-small h);
-        named = λ k. let z : m ≡ m + 0 = omega arith in ap (λ (c : ℕ). partNamed b (clausesAt q r n 4) c k) z ∙ run .rest 0 k ∙ named-first q r variable (n - m) at left k;
+        named = λ k. let z : m ≡ m + 0 = omega arith in ap (λ (c : ℕ). partNamed b (clausesAt q r n 4) c k) z ∙ run .rest 0 k
+            ∙ named-first q r variable (n - m) at left k;
       }
 
   pub indexing-next : b ≤ limit.booleans → m < length places → m < length variables
@@ -124,5 +128,6 @@ module _ {q : List ℕ} {b r n : ℕ} {places variables : List ℕ} {at variable
         done = stored (Entry q b r n) places variables at variable m i j (run .done) (entry h);
         rest = λ d k.
             let z : m + 1 + d ≡ m + suc d = omega arith in
-            ap (λ (c : ℕ). partNamed b (clausesAt q r n 4) c k) z ∙ run .rest (suc d) k ∙ named-later q r variable (n - m) at left d k ∙ rw e;
+            ap (λ (c : ℕ). partNamed b (clausesAt q r n 4) c k) z ∙ run .rest (suc d) k
+            ∙ named-later q r variable (n - m) at left d k ∙ rw e;
       }

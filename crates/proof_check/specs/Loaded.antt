@@ -15,19 +15,19 @@ use Rattle.rules.specs.Split.{partsOf}
 use Rattle.rules.specs.Steps.{Step, loaded, header, encodeStep}
 use Rattle.rules.specs.Elimination.{loadableOf}
 use Rattle.rules.specs.Checker.{lineAmong, variableNamed, resolventNamed, statedLine}
-use Rattle.lists.specs.Tests.{of-true}
-use Rattle.lists.specs.Equal.{same-yes}
-use Rattle.layout.specs.Headers.{how-back}
-use Rattle.reader.specs.Values.{clauseAt}
-use Rattle.line_bytes.specs.Encoding.{headerOf}
-use Rattle.reading.specs.Clauses.{clausesAt, length-clausesAt}
-use Rattle.reading.specs.Parsed.{problemAt}
-use Rattle.reading.specs.Readable.{Readable, ahead-start}
-use Rattle.parts.specs.declared.part.Found.{Found}
-use Rattle.parts.specs.Part.{partOf}
-use Rattle.checking.specs.Stated.{lineFound, matched, among-one}
-use Rattle.checking.specs.Derived.{resolventStated}
-use Rattle.checking.specs.Named.{partNamed, ownStep, among-named}
+use Rattle.theory_lists.specs.Tests.{of-true}
+use Rattle.theory_lists.specs.Equal.{same-yes}
+use Rattle.theory_bytes.specs.Headers.{how-back}
+use Rattle.problem_scan.specs.Values.{clauseAt}
+use Rattle.steps.specs.Encoding.{headerOf}
+use Rattle.problem_read.specs.Clauses.{clausesAt, length-clausesAt}
+use Rattle.problem_read.specs.Parsed.{problemAt}
+use Rattle.problem_read.specs.Readable.{Readable, ahead-start}
+use Rattle.problem_parts.specs.declared.part.Found.{Found}
+use Rattle.problem_parts.specs.Part.{partOf}
+use Rattle.step_check.specs.Stated.{lineFound, matched, among-one}
+use Rattle.step_check.specs.Derived.{resolventStated}
+use Rattle.step_check.specs.Named.{partNamed, ownStep, among-named}
 use Rattle.proof_check.specs.Few.{few-parts}
 use Rattle.proof_check.specs.Index.{Entry}
 
@@ -62,27 +62,35 @@ module _ (bytes : List ℕ) (c k : ℕ) where
       s = record { origin = loaded c k; line = l }
 
       by : (t : Bool) → same eqb (encodeStep s) bytes ≡ t → lineAmong (s ∷ []) bytes ≡ none
-      by true e = absurd (h (ap (fieldAt 0 1) (sym (same-yes eqb eqb→eq (encodeStep s) bytes (of-true (same eqb (encodeStep s) bytes) e))) ∙ how-back s))
+      by true e = absurd
+          (h (ap (fieldAt 0 1) (sym (same-yes eqb eqb→eq (encodeStep s) bytes (of-true (same eqb (encodeStep s) bytes) e))) ∙ how-back s))
       by false e = rw (e, lineAmong)
 
 -- ---- among the parts of all clauses
 module _ {q : List ℕ} {b r n : ℕ} (read : Readable q b r n) (bytes : List ℕ) where
-  among-clauses : lineAmong (loadableOf (problemAt q b r n)) bytes ≡ ownStep bytes (fieldAt 2 2 bytes) (fieldAt 4 2 bytes) (partNamed b (clausesAt q r n 4) (fieldAt 2 2 bytes) (fieldAt 4 2 bytes))
+  among-clauses : lineAmong (loadableOf (problemAt q b r n)) bytes
+      ≡ ownStep bytes (fieldAt 2 2 bytes) (fieldAt 4 2 bytes) (partNamed b (clausesAt q r n 4) (fieldAt 2 2 bytes) (fieldAt 4 2 bytes))
   unfolding loadableOf
   among-clauses =
-      among-named bytes 0 (fieldAt 2 2 bytes) b (clausesAt q r n 4) (omega (arith, length-clausesAt q r n 4, read .parsed .clauses)) (few-parts q r n 4 0 (ahead-start read)) (omega arith)
+      among-named bytes 0 (fieldAt 2 2 bytes) b (clausesAt q r n 4) (omega (arith, length-clausesAt q r n 4, read .parsed .clauses))
+      (few-parts q r n 4 0 (ahead-start read)) (omega arith)
 
   pub loaded-beyond : n ≤ fieldAt 2 2 bytes → lineAmong (loadableOf (problemAt q b r n)) bytes ≡ none
   unfolding ownStep
   loaded-beyond h =
-      among-clauses ∙ ap (ownStep bytes (fieldAt 2 2 bytes) (fieldAt 4 2 bytes)) (named-beyond b (clausesAt q r n 4) (fieldAt 2 2 bytes) (fieldAt 4 2 bytes) (omega (arith, length-clausesAt q r n 4)))
+      among-clauses ∙ ap (ownStep bytes (fieldAt 2 2 bytes) (fieldAt 4 2 bytes))
+      (named-beyond b (clausesAt q r n 4) (fieldAt 2 2 bytes) (fieldAt 4 2 bytes) (omega (arith, length-clausesAt q r n 4)))
 
   pub loaded-other : (fieldAt 0 1 bytes ≡ 0 → ⊥) → lineAmong (loadableOf (problemAt q b r n)) bytes ≡ none
-  loaded-other h = among-clauses ∙ own-other bytes (fieldAt 2 2 bytes) (fieldAt 4 2 bytes) h (partNamed b (clausesAt q r n 4) (fieldAt 2 2 bytes) (fieldAt 4 2 bytes))
+  loaded-other h = among-clauses
+      ∙ own-other bytes (fieldAt 2 2 bytes) (fieldAt 4 2 bytes) h (partNamed b (clausesAt q r n 4) (fieldAt 2 2 bytes) (fieldAt 4 2 bytes))
 
   pub loaded-found : {c k place variable : ℕ} (f : Found) → c ≡ fieldAt 2 2 bytes → k ≡ fieldAt 4 2 bytes → Entry q b r n place variable c
       → partOf f ≡ getElem? (partsOf variable (clauseAt q r place)) k
-      → lineAmong (loadableOf (problemAt q b r n)) bytes ≡ matched (headerOf 0 0 c k) bytes (lineFound (record { found = f .found; line = f .line }))
+      → lineAmong (loadableOf (problemAt q b r n)) bytes ≡ matched (headerOf 0 0 c k) bytes (lineFound (record {
+        found = f .found;
+        line = f .line;
+      }))
   loaded-found {c} {k} f x y entry e =
       among-clauses
       ∙ (λ t. ownStep bytes (sym x t) (sym y t) (partNamed b (clausesAt q r n 4) (sym x t) (sym y t)))
@@ -95,7 +103,8 @@ module _ (parts : List Step) (earlier : List Line) (bytes : List ℕ) where
   unfolding statedLine resolventNamed variableNamed
   stated-loaded e = by (lineAmong parts bytes)
     where
-      by : (o : Option Line) → _≡_ {A = Option Line} (elim o [ some l ↦ some l | none ↦ elim (resolventNamed earlier bytes) [ none ↦ none | some s ↦ lineAmong (s ∷ []) bytes ] ]) o
+      by : (o : Option Line) → _≡_ {A = Option Line}
+          (elim o [ some l ↦ some l | none ↦ elim (resolventNamed earlier bytes) [ none ↦ none | some s ↦ lineAmong (s ∷ []) bytes ] ]) o
       by none = rw (e, resolventNamed)
       by (some l) = refl
 

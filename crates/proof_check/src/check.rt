@@ -1,17 +1,17 @@
 // The check of a proof: faults of the question, then 16, then the steps.
+use crate::follow::check_steps;
 use crate::index::Sizes;
 use crate::index::index;
-use crate::steps::check_steps;
-use reader::cursor::Scan;
-use reading::read::read;
-use types::answers::Checked;
-use types::answers::Refusal;
-use types::limits::Limits;
+use problem_read::read::read;
+use problem_scan::cursor::Scan;
+use rules_types::answers::Checked;
+use rules_types::answers::Refusal;
+use rules_types::limits::Limits;
 ghost use mathlib.Core.Path.{_≡_};
-ghost use Rattle.types.specs.Limits.{standard};
+ghost use Rattle.rules_types.specs.Limits.{standard};
 ghost use Rattle.rules.specs.Checker.{checkProof};
 ghost use Rattle.rules.specs.Calls.{wholeSteps, proofChecked};
-ghost use Rattle.reading.specs.Readable.{Readable};
+ghost use Rattle.problem_read.specs.Readable.{Readable};
 ghost use Rattle.proof_check.specs.Index.{problemOf};
 
 // 16: "length not 64 to 65,536 by 64s".

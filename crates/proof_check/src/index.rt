@@ -1,9 +1,9 @@
 // An index of the clauses, made once for a check: the place of each, and its first split variable.
-use clauses::splits::splits;
-use clauses::walk::next;
+use problem_clauses::places::next;
+use problem_clauses::splits::splits;
 ghost use mathlib.Core.Path.{_≡_};
 ghost use lib.ListN.{length};
-ghost use Rattle.reading.specs.Readable.{Readable};
+ghost use Rattle.problem_read.specs.Readable.{Readable};
 ghost use Rattle.proof_check.specs.Index.{Known};
 
 // b, r and n of a question.

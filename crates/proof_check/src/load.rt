@@ -1,13 +1,13 @@
 // "all 64 bytes are a loaded piece": the part that a step's bytes name, found by the index.
 use crate::index::Sizes;
-use checking::compare::Stated;
-use checking::compare::compared;
-use checking::compare::unstated;
 use fields::u16_at;
-use parts::part::part;
+use problem_parts::part::part;
+use step_check::compare::Stated;
+use step_check::compare::compared;
+use step_check::compare::unstated;
 ghost use Rattle.rules.specs.Elimination.{loadableOf};
 ghost use Rattle.rules.specs.Checker.{lineAmong};
-ghost use Rattle.checking.specs.Stated.{States};
+ghost use Rattle.step_check.specs.Stated.{States};
 ghost use Rattle.proof_check.specs.Index.{Known, problemOf};
 
 pub fn loaded(q: &[u8], sizes: Sizes, places: &[u16], variables: &[u8], bytes: [u8; 64]) -> Stated

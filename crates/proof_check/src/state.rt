@@ -1,14 +1,14 @@
 // "A book's line follows if all 64 bytes are a loaded piece, or the result of two earlier lines".
 use crate::index::Sizes;
 use crate::load::loaded;
-use checking::compare::Stated;
-use checking::derive::derived;
+use step_check::compare::Stated;
+use step_check::derive::derived;
 ghost use Prim.Native.Nat.{_*_, _≤_};
 ghost use lib.ListN.{length};
 ghost use Rattle.rules.specs.Elimination.{loadableOf};
 ghost use Rattle.rules.specs.Checker.{statedLine};
-ghost use Rattle.proof_lines.specs.Held.{linesIn, ReadyLines};
-ghost use Rattle.checking.specs.Stated.{States};
+ghost use Rattle.steps.specs.Lines.{linesIn, ReadyLines};
+ghost use Rattle.step_check.specs.Stated.{States};
 ghost use Rattle.proof_check.specs.Index.{Known, problemOf};
 
 // The line that these bytes state as step i of the proof. A loaded part has 0 for its first byte, and no result has.

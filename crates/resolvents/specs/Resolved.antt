@@ -33,7 +33,12 @@ pub record Gives (o : Option rules.Line) (r : Resolved) : Type 0 where
 module _ {o : Option rules.Line} (l : Line) (h : Shaped l) where
   pub gives-dropped : none ≡ o → Gives o (record { outcome = Dropped; line = l })
   unfolding outcomeOf lineOf
-  gives-dropped e = record { outcome = ap outcomeOf e; line = e; shaped = h; ready = λ k. let z : _≡_ {A = ℕ} 0 1 = cc in absurd (omega arith) }
+  gives-dropped e = record {
+    outcome = ap outcomeOf e;
+    line = e;
+    shaped = h;
+    ready = λ k. let z : _≡_ {A = ℕ} 0 1 = cc in absurd (omega arith);
+  }
 
   module _ (e : some (meaning l) ≡ o) where
     outcome-is : outcomeOf o ≡ cond (overflows (meaning l)) Overflows Made
@@ -42,7 +47,12 @@ module _ {o : Option rules.Line} (l : Line) (h : Shaped l) where
 
     pub gives-overflow : overflows (meaning l) ≡ true → Gives o (record { outcome = Overflows; line = l })
     unfolding lineOf
-    gives-overflow w = record { outcome = sym (outcome-is ∙ rw w); line = e; shaped = h; ready = λ k. let z : _≡_ {A = ℕ} 0 1 = cc in absurd (omega arith) }
+    gives-overflow w = record {
+      outcome = sym (outcome-is ∙ rw w);
+      line = e;
+      shaped = h;
+      ready = λ k. let z : _≡_ {A = ℕ} 0 1 = cc in absurd (omega arith);
+    }
 
     pub gives-made : overflows (meaning l) ≡ false → Gives o (record { outcome = Made; line = l })
     unfolding lineOf

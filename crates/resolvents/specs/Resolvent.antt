@@ -7,7 +7,7 @@ use Prim.Native.Nat.{ℕ, zero, suc, _*_, _≤_, _<_, max}
 use native.Mathlib.Omega.{arith}
 use lib.IntN.{ℤ, pos, natAbs, _+ℤ_, _*ℤ_}
 use lib.ListN.{getD}
-use Rattle.lists.specs.Tests.{clash, of-true, of-false}
+use Rattle.theory_lists.specs.Tests.{clash, of-true, of-false}
 use Rattle.rules.specs.Arithmetic.{combine, isPositive, isNegative}
 use Rattle.rules.specs.Lines.{coefficient, rational, positively, negatively}
 use Rattle.lines.specs.Forms.{relations}
@@ -51,13 +51,16 @@ module _ (f : ℕ) (us : List ℤ) (ub : ℤ) (ls : List ℤ) (lb : ℤ) where
       let c = pos (natAbs (getD ls f (pos 0))) in
       constraintOf r (combine c us a ls) (c *ℤ ub +ℤ a *ℤ lb)
 
-  pub combination-is : (r s : ℕ) → r ≤ 2 → s ≤ 2 → 0 < r → 0 < s → combined (max r s) ≡ combinationOf f (constraintOf r us ub) (constraintOf s ls lb)
+  pub combination-is : (r s : ℕ) → r ≤ 2 → s ≤ 2 → 0 < r → 0 < s
+      → combined (max r s) ≡ combinationOf f (constraintOf r us ub) (constraintOf s ls lb)
   unfolding constraintOf combinationOf combination coefficient
   combination-is r s h k =
       relations (λ r. 0 < r → 0 < s → combined (max r s) ≡ combinationOf f (constraintOf r us ub) (constraintOf s ls lb)) r h
       (λ z y. absurd (omega arith))
-      (λ z. relations (λ s. 0 < s → combined (max 1 s) ≡ combinationOf f (constraintOf 1 us ub) (constraintOf s ls lb)) s k (λ y. absurd (omega arith)) (λ y. refl) (λ y. refl))
-      (λ z. relations (λ s. 0 < s → combined (max 2 s) ≡ combinationOf f (constraintOf 2 us ub) (constraintOf s ls lb)) s k (λ y. absurd (omega arith)) (λ y. refl) (λ y. refl))
+      (λ z. relations (λ s. 0 < s → combined (max 1 s) ≡ combinationOf f (constraintOf 1 us ub) (constraintOf s ls lb)) s k
+      (λ y. absurd (omega arith)) (λ y. refl) (λ y. refl))
+      (λ z. relations (λ s. 0 < s → combined (max 2 s) ≡ combinationOf f (constraintOf 2 us ub) (constraintOf s ls lb)) s k
+      (λ y. absurd (omega arith)) (λ y. refl) (λ y. refl))
 
 pub constraints-agree : {r r′ : ℕ} {cs cs′ : List ℤ} {b b′ : ℤ} → r ≡ r′ → cs ≡ cs′ → b ≡ b′ → constraintOf r cs b ≡ constraintOf r′ cs′ b′
 constraints-agree p q t = λ i. constraintOf (p i) (q i) (t i)

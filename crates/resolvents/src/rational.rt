@@ -9,7 +9,7 @@ ghost use Prim.Native.Nat.{_<_, max};
 ghost use lib.IntN.{pos, natAbs};
 ghost use Rattle.rules.specs.Lines.{rational, positively, negatively};
 ghost use Rattle.rules.specs.Resolve.{resolvent};
-ghost use Rattle.vectors.specs.Amounts.{Small};
+ghost use Rattle.theory_vectors.specs.Amounts.{Small};
 ghost use Rattle.lines.specs.Line.{meaning, Shaped, Ready};
 ghost use Rattle.normalization.specs.Reduced.{Bounded};
 

@@ -5,13 +5,13 @@ use mathlib.Core.List.{List, [], _∷_, _++_, map}
 use Prim.Native.Nat.{ℕ, _+_, _*_, _≤_, _<_}
 use native.Mathlib.Omega.{arith}
 use lib.ListN.{length}
-use Rattle.types.specs.declared.limits.Limits.{Limits}
+use Rattle.rules_types.specs.declared.limits.Limits.{Limits}
 use Rattle.rules.specs.Lines as rules
 use Rattle.rules.specs.Elimination.{order, Numbered, Pair, pairUp, sideOf, roundPairs}
 use Rattle.lines.specs.Line.{meaning}
-use Rattle.proof_lines.specs.Held.{lineAt}
-use Rattle.line_bytes.specs.Decoding.{decoded}
-use Rattle.placing.specs.Steps.{stepsIn}
+use Rattle.steps.specs.Lines.{lineAt}
+use Rattle.steps.specs.Decoding.{decoded}
+use Rattle.steps.specs.Held.{stepsIn}
 use Rattle.placing.specs.Point.{Leads, leads-steps, leads-step}
 use Rattle.rounds.specs.Sides.{onSide, chosen, numbered, selected, selected-here, selected-end, Next}
 use Rattle.rounds.specs.Pairs.{pairOf}
@@ -39,13 +39,16 @@ module _ (proof : List ℕ) (m : ℕ) (v : rules.Variable) (t : ℕ) where
   unfolding later pairUp
   later-end i h = rw (selected-end (chosen true v t) proof m i h)
 
-  pub within-lower : (i j : ℕ) → j < m → chosen false v t (meaning (lineAt proof j)) ≡ true → within i j ≡ pairOf proof i j ∷ within i (j + 1)
+  pub within-lower : (i j : ℕ) → j < m → chosen false v t (meaning (lineAt proof j)) ≡ true
+      → within i j ≡ pairOf proof i j ∷ within i (j + 1)
   unfolding within
-  within-lower i j h e = ap (λ (ls : List Numbered). map (λ l. record { upper = numbered proof i; lower = l }) ls ++ later (i + 1)) (selected-here (chosen false v t) proof m j h e)
+  within-lower i j h e = ap (λ (ls : List Numbered). map (λ l. record { upper = numbered proof i; lower = l }) ls ++ later (i + 1))
+      (selected-here (chosen false v t) proof m j h e)
 
   pub within-end : (i j : ℕ) → m ≤ j → within i j ≡ later (i + 1)
   unfolding within
-  within-end i j h = ap (λ (ls : List Numbered). map (λ l. record { upper = numbered proof i; lower = l }) ls ++ later (i + 1)) (selected-end (chosen false v t) proof m j h)
+  within-end i j h = ap (λ (ls : List Numbered). map (λ l. record { upper = numbered proof i; lower = l }) ls ++ later (i + 1))
+      (selected-end (chosen false v t) proof m j h)
 
   -- from one number to the next
   pub later-next : {i r : ℕ} → Next proof m (chosen true v t) i r → later i ≡ later r

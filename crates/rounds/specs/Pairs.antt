@@ -5,7 +5,7 @@ use mathlib.Core.List.{List}
 use mathlib.Core.Option.{Option}
 use Prim.Native.Nat.{ℕ, _≤_, _<_}
 use native.Mathlib.Omega.{arith}
-use Rattle.types.specs.declared.limits.Limits.{Limits}
+use Rattle.rules_types.specs.declared.limits.Limits.{Limits}
 use Rattle.rules.specs.Lines as rules
 use Rattle.rules.specs.Lines.{positively, negatively}
 use Rattle.rules.specs.Resolve.{resolve}
@@ -13,14 +13,14 @@ use Rattle.rules.specs.Steps.{Origin, resolved, header}
 use Rattle.rules.specs.Elimination.{State, overflows, limited, Pair, placed, add, tried}
 use Rattle.lines.specs.declared.line.Line.{Line}
 use Rattle.lines.specs.Line.{meaning}
-use Rattle.proof_lines.specs.Held.{lineAt}
+use Rattle.steps.specs.Lines.{lineAt}
 use Rattle.resolvents.specs.declared.resolve.Outcome.the-variants.{Dropped, Overflows, Made}
 use Rattle.resolvents.specs.declared.resolve.Resolved.{Resolved}
 use Rattle.resolvents.specs.Resolved.{outcomeOf, lineOf, Gives}
 use Rattle.placing.specs.declared.place.Progress.{Progress}
 use Rattle.placing.specs.declared.place.Progress.the-variants.{Running, Overflow}
 use Rattle.placing.specs.declared.place.Point.{Point}
-use Rattle.placing.specs.Steps.{originOf, stepOf, stepsIn, Named}
+use Rattle.steps.specs.Held.{originOf, stepOf, stepsIn, Named}
 use Rattle.placing.specs.Point.{stateOf, stateAt, Standing, leads-none, Reaches}
 use Rattle.rounds.specs.declared.side.Variable.{Variable}
 use Rattle.rounds.specs.declared.side.Variable.the-variants.{Rational, Boolean}
@@ -71,17 +71,23 @@ abbrev pub counted : Point → ℕ → Progress → Point
 counted p pairs g = record { progress = g; steps = p .steps; pairs = pairs }
 
 module _ {limits : Limits} {proof : List ℕ} (v : Variable) (i j : ℕ) (r : Resolved) (p : Point) (pairs : ℕ) where
-  pub settle-dropped : Standing limits proof (p .steps) → r .outcome ≡ Dropped → Reaches limits proof p proof (counted p pairs Running) (settled limits proof v i j (left r) p pairs)
+  pub settle-dropped : Standing limits proof (p .steps) → r .outcome ≡ Dropped
+      → Reaches limits proof p proof (counted p pairs Running) (settled limits proof v i j (left r) p pairs)
   unfolding stateAt stateOf tried lineOf
   settle-dropped h e = record { is = rw e; leads = leads-none h }
 
   module _ (gives : Gives (left r) r) where
-    pub settle-overflow : Standing limits proof (p .steps) → r .outcome ≡ Overflows → Reaches limits proof p proof (counted p pairs Overflow) (settled limits proof v i j (left r) p pairs)
+    pub settle-overflow : Standing limits proof (p .steps) → r .outcome ≡ Overflows
+        → Reaches limits proof p proof (counted p pairs Overflow) (settled limits proof v i j (left r) p pairs)
     unfolding stateAt stateOf tried add placed limited lineOf outcomeOf
-    settle-overflow h e = record { is = rw (e, overflow-only (overflows (meaning (r .line))) (rw e at (gives .outcome))); leads = leads-none h }
+    settle-overflow h e = record {
+      is = rw (e, overflow-only (overflows (meaning (r .line))) (rw e at (gives .outcome)));
+      leads = leads-none h;
+    }
 
     pub settle-made : r .outcome ≡ Made → (after : List ℕ) (q : Point)
-        → Reaches limits proof (counted p pairs Running) after q (add (limited limits) false (stepOf (howOf v) (whichOf v) i j (r .line)) (stepsIn proof (p .steps)) pairs)
+        → Reaches limits proof (counted p pairs Running) after q
+        (add (limited limits) false (stepOf (howOf v) (whichOf v) i j (r .line)) (stepsIn proof (p .steps)) pairs)
         → Reaches limits proof p after q (settled limits proof v i j (left r) p pairs)
     unfolding tried limited lineOf outcomeOf
     settle-made e after q k =
@@ -89,7 +95,8 @@ module _ {limits : Limits} {proof : List ℕ} (v : Variable) (i j : ℕ) (r : Re
           is =
               k .is
               ∙ rw (e, made-only (overflows (meaning (r .line))) (rw e at (gives .outcome)))
-              (ap (λ (o : Origin). add (limited limits) false (record { origin = o; line = meaning (r .line) }) (stepsIn proof (p .steps)) pairs) (origin-is v i j));
+              (ap (λ (o : Origin). add (limited limits) false (record { origin = o; line = meaning (r .line) }) (stepsIn proof (p .steps))
+              pairs) (origin-is v i j));
           leads = k .leads;
         }
 

@@ -6,34 +6,38 @@ use Prim.Native.Nat.{ℕ, suc, _+_, _*_, _≤_, _<_}
 use native.Mathlib.Omega.{arith}
 use lib.Dec.{eqb}
 use mir.Facts.{and-yes}
-use Rattle.types.specs.declared.limits.Limits.{Limits}
+use Rattle.rules_types.specs.declared.limits.Limits.{Limits}
 use Rattle.rules.specs.Lines as rules
 use Rattle.rules.specs.Needs.{pairsOf}
 use Rattle.rules.specs.Resolve.{resolve}
 use Rattle.rules.specs.Elimination.{State, running, limited, order, roundOf, Pair, roundPairs, tried, tryAll}
 use Rattle.lines.specs.Line.{meaning}
-use Rattle.lists.specs.Tests.{is-true, of-true}
-use Rattle.elimination.specs.States.{try-ended}
-use Rattle.elimination.specs.PairBound.{tried-pairs}
-use Rattle.proof_lines.specs.Held.{lineAt}
+use Rattle.theory_lists.specs.Tests.{is-true, of-true}
+use Rattle.theory_elimination.specs.States.{try-ended}
+use Rattle.theory_elimination.specs.PairBound.{tried-pairs}
+use Rattle.steps.specs.Lines.{lineAt}
 use Rattle.placing.specs.declared.place.Progress.the-variants.{Running}
 use Rattle.placing.specs.declared.place.Point.{Point}
-use Rattle.placing.specs.Steps.{stepsIn}
-use Rattle.placing.specs.Point.{stateOf, stateAt, Standing, Leads, leads-none, leads-trans, pairs-at, isRunning, running-yes, ended-stays, Reaches}
+use Rattle.steps.specs.Held.{stepsIn}
+use Rattle.placing.specs.Point.{stateOf, stateAt, Standing, Leads, leads-none, leads-trans, pairs-at, isRunning, running-yes, ended-stays}
+use Rattle.placing.specs.Point.{Reaches}
 use Rattle.rounds.specs.declared.side.Variable.{Variable}
 use Rattle.rounds.specs.Sides.{variableOf, Ranged, onSide, chosen, Next}
 use Rattle.rounds.specs.Pairs.{pairOf, settled, resolventOf, Pairable}
-use Rattle.rounds.specs.Left.{later, within, later-all, later-upper, later-end, within-lower, within-end, later-next, within-next, line-same, next-same}
+use Rattle.rounds.specs.Left.{later, within, later-all, later-upper, later-end, within-lower, within-end, later-next, within-next}
+use Rattle.rounds.specs.Left.{line-same, next-same}
 
 chosen-side : (upper : Bool) (v : rules.Variable) (t : ℕ) (l : rules.Line) → chosen upper v t l ≡ true → onSide upper v l ≡ true
 unfolding chosen
-chosen-side upper v t l e = is-true (onSide upper v l) (and-yes (onSide upper v l) (eqb (roundOf order l) t) (of-true (onSide upper v l && eqb (roundOf order l) t) e) .0)
+chosen-side upper v t l e = is-true (onSide upper v l)
+    (and-yes (onSide upper v l) (eqb (roundOf order l) t) (of-true (onSide upper v l && eqb (roundOf order l) t) e) .0)
 
 -- ---- a point of the turn
 module _ (limits : Limits) (v : Variable) (t : ℕ) (start : List ℕ) (from : Point) where
   -- the whole turn
   abbrev pub afterRound : State
-  afterRound = tryAll (limited limits) (variableOf v) (roundPairs order (variableOf v) t (stepsIn start (from .steps))) (running (stepsIn start (from .steps)) (from .pairs))
+  afterRound = tryAll (limited limits) (variableOf v) (roundPairs order (variableOf v) t (stepsIn start (from .steps)))
+      (running (stepsIn start (from .steps)) (from .pairs))
 
   -- these pairs are left, and so many at most were tried
   pub record Underway (proof : List ℕ) (p : Point) (left : List Pair) (count : ℕ) : Type 0 where
@@ -50,8 +54,13 @@ module _ (limits : Limits) (v : Variable) (t : ℕ) (start : List ℕ) (from : P
   abbrev pub isChosen : Bool → ℕ → Type 0
   isChosen upper i = chosen upper (variableOf v) t (meaning (lineAt start i)) ≡ true
 
-  pub underway-as : {proof : List ℕ} {p : Point} {left rest : List Pair} {c d : ℕ} → left ≡ rest → Underway proof p left c → c ≤ d → Underway proof p rest d
-  underway-as {proof} {p} e r h = record { leads = r .leads; counted = omega (arith, r .counted); same = ap (λ (ps : List Pair). tryAll (limited limits) (variableOf v) ps (stateAt proof p)) (sym e) ∙ r .same }
+  pub underway-as : {proof : List ℕ} {p : Point} {left rest : List Pair} {c d : ℕ} → left ≡ rest → Underway proof p left c → c ≤ d
+      → Underway proof p rest d
+  underway-as {proof} {p} e r h = record {
+    leads = r .leads;
+    counted = omega (arith, r .counted);
+    same = ap (λ (ps : List Pair). tryAll (limited limits) (variableOf v) ps (stateAt proof p)) (sym e) ∙ r .same;
+  }
 
   -- at the two loops' tests: of the uppers, and of the lowers of upper i
   pub record AtUpper (proof : List ℕ) (p : Point) (i : ℕ) : Type 0 where
@@ -70,7 +79,8 @@ module _ (limits : Limits) (v : Variable) (t : ℕ) (start : List ℕ) (from : P
     within-none : from .pairs ≤ from .pairs + 0
     within-none = omega arith
 
-    pub upper-first : {i : ℕ} → from .progress ≡ Running → Next start (from .steps) (chosen true (variableOf v) t) 0 i → AtUpper start from i
+    pub upper-first : {i : ℕ} → from .progress ≡ Running
+        → Next start (from .steps) (chosen true (variableOf v) t) 0 i → AtUpper start from i
     unfolding stateAt stateOf
     upper-first g n =
         record {
@@ -81,7 +91,8 @@ module _ (limits : Limits) (v : Variable) (t : ℕ) (start : List ℕ) (from : P
                 leads = leads-none standing;
                 counted = within-none;
                 same =
-                    (λ x. tryAll (limited limits) (variableOf v) (later-all start (from .steps) (variableOf v) t x) (stateOf (g x) (stepsIn start (from .steps)) (from .pairs)));
+                    (λ x. tryAll (limited limits) (variableOf v) (later-all start (from .steps) (variableOf v) t x)
+                    (stateOf (g x) (stepsIn start (from .steps)) (from .pairs)));
               })
               (omega arith);
           few = n .within;
@@ -93,31 +104,37 @@ module _ (limits : Limits) (v : Variable) (t : ℕ) (start : List ℕ) (from : P
       unfolding tryAll
       upper-done r h =
           record {
-            is = ap (λ (ps : List Pair). tryAll (limited limits) (variableOf v) ps (stateAt proof p)) (sym (later-end start (from .steps) (variableOf v) t i h)) ∙ r .underway .same;
+            is = ap (λ (ps : List Pair). tryAll (limited limits) (variableOf v) ps (stateAt proof p))
+                (sym (later-end start (from .steps) (variableOf v) t i h)) ∙ r .underway .same;
             leads = r .underway .leads;
           }
 
-      pub lower-first : {j : ℕ} → AtUpper proof p i → i < from .steps → Next start (from .steps) (chosen false (variableOf v) t) 0 j → AtLower proof p i j
+      pub lower-first : {j : ℕ} → AtUpper proof p i → i < from .steps
+          → Next start (from .steps) (chosen false (variableOf v) t) 0 j → AtLower proof p i j
       lower-first r h n =
           record {
             going = r .going;
-            underway = underway-as (later-upper start (from .steps) (variableOf v) t i h (r .upper h) ∙ within-next start (from .steps) (variableOf v) t i n) (r .underway) (omega arith);
+            underway = underway-as (later-upper start (from .steps) (variableOf v) t i h (r .upper h)
+                ∙ within-next start (from .steps) (variableOf v) t i n) (r .underway) (omega arith);
             few = n .within;
             lower = n .passes;
           }
 
-      pub upper-next : {j k : ℕ} → AtLower proof p i j → from .steps ≤ j → from .steps ≤ 65536 → Next proof (from .steps) (chosen true (variableOf v) t) (i + 1) k → AtUpper proof p k
+      pub upper-next : {j k : ℕ} → AtLower proof p i j → from .steps ≤ j → from .steps ≤ 65536
+          → Next proof (from .steps) (chosen true (variableOf v) t) (i + 1) k → AtUpper proof p k
       upper-next {j = j} r h f n =
           let at = next-same (r .underway .leads) (standing .held .room) n in
           record {
             going = r .going;
-            underway = underway-as (within-end start (from .steps) (variableOf v) t i j h ∙ later-next start (from .steps) (variableOf v) t at) (r .underway) (omega (arith, at .behind, r .few));
+            underway = underway-as (within-end start (from .steps) (variableOf v) t i j h
+                ∙ later-next start (from .steps) (variableOf v) t at) (r .underway) (omega (arith, at .behind, r .few));
             few = at .within;
             upper = at .passes;
           }
 
     -- one pair more
-    module _ {proof : List ℕ} {p : Point} {i j : ℕ} (r : AtLower proof p i j) (at-upper : i < from .steps) (upper : isChosen true i) (at-lower : j < from .steps) where
+    module _ {proof : List ℕ} {p : Point} {i j : ℕ} (r : AtLower proof p i j) (at-upper : i < from .steps) (upper : isChosen true i)
+        (at-lower : j < from .steps) where
       same-line : (k : ℕ) → k < from .steps → lineAt proof k ≡ lineAt start k
       same-line = line-same (r .underway .leads) (standing .held .room)
 
@@ -134,7 +151,8 @@ module _ (limits : Limits) (v : Variable) (t : ℕ) (start : List ℕ) (from : P
             lower = rw (same-line j at-lower) (chosen-side false (variableOf v) t (meaning (lineAt start j)) (r .lower at-lower));
           }
 
-      module _ {after : List ℕ} {q : Point} (reaches : Reaches limits proof p after q (settled limits proof v i j (resolventOf proof v i j) p (suc (p .pairs)))) where
+      module _ {after : List ℕ} {q : Point}
+          (reaches : Reaches limits proof p after q (settled limits proof v i j (resolventOf proof v i j) p (suc (p .pairs)))) where
         pub underway-pair : Underway after q (laterLowers i (j + 1)) (65536 * i + (j + 1))
         unfolding stateAt stateOf tryAll
         underway-pair =
@@ -142,20 +160,29 @@ module _ (limits : Limits) (v : Variable) (t : ℕ) (start : List ℕ) (from : P
             let w = variableOf v in
             let steps = stepsIn proof (p .steps) in
             let rest = laterLowers i (j + 1) in
-            let tried-same : tried stops w (pairOf proof i j) (resolventOf proof v i j) steps (suc (p .pairs)) ≡ tried stops w (pairOf start i j) (resolventOf start v i j) steps (suc (p .pairs)) =
+            let tried-same : tried stops w (pairOf proof i j) (resolventOf proof v i j) steps (suc (p .pairs))
+            ≡ tried stops w (pairOf start i j) (resolventOf start v i j) steps (suc (p .pairs)) =
             (λ x.
             let u = meaning (same-line i at-upper x) in
             let l = meaning (same-line j at-lower x) in
-            tried stops w (record { upper = record { number = i; line = u }; lower = record { number = j; line = l } }) (resolve w u l) steps (suc (p .pairs))) in
+            tried stops w (record { upper = record { number = i; line = u }; lower = record { number = j; line = l } }) (resolve w u l)
+            steps (suc (p .pairs))) in
             let before : tryAll stops w (pairOf start i j ∷ rest) (running steps (p .pairs)) ≡ afterRound =
-            (λ x. tryAll stops w (sym (within-lower start (from .steps) w t i j at-lower (r .lower at-lower)) x) (stateOf (sym (r .going) x) steps (p .pairs))) ∙ r .underway .same in
+            (λ x. tryAll stops w (sym (within-lower start (from .steps) w t i j at-lower (r .lower at-lower)) x)
+            (stateOf (sym (r .going) x) steps (p .pairs))) ∙ r .underway .same in
             record {
               leads = leads-trans (r .underway .leads) (reaches .leads);
-              counted = omega (arith, r .underway .counted, sym (pairs-at after q) ∙ ap pairsOf (reaches .is) ∙ tried-pairs stops w (pairOf proof i j) (resolventOf proof v i j) steps (suc (p .pairs)));
+              counted = omega (
+                arith,
+                r .underway .counted,
+                sym (pairs-at after q) ∙ ap pairsOf (reaches .is)
+                    ∙ tried-pairs stops w (pairOf proof i j) (resolventOf proof v i j) steps (suc (p .pairs)),
+              );
               same = ap (tryAll stops w rest) (reaches .is ∙ tried-same) ∙ before;
             }
 
-        pub lower-next : {k : ℕ} → isRunning (q .progress) ≡ true → Next after (from .steps) (chosen false (variableOf v) t) (j + 1) k → AtLower after q i k
+        pub lower-next : {k : ℕ} → isRunning (q .progress) ≡ true
+            → Next after (from .steps) (chosen false (variableOf v) t) (j + 1) k → AtLower after q i k
         lower-next g n =
             let at = next-same (underway-pair .leads) (standing .held .room) n in
             record {
@@ -170,12 +197,14 @@ module _ (limits : Limits) (v : Variable) (t : ℕ) (start : List ℕ) (from : P
         round-ended g =
             let rest = laterLowers i (j + 1) in
             record {
-              is = ended-stays (tryAll (limited limits) (variableOf v) rest) (λ e steps n. try-ended (limited limits) e steps n (variableOf v) rest) after q g ∙ underway-pair .same;
+              is = ended-stays (tryAll (limited limits) (variableOf v) rest)
+                  (λ e steps n. try-ended (limited limits) e steps n (variableOf v) rest) after q g ∙ underway-pair .same;
               leads = underway-pair .leads;
             }
 
 -- at the loop over the lowers of upper i, before it
-pub record Entered (limits : Limits) (v : Variable) (t m first : ℕ) (start : List ℕ) (from : Point) (proof : List ℕ) (p : Point) (i : ℕ) : Type 0 where
+pub record Entered (limits : Limits) (v : Variable) (t m first : ℕ) (start : List ℕ) (from : Point) (proof : List ℕ)
+    (p : Point) (i : ℕ) : Type 0 where
   pub steps : from .steps ≡ m
   pub standing : Standing limits start (from .steps)
   pub first-lower : Next start (from .steps) (chosen false (variableOf v) t) 0 first

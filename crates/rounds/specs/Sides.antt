@@ -12,13 +12,13 @@ use Rattle.rules.specs.Lines as rules
 use Rattle.rules.specs.Lines.{rational, boolean, coefficient, positively, negatively}
 use Rattle.rules.specs.Steps.{Step}
 use Rattle.rules.specs.Elimination.{order, roundOf, Numbered, select}
-use Rattle.lists.specs.Tabulated.{drop-tabulate}
+use Rattle.theory_lists.specs.Tabulated.{drop-tabulate}
 use Rattle.lines.specs.Line.{meaning, Shaped}
 use Rattle.lines.specs.Forms.{coefficient-is}
-use Rattle.line_bytes.specs.Decoding.{decoded, getD-amountsAt}
-use Rattle.line_bytes.specs.Places.{stepAt}
-use Rattle.proof_lines.specs.Held.{lineAt}
-use Rattle.placing.specs.Steps.{stepFrom, stepsIn, length-stepsIn, field-stepAt}
+use Rattle.steps.specs.Decoding.{decoded, getD-amountsAt}
+use Rattle.steps.specs.Places.{stepAt}
+use Rattle.steps.specs.Lines.{lineAt}
+use Rattle.steps.specs.Held.{stepFrom, stepsIn, length-stepsIn, field-stepAt}
 use Rattle.rounds.specs.declared.side.Variable.{Variable}
 use Rattle.rounds.specs.declared.side.Variable.the-variants.{Rational, Boolean}
 
@@ -42,7 +42,8 @@ chosen upper v t l = onSide upper v l && eqb (roundOf order l) t
 
 -- ---- by their bytes
 module _ (proof : List ℕ) (i : ℕ) (room : 64 * i + 64 ≤ length proof) where
-  pub coefficient-bytes : Shaped (lineAt proof i) → (f : ℕ) → f < 8 → fromUnsigned (fieldAt (64 * i + 16 + 4 * f) 4 proof) ≡ coefficient f (meaning (lineAt proof i) .constraint)
+  pub coefficient-bytes : Shaped (lineAt proof i) → (f : ℕ) → f < 8
+      → fromUnsigned (fieldAt (64 * i + 16 + 4 * f) 4 proof) ≡ coefficient f (meaning (lineAt proof i) .constraint)
   unfolding lineAt decoded
   coefficient-bytes h f l =
       let e : 64 * i + 16 + 4 * f ≡ 64 * i + (16 + 4 * f) = omega arith in
@@ -81,7 +82,8 @@ module _ (test : rules.Line → Bool) (proof : List ℕ) (m : ℕ) where
   unfolding stepsIn
   first = drop-tabulate m (λ k. stepFrom (stepAt proof k))
 
-  pub selected-here : (i : ℕ) → i < m → test (meaning (lineAt proof i)) ≡ true → selected test proof m i ≡ numbered proof i ∷ selected test proof m (i + 1)
+  pub selected-here : (i : ℕ) → i < m → test (meaning (lineAt proof i)) ≡ true
+      → selected test proof m i ≡ numbered proof i ∷ selected test proof m (i + 1)
   unfolding selected stepFrom lineAt
   selected-here i h e =
       ap (select test i) (first i h)
@@ -97,7 +99,8 @@ module _ (test : rules.Line → Bool) (proof : List ℕ) (m : ℕ) where
 
   pub selected-end : (i : ℕ) → m ≤ i → selected test proof m i ≡ []
   unfolding selected select
-  selected-end i h = let l : length (stepsIn proof m) ≤ i = omega (arith, length-stepsIn proof m) in ap (select test i) (drop-of-length-le (stepsIn proof m) l)
+  selected-end i h = let l : length (stepsIn proof m) ≤ i = omega (arith, length-stepsIn proof m) in
+      ap (select test i) (drop-of-length-le (stepsIn proof m) l)
 
 -- the first one from a number on
 pub record Next (proof : List ℕ) (m : ℕ) (test : rules.Line → Bool) (from r : ℕ) : Type 0 where

@@ -1,5 +1,5 @@
 // The turns, one after another: each pairs the lines of its variable.
 pub mod pair;
 pub mod round;
-pub mod rounds;
+pub mod sequence;
 pub mod side;

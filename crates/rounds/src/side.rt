@@ -1,17 +1,17 @@
 // The lines of a turn that have its variable on one side: positive (an upper bound) or negative.
 use fields::amount_at;
-use line_bytes::decode::mask_at;
 use machine::sign::is_negative;
 use machine::sign::is_positive;
 use masks::member;
-use proof_lines::line_at;
+use steps::access::line_at;
+use steps::decode::mask_at;
 ghost use mathlib.Core.Path.{_≡_};
 ghost use Prim.Native.Nat.{_+_, _*_, _≤_, _<_};
 ghost use lib.ListN.{length};
 ghost use Rattle.rules.specs.Lines.{rational, boolean, coefficient};
 ghost use Rattle.lines.specs.Line.{meaning, Shaped};
-ghost use Rattle.proof_lines.specs.Held.{lineAt};
-ghost use Rattle.placing.specs.Steps.{Held};
+ghost use Rattle.steps.specs.Lines.{lineAt};
+ghost use Rattle.steps.specs.Held.{Held};
 ghost use Rattle.rounds.specs.Sides.{variableOf, Ranged, onSide, chosen, Next};
 
 // A turn's variable.

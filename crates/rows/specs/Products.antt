@@ -8,10 +8,10 @@ use lib.ListN.{getD}
 use mir.Syntax.{w64}
 use mir.Val.{SFits, ofZ, toZ}
 use mir.Facts.{toZ-ofZ}
-use Rattle.integers.specs.Size.{abs-+-≤, abs-*-≤}
+use Rattle.theory_integers.specs.Size.{abs-+-≤, abs-*-≤}
 use Rattle.rules.specs.Arithmetic.{combine}
-use Rattle.vectors.specs.Amounts.{Small, Amounts}
-use Rattle.vectors.specs.Dot.{getD-combine}
+use Rattle.theory_vectors.specs.Amounts.{Small, Amounts}
+use Rattle.theory_vectors.specs.Dot.{getD-combine}
 use Rattle.machine.specs.Signed.{fits-size}
 
 -- an amount is what its bits say
@@ -43,4 +43,5 @@ module _ (c x a y : ℤ) (hc : Small c) (hx : Small x) (ha : Small a) (hy : Smal
 
 pub combine-≤ : (c : ℤ) (us : List ℤ) (a : ℤ) (ls : List ℤ) → Small c → Amounts us → Small a → Amounts ls
     → (i : ℕ) → natAbs (getD (combine c us a ls) i (pos 0)) ≤ 2000000000000000000
-combine-≤ c us a ls hc hu ha hl i = rw (getD-combine c us a ls i) (combination-≤ c (getD us i (pos 0)) a (getD ls i (pos 0)) hc (hu .small i) ha (hl .small i))
+combine-≤ c us a ls hc hu ha hl i =
+    rw (getD-combine c us a ls i) (combination-≤ c (getD us i (pos 0)) a (getD ls i (pos 0)) hc (hu .small i) ha (hl .small i))

@@ -10,8 +10,8 @@ use lib.Signed.{quotZ}
 use lib.ListN.{length, getD, set, take, length-set}
 use lib.Seq.{take-suc, take-suc-set, take-length}
 use Rattle.rules.specs.Arithmetic.{combine}
-use Rattle.vectors.specs.Dot.{length-combine}
-use Rattle.vectors.specs.Constraint.{quotients}
+use Rattle.theory_vectors.specs.Dot.{length-combine}
+use Rattle.theory_vectors.specs.Constraint.{quotients}
 
 -- the first i elements of a list as long as the wanted one are right
 pub record Filled (wanted : List ℤ) (i : ℕ) (out : List ℤ) : Type 0 where
@@ -21,7 +21,8 @@ pub record Filled (wanted : List ℤ) (i : ℕ) (out : List ℤ) : Type 0 where
 pub filled-none : (wanted out : List ℤ) → length out ≡ length wanted → Filled wanted 0 out
 filled-none wanted out h = record { long = h; front = refl }
 
-pub filled-more : {wanted : List ℤ} {i : ℕ} {out : List ℤ} (z : ℤ) → Filled wanted i out → i < length wanted → z ≡ getD wanted i (pos 0) → Filled wanted (i + 1) (set out i z)
+pub filled-more : {wanted : List ℤ} {i : ℕ} {out : List ℤ} (z : ℤ) → Filled wanted i out → i < length wanted → z ≡ getD wanted i (pos 0)
+    → Filled wanted (i + 1) (set out i z)
 filled-more {wanted} {i} {out} z f h e =
     let l : i < length out = omega (arith, f .long) in
     record {

@@ -2,7 +2,7 @@
 ghost use mathlib.Core.Path.{_≡_};
 ghost use lib.IntN.{_+ℤ_, _*ℤ_};
 ghost use Rattle.rules.specs.Arithmetic.{combine};
-ghost use Rattle.vectors.specs.Amounts.{Small, Amounts};
+ghost use Rattle.theory_vectors.specs.Amounts.{Small, Amounts};
 
 pub fn combine(c: i64, x: i64, a: i64, y: i64) -> i64
     requires { ⌜ Small c ⌝ }

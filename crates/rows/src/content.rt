@@ -7,7 +7,7 @@ ghost use Prim.Native.Nat.{_<_, _^_};
 ghost use lib.IntN.{pos};
 ghost use lib.Signed.{quotZ};
 ghost use Rattle.rules.specs.Arithmetic.{gcdAll};
-ghost use Rattle.vectors.specs.Constraint.{quotients};
+ghost use Rattle.theory_vectors.specs.Constraint.{quotients};
 
 // From the bound on, up to the first divisor that is 1: it stays so.
 pub fn content(row: [i64; 8], bound: i64) -> u64

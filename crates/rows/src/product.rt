@@ -2,7 +2,7 @@
 ghost use mathlib.Core.Path.{_≡_};
 ghost use Prim.Native.Nat.{_≤_};
 ghost use lib.IntN.{pos, natAbs, _+ℤ_, _*ℤ_};
-ghost use Rattle.vectors.specs.Amounts.{Small};
+ghost use Rattle.theory_vectors.specs.Amounts.{Small};
 
 // One product more, behind at most seven.
 pub fn plus_product(total: i64, z: i64, x: i64) -> i64

@@ -5,9 +5,9 @@ use mathlib.Core.Option.{Option, none, some}
 use Prim.Native.Nat.{ℕ, zero, suc, _/_}
 use lib.Dec.{eqb}
 use lib.ListN.{length, getElem?, take, drop}
-use Rattle.types.specs.declared.answers.Checked.{Checked}
-use Rattle.types.specs.declared.answers.Checked.the-variants.{Accepted, Fails}
-use Rattle.types.specs.Limits as limit
+use Rattle.rules_types.specs.declared.answers.Checked.{Checked}
+use Rattle.rules_types.specs.declared.answers.Checked.the-variants.{Accepted, Fails}
+use Rattle.rules_types.specs.Limits as limit
 use Rattle.rules.specs.Lists.{same}
 use Rattle.rules.specs.Bytes.{fieldAt}
 use Rattle.rules.specs.Problem.{Clause, Problem}

@@ -4,32 +4,54 @@ use mathlib.Core.List.{List, [], map}
 use Prim.Native.Nat.{ℕ}
 use lib.IntN.{ℤ}
 use lib.ListN.{getD}
-use Rattle.types.specs.declared.answers.Verdict.the-variants.{Satisfiable, Unsatisfiable}
-use Rattle.types.specs.declared.answers.Answer.the-variants.{Decided}
-use Rattle.types.specs.declared.answers.Solved.{Solved}
-use Rattle.types.specs.Answers.{refusalNumber, verdictNumber, answerNumber, answerValue, checkedNumber, checkedValue, evidenceNumber, evidenceLength}
-use Rattle.types.specs.Limits.{standard}
+use Rattle.rules_types.specs.declared.answers.Verdict.the-variants.{Satisfiable, Unsatisfiable}
+use Rattle.rules_types.specs.declared.answers.Answer.the-variants.{Decided}
+use Rattle.rules_types.specs.declared.answers.Solved.{Solved}
+use Rattle.rules_types.specs.Answers.{refusalNumber, verdictNumber, answerNumber, answerValue, checkedNumber, checkedValue, evidenceNumber}
+use Rattle.rules_types.specs.Answers.{evidenceLength}
+use Rattle.rules_types.specs.Limits.{standard}
 use Rattle.rules.specs.Lists.{any, all, filter, concat, same, tabulate, put}
 use Rattle.rules.specs.Arithmetic.{gcdWithin, gcd, gcdAll, lcm, sum, scale, combine, related, isPositive, isNegative, isZero, equal}
 use Rattle.rules.specs.Bytes.{toBytes, fromBytes, fromUnsigned, toUnsigned, amountBytes, fieldAt, padded}
-use Rattle.rules.specs.Problem.{fault, got, after, repeat, byte, number, tested, field, inRange, amount, literal, constraint, clause, end, problem}
+use Rattle.rules.specs.Problem.{fault, got, after, repeat, byte, number, tested, field, inRange, amount, literal, constraint, clause}
+use Rattle.rules.specs.Problem.{end, problem}
 use Rattle.rules.specs.Meaning.{literalHolds, constraintHolds, clauseHolds}
-use Rattle.rules.specs.Lines.{noBooleans, including, excluding, union, meet, someYes, aLiteralHolds, theConstraintHolds, lineHolds, coefficient, positively, negatively, contains, noConstraint, isEmpty, sameConstraint, sameLine}
+use Rattle.rules.specs.Lines.{noBooleans, including, excluding, union, meet, someYes, aLiteralHolds, theConstraintHolds, lineHolds}
+use Rattle.rules.specs.Lines.{coefficient, positively, negatively, contains, noConstraint, isEmpty, sameConstraint, sameLine}
 use Rattle.rules.specs.Normalize.{membersOf, reduced, settled, settledAll, normalClause, settledLine, normalLine}
 use Rattle.rules.specs.Split.{chain, parts, partsOf, splitsOf, overSplit}
 use Rattle.rules.specs.Resolve.{combination, combinationOf, oneOf, resolvent, resolve}
 use Rattle.rules.specs.Steps.{Origin, header, headerBytes, relationByte, mask, row, lineBytes, encodeStep, encodeProof}
-use Rattle.rules.specs.Elimination.{order, roundOf, overflows, limited, unlimited, placed, covered, select, pairUp, sideOf, roundPairs, partSteps, loadable, loadableOf, add, load, tried, tryAll, rounds, eliminate, elimination}
-use Rattle.rules.specs.Values.{reduce, quotient, less, midpoint, plus, beyond, tighter, value, boundOf, boundsOf, gather, tightest, rationalValue, withoutBoolean, booleanValue, withRational, withBoolean, assign, exceeds, start, walkFrom, walk}
+use Rattle.rules.specs.Elimination.{order, roundOf, overflows, limited, unlimited, placed, covered, select, pairUp, sideOf}
+use Rattle.rules.specs.Elimination.{roundPairs, partSteps, loadable, loadableOf, add, load, tried, tryAll, rounds, eliminate}
+use Rattle.rules.specs.Elimination.{elimination}
+use Rattle.rules.specs.Values.{reduce, quotient, less, midpoint, plus, beyond, tighter, value, boundOf, boundsOf, gather, tightest}
+use Rattle.rules.specs.Values.{rationalValue, withoutBoolean, booleanValue, withRational, withBoolean, assign, exceeds, start}
+use Rattle.rules.specs.Values.{walkFrom, walk}
 use Rattle.rules.specs.Model.{booleanByte, encodeModel, tooLarge, written, model}
-use Rattle.rules.specs.Checker.{pairable, derived, variableNamed, resolventNamed, lineAmong, statedLine, checkSteps, checkProof, checkClauses}
-use Rattle.rules.specs.Calls.{Outcome, faulted, stopped, decided, withinSplits, read, noModel, concluded, outcome, lent, said, proofAfter, modelAfter, solve, wholeSteps, proofChecked, modelChecked, evidence, evidenceBytes}
-use Rattle.rules.specs.Print.{ascii, digitsWithin, decimal, signedDecimal, printLine, printStep, printProof, printModel, printRefusal, printed}
+use Rattle.rules.specs.Checker.{pairable, derived, variableNamed, resolventNamed, lineAmong, statedLine, checkSteps, checkProof}
+use Rattle.rules.specs.Checker.{checkClauses}
+use Rattle.rules.specs.Calls.{Outcome, faulted, stopped, decided, withinSplits, read, noModel, concluded, outcome, lent, said}
+use Rattle.rules.specs.Calls.{proofAfter, modelAfter, solve, wholeSteps, proofChecked, modelChecked, evidence, evidenceBytes}
+use Rattle.rules.specs.Print.{ascii, digitsWithin, decimal, signedDecimal, printLine, printStep, printProof, printModel, printRefusal}
+use Rattle.rules.specs.Print.{printed}
 use Rattle.rules.specs.Needs.{stepsOf, pairsOf, needs, listed, triedResolvents, roundResolvents, resolvents}
 
 -- `unfolding definitions` lets a theorem compute
 unfoldable abbrev pub definitions : Unit {0}
-unfolding any all filter concat same tabulate put gcdWithin gcd gcdAll lcm sum scale combine related isPositive isNegative isZero equal toBytes fromBytes fromUnsigned toUnsigned amountBytes fieldAt padded after repeat byte number tested field inRange amount literal constraint clause end problem literalHolds constraintHolds clauseHolds noBooleans including excluding union meet someYes aLiteralHolds theConstraintHolds lineHolds coefficient positively negatively contains noConstraint isEmpty sameConstraint sameLine membersOf reduced settled settledAll normalClause settledLine normalLine chain parts partsOf splitsOf overSplit combination combinationOf oneOf resolvent resolve header headerBytes relationByte mask row lineBytes encodeStep encodeProof order roundOf overflows limited unlimited placed covered select pairUp sideOf roundPairs partSteps loadable loadableOf add load tried tryAll rounds eliminate elimination reduce quotient less midpoint plus beyond tighter value boundOf boundsOf gather tightest rationalValue withoutBoolean booleanValue withRational withBoolean assign exceeds start walkFrom walk booleanByte encodeModel tooLarge written model pairable derived variableNamed resolventNamed lineAmong statedLine checkSteps checkProof checkClauses withinSplits read noModel concluded outcome lent said proofAfter modelAfter solve wholeSteps proofChecked modelChecked evidence evidenceBytes ascii digitsWithin decimal signedDecimal printLine printStep printProof printModel printRefusal printed stepsOf pairsOf needs listed triedResolvents roundResolvents resolvents refusalNumber verdictNumber answerNumber answerValue checkedNumber checkedValue evidenceNumber evidenceLength
+unfolding any all filter concat same tabulate put gcdWithin gcd gcdAll lcm sum scale combine related isPositive isNegative isZero equal
+    toBytes fromBytes fromUnsigned toUnsigned amountBytes fieldAt padded after repeat byte number tested field inRange amount literal
+    constraint clause end problem literalHolds constraintHolds clauseHolds noBooleans including excluding union meet someYes aLiteralHolds
+    theConstraintHolds lineHolds coefficient positively negatively contains noConstraint isEmpty sameConstraint sameLine membersOf reduced
+    settled settledAll normalClause settledLine normalLine chain parts partsOf splitsOf overSplit combination combinationOf oneOf resolvent
+    resolve header headerBytes relationByte mask row lineBytes encodeStep encodeProof order roundOf overflows limited unlimited placed
+    covered select pairUp sideOf roundPairs partSteps loadable loadableOf add load tried tryAll rounds eliminate elimination reduce quotient
+    less midpoint plus beyond tighter value boundOf boundsOf gather tightest rationalValue withoutBoolean booleanValue withRational
+    withBoolean assign exceeds start walkFrom walk booleanByte encodeModel tooLarge written model pairable derived variableNamed
+    resolventNamed lineAmong statedLine checkSteps checkProof checkClauses withinSplits read noModel concluded outcome lent said proofAfter
+    modelAfter solve wholeSteps proofChecked modelChecked evidence evidenceBytes ascii digitsWithin decimal signedDecimal printLine
+    printStep printProof printModel printRefusal printed stepsOf pairsOf needs listed triedResolvents roundResolvents resolvents
+    refusalNumber verdictNumber answerNumber answerValue checkedNumber checkedValue evidenceNumber evidenceLength
 definitions = tt
 
 -- the answer with its pairs; the lines' origins; and the sheet's booleans, numerators and denominator (0 without a sheet)
@@ -45,7 +67,13 @@ bare a os = record { solved = a; origins = os; booleans = []; numerators = []; d
 
 abbrev pub satisfiable : ℕ → ℕ → List Origin → List Bool → List ℤ → ℕ → Shown
 satisfiable steps pairs os booleans numerators denominator =
-    record { solved = record { answer = Decided Satisfiable steps; pairs = pairs }; origins = os; booleans = booleans; numerators = numerators; denominator = denominator }
+    record {
+      solved = record { answer = Decided Satisfiable steps; pairs = pairs };
+      origins = os;
+      booleans = booleans;
+      numerators = numerators;
+      denominator = denominator;
+    }
 
 abbrev pub unsatisfiable : ℕ → ℕ → List Origin → Shown
 unsatisfiable steps pairs os = bare (record { answer = Decided Unsatisfiable steps; pairs = pairs }) os
@@ -55,13 +83,20 @@ abbrev pub withModel : Solved → List Origin → ℕ → ℕ → List ℕ → S
 withModel a os b r bytes =
     elim (model b r bytes 0) [
       | fault f place ↦ bare a os
-      | got χ rest place ↦ record { solved = a; origins = os; booleans = tabulate b (χ .booleans); numerators = tabulate r (χ .numerators); denominator = χ .denominator }
+      | got χ rest place ↦ record {
+        solved = a;
+        origins = os;
+        booleans = tabulate b (χ .booleans);
+        numerators = tabulate r (χ .numerators);
+        denominator = χ .denominator;
+      }
     ]
 
 abbrev pub shownOf : List ℕ → Outcome → Shown
 shownOf q (faulted f place) = bare (said (faulted f place)) []
 shownOf q (stopped f steps pairs) = bare (said (stopped f steps pairs)) []
-shownOf q (decided v steps pairs bytes) = withModel (said (decided v steps pairs bytes)) (map (λ s. s .origin) steps) (getD q 0 0) (getD q 1 0) bytes
+shownOf q (decided v steps pairs bytes) =
+    withModel (said (decided v steps pairs bytes)) (map (λ s. s .origin) steps) (getD q 0 0) (getD q 1 0) bytes
 
 abbrev pub shown : List ℕ → Shown
 shown q = shownOf q (outcome standard q)

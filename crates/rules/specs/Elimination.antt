@@ -5,8 +5,8 @@ use mathlib.Core.Option.{Option, none, some}
 use Prim.Native.Nat.{ℕ, suc, _+_}
 use lib.Dec.{eqb, leb}
 use lib.ListN.{length}
-use Rattle.types.specs.declared.limits.Limits.{Limits}
-use Rattle.types.specs.Limits as limit
+use Rattle.rules_types.specs.declared.limits.Limits.{Limits}
+use Rattle.rules_types.specs.Limits as limit
 use Rattle.rules.specs.Lists.{any, tabulate}
 use Rattle.rules.specs.Problem.{Clause, Problem, inRange}
 use Rattle.rules.specs.Lines.{places, Line, Variable, rational, boolean, positively, negatively, contains, isEmpty, sameLine}
@@ -122,7 +122,8 @@ module _ (stops : Stops) where
   -- a pair's result: dropped by tidying, or put to the tests; the pair counts either way
   unfoldable pub tried : Variable → Pair → Option Line → List Step → ℕ → State
   tried v p none steps n = running steps n
-  tried v p (some l) steps n = add (stops .atLine l) (record { origin = resolved v (p .upper .number) (p .lower .number); line = l }) steps n
+  tried v p (some l) steps n =
+      add (stops .atLine l) (record { origin = resolved v (p .upper .number) (p .lower .number); line = l }) steps n
 
   unfoldable pub tryAll : Variable → List Pair → State → State
   tryAll v [] state = state

@@ -4,11 +4,11 @@ use mathlib.Core.Bool.{false}
 use mathlib.Core.List.{List, [], _∷_, map}
 use Prim.Native.Nat.{ℕ}
 use lib.IntN.{pos, negsuc}
-use Rattle.types.specs.declared.answers.Refusal.the-variants as refusal
-use Rattle.types.specs.declared.answers.Answer.the-variants.{Refused}
+use Rattle.rules_types.specs.declared.answers.Refusal.the-variants as refusal
+use Rattle.rules_types.specs.declared.answers.Answer.the-variants.{Refused}
 use Rattle.rules.specs.Lines.{rational, boolean}
 use Rattle.rules.specs.Steps.{loaded, resolved}
-use Rattle.types.specs.Limits.{standard}
+use Rattle.rules_types.specs.Limits.{standard}
 use Rattle.rules.specs.Print.{ascii, printed}
 use Rattle.rules.specs.Write.{atMost, below, clauseOf, alone, problemOf}
 use Rattle.rules.specs.Compute.{definitions, Shown, bare, satisfiable, unsatisfiable, shown}
@@ -52,20 +52,25 @@ five =
 
 -- 6. 3x ≤ 1: agrees, 1, 0, x = 1/3.
 abbrev six : Example
-six = record { input = problemOf 0 1 (alone (atMost (pos 3 ∷ []) (pos 1)) ∷ []); shows = satisfiable 1 0 (loaded 0 0 ∷ []) [] (pos 1 ∷ []) 3 }
+six = record {
+  input = problemOf 0 1 (alone (atMost (pos 3 ∷ []) (pos 1)) ∷ []);
+  shows = satisfiable 1 0 (loaded 0 0 ∷ []) [] (pos 1 ∷ []) 3;
+}
 
 -- 7. x + y ≤ 10; -x ≤ -7; -y ≤ -4: cannot, 5, 2. With -y ≤ -3: agrees, 4, 2, x = 7, y = 3.
 abbrev seven : Example
 seven =
     record {
-      input = problemOf 0 2 (alone (atMost (pos 1 ∷ pos 1 ∷ []) (pos 10)) ∷ alone (atMost (negsuc 0 ∷ pos 0 ∷ []) (negsuc 6)) ∷ alone (atMost (pos 0 ∷ negsuc 0 ∷ []) (negsuc 3)) ∷ []);
+      input = problemOf 0 2 (alone (atMost (pos 1 ∷ pos 1 ∷ []) (pos 10)) ∷ alone (atMost (negsuc 0 ∷ pos 0 ∷ []) (negsuc 6)) ∷ alone
+          (atMost (pos 0 ∷ negsuc 0 ∷ []) (negsuc 3)) ∷ []);
       shows = unsatisfiable 5 2 (loaded 0 0 ∷ loaded 1 0 ∷ loaded 2 0 ∷ resolved (rational 0) 0 1 ∷ resolved (rational 1) 3 2 ∷ []);
     }
 
 abbrev sevenWithThree : Example
 sevenWithThree =
     record {
-      input = problemOf 0 2 (alone (atMost (pos 1 ∷ pos 1 ∷ []) (pos 10)) ∷ alone (atMost (negsuc 0 ∷ pos 0 ∷ []) (negsuc 6)) ∷ alone (atMost (pos 0 ∷ negsuc 0 ∷ []) (negsuc 2)) ∷ []);
+      input = problemOf 0 2 (alone (atMost (pos 1 ∷ pos 1 ∷ []) (pos 10)) ∷ alone (atMost (negsuc 0 ∷ pos 0 ∷ []) (negsuc 6)) ∷ alone
+          (atMost (pos 0 ∷ negsuc 0 ∷ []) (negsuc 2)) ∷ []);
       shows = satisfiable 4 2 (loaded 0 0 ∷ loaded 1 0 ∷ loaded 2 0 ∷ resolved (rational 0) 0 1 ∷ []) [] (pos 7 ∷ pos 3 ∷ []) 1;
     }
 
@@ -81,7 +86,8 @@ eight =
 abbrev nine : Example
 nine =
     record {
-      input = problemOf 1 1 (clauseOf (0 ∷ []) (atMost (pos 1 ∷ []) (pos 0) ∷ atMost (negsuc 0 ∷ []) (negsuc 4) ∷ []) ∷ clauseOf (128 ∷ []) [] ∷ []);
+      input = problemOf 1 1
+          (clauseOf (0 ∷ []) (atMost (pos 1 ∷ []) (pos 0) ∷ atMost (negsuc 0 ∷ []) (negsuc 4) ∷ []) ∷ clauseOf (128 ∷ []) [] ∷ []);
       shows = satisfiable 3 1 (loaded 0 0 ∷ loaded 0 1 ∷ loaded 1 0 ∷ []) (false ∷ []) (pos 0 ∷ []) 1;
     }
 
@@ -89,14 +95,16 @@ nine =
 abbrev ten : Example
 ten =
     record {
-      input = problemOf 0 3 (alone (atMost (pos 1000000000 ∷ pos 3 ∷ pos 0 ∷ []) (pos 0)) ∷ alone (atMost (negsuc 999999998 ∷ pos 0 ∷ pos 1 ∷ []) (pos 0)) ∷ []);
+      input = problemOf 0 3 (alone (atMost (pos 1000000000 ∷ pos 3 ∷ pos 0 ∷ []) (pos 0)) ∷ alone
+          (atMost (negsuc 999999998 ∷ pos 0 ∷ pos 1 ∷ []) (pos 0)) ∷ []);
       shows = bare (record { answer = Refused refusal.Overflow 2; pairs = 1 }) [];
     }
 
 abbrev tenWithY : Example
 tenWithY =
     record {
-      input = problemOf 0 3 (alone (atMost (pos 1000000000 ∷ pos 1 ∷ pos 0 ∷ []) (pos 0)) ∷ alone (atMost (negsuc 999999998 ∷ pos 0 ∷ pos 1 ∷ []) (pos 0)) ∷ []);
+      input = problemOf 0 3 (alone (atMost (pos 1000000000 ∷ pos 1 ∷ pos 0 ∷ []) (pos 0)) ∷ alone
+          (atMost (negsuc 999999998 ∷ pos 0 ∷ pos 1 ∷ []) (pos 0)) ∷ []);
       shows = satisfiable 3 1 (loaded 0 0 ∷ loaded 1 0 ∷ resolved (rational 0) 0 1 ∷ []) [] (pos 0 ∷ pos 0 ∷ pos 0 ∷ []) 1;
     }
 

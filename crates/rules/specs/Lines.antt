@@ -5,7 +5,7 @@ use mathlib.Core.Option.{Option, none, some}
 use Prim.Native.Nat.{ℕ, suc, _+_}
 use lib.IntN.{ℤ, pos}
 use lib.ListN.{getD, replicate, set}
-use Rattle.types.specs.Limits as limit
+use Rattle.rules_types.specs.Limits as limit
 use Rattle.rules.specs.Lists.{any, same}
 use Rattle.rules.specs.Arithmetic.{isPositive, isNegative, equal}
 use Rattle.rules.specs.Problem.{Constraint}
@@ -98,7 +98,9 @@ unfoldable pub sameConstraint : Option Constraint → Option Constraint → Bool
 sameConstraint none none = true
 sameConstraint none (some d) = false
 sameConstraint (some c) none = false
-sameConstraint (some c) (some d) = equal (c .bound) (d .bound) && Bool·beq (c .strict) (d .strict) && same equal (c .coefficients) (d .coefficients)
+sameConstraint (some c) (some d) = equal (c .bound) (d .bound) && Bool·beq (c .strict) (d .strict)
+    && same equal (c .coefficients) (d .coefficients)
 
 unfoldable pub sameLine : Line → Line → Bool
-sameLine l m = sameConstraint (l .constraint) (m .constraint) && same Bool·beq (l .positive) (m .positive) && same Bool·beq (l .negative) (m .negative)
+sameLine l m = sameConstraint (l .constraint) (m .constraint) && same Bool·beq (l .positive) (m .positive)
+    && same Bool·beq (l .negative) (m .negative)

@@ -6,8 +6,8 @@ use Prim.Native.Nat.{ℕ}
 use lib.IntN.{pos, natAbs}
 use lib.Dec.{eqb, leb, ltb}
 use lib.ListN.{getD}
-use Rattle.types.specs.declared.answers.Refusal.the-variants as refusal
-use Rattle.types.specs.Limits as limit
+use Rattle.rules_types.specs.declared.answers.Refusal.the-variants as refusal
+use Rattle.rules_types.specs.Limits as limit
 use Rattle.rules.specs.Lists.{any, tabulate}
 use Rattle.rules.specs.Bytes.{toBytes, amountBytes, padded}
 use Rattle.rules.specs.Problem.{Reader, _>>=_, return, repeat, field, amount}
@@ -21,7 +21,8 @@ booleanByte a = cond a 1 0
 -- "b; b bytes of 0 or 1; r; four bytes denominator; r numerators of four bytes; zeros"
 unfoldable pub encodeModel : ℕ → ℕ → Assignment → List ℕ
 encodeModel b r χ =
-    padded limit.modelBytes (b ∷ tabulate b (λ i. booleanByte (χ .booleans i)) ++ (r ∷ toBytes 4 (χ .denominator)) ++ amountBytes (tabulate r (χ .numerators)))
+    padded limit.modelBytes
+    (b ∷ tabulate b (λ i. booleanByte (χ .booleans i)) ++ (r ∷ toBytes 4 (χ .denominator)) ++ amountBytes (tabulate r (χ .numerators)))
 
 -- "or the common denominator (the least) or a numerator over it does"
 unfoldable pub tooLarge : ℕ → Assignment → Bool

@@ -5,13 +5,14 @@ use mathlib.Core.Option.{Option, none, some}
 use Prim.Native.Nat.{ℕ, suc, _≤_}
 use lib.Dec.{T}
 use lib.ListN.{length}
-use Rattle.types.specs.declared.limits.Limits.{Limits}
+use Rattle.rules_types.specs.declared.limits.Limits.{Limits}
 use Rattle.rules.specs.Lists.{all}
 use Rattle.rules.specs.Problem.{Problem}
 use Rattle.rules.specs.Lines.{Line, Variable}
 use Rattle.rules.specs.Resolve.{resolve}
 use Rattle.rules.specs.Steps.{Step}
-use Rattle.rules.specs.Elimination.{State, running, ended, Pair, order, overflows, unlimited, roundPairs, loadableOf, load, tried, tryAll, elimination}
+use Rattle.rules.specs.Elimination.{State, running, ended, Pair, order, overflows, unlimited, roundPairs, loadableOf, load, tried}
+use Rattle.rules.specs.Elimination.{tryAll, elimination}
 
 -- the lines that a course holds, and the pairs that it has tried
 unfoldable pub stepsOf : State → List Step

@@ -56,7 +56,14 @@ normalClause c =
     let n = membersOf true (c .literals) in
     elim (meet p n) [
       | true ↦ none
-      | false ↦ elim (settledAll (c .constraints)) [ none ↦ none | some cs ↦ some (record { positive = p; negative = n; constraints = cs }) ]
+      | false ↦ elim (settledAll (c .constraints)) [
+        | none ↦ none
+        | some cs ↦ some (record {
+          positive = p;
+          negative = n;
+          constraints = cs;
+        })
+      ]
     ]
 
 -- a result tidied, or none where it is dropped

@@ -5,9 +5,9 @@ use Prim.Native.Nat.{ℕ, zero, suc, _+_, _*_, _-_, _%_}
 use lib.IntN.{ℤ, pos, natAbs}
 use lib.Dec.{eqb, leb, ltb}
 use lib.ListN.{replicate}
-use Rattle.types.specs.declared.answers.Refusal.{Refusal}
-use Rattle.types.specs.declared.answers.Refusal.the-variants as refusal
-use Rattle.types.specs.Limits as limit
+use Rattle.rules_types.specs.declared.answers.Refusal.{Refusal}
+use Rattle.rules_types.specs.declared.answers.Refusal.the-variants as refusal
+use Rattle.rules_types.specs.Limits as limit
 use Rattle.rules.specs.Bytes.{fromUnsigned}
 
 -- ---- a question's parts

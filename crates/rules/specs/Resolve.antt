@@ -13,7 +13,11 @@ unfoldable pub combination : ℕ → Constraint → Constraint → Constraint
 combination f u l =
     let a = coefficient f (some u) in
     let c = pos (natAbs (coefficient f (some l))) in
-    record { strict = u .strict || l .strict; coefficients = combine c (u .coefficients) a (l .coefficients); bound = c *ℤ u .bound +ℤ a *ℤ l .bound }
+    record {
+      strict = u .strict || l .strict;
+      coefficients = combine c (u .coefficients) a (l .coefficients);
+      bound = c *ℤ u .bound +ℤ a *ℤ l .bound;
+    }
 
 unfoldable pub combinationOf : ℕ → Option Constraint → Option Constraint → Option Constraint
 combinationOf f none l = none

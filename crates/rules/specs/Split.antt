@@ -5,7 +5,7 @@ use mathlib.Core.Option.{Option, none, some}
 use Prim.Native.Nat.{ℕ, suc, _+_, _-_}
 use lib.Dec.{ltb}
 use lib.ListN.{length}
-use Rattle.types.specs.Limits as limit
+use Rattle.rules_types.specs.Limits as limit
 use Rattle.rules.specs.Problem.{Constraint, Clause}
 use Rattle.rules.specs.Lines.{Booleans, noBooleans, including, Line}
 use Rattle.rules.specs.Normalize.{Normal, normalClause}

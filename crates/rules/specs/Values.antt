@@ -7,12 +7,13 @@ use lib.IntN.{ℤ, pos, negsuc, negℤ, natAbs, _+ℤ_, _-ℤ_, _*ℤ_}
 use lib.Signed.{ltZ, quotZ}
 use lib.Dec.{eqb, ltb}
 use lib.ListN.{set}
-use Rattle.types.specs.Limits as limit
+use Rattle.rules_types.specs.Limits as limit
 use Rattle.rules.specs.Lists.{any, filter, put}
 use Rattle.rules.specs.Arithmetic.{gcd, lcm, sum}
 use Rattle.rules.specs.Problem.{Constraint}
 use Rattle.rules.specs.Meaning.{Assignment}
-use Rattle.rules.specs.Lines.{excluding, Line, aLiteralHolds, lineHolds, Variable, rational, boolean, coefficient, positively, negatively}
+use Rattle.rules.specs.Lines.{excluding, Line, aLiteralHolds, lineHolds, Variable, rational, boolean, coefficient, positively}
+use Rattle.rules.specs.Lines.{negatively}
 use Rattle.rules.specs.Elimination.{roundOf}
 
 -- ---- fractions of any size, reduced
@@ -70,7 +71,8 @@ value (present l true) (present u true) = midpoint l u
 -- what a condition bounds figure f by, the other figures as chosen: (bound - the other terms) / coefficient
 unfoldable pub boundOf : Assignment → ℕ → Constraint → Fraction
 boundOf χ f c =
-    quotient (c .bound *ℤ pos (χ .denominator) -ℤ sum (set (c .coefficients) f (pos 0)) (χ .numerators)) (coefficient f (some c)) (χ .denominator)
+    quotient (c .bound *ℤ pos (χ .denominator) -ℤ sum (set (c .coefficients) f (pos 0)) (χ .numerators))
+    (coefficient f (some c)) (χ .denominator)
 
 pub record Gathered : Type 0 where
   pub at : Fraction
@@ -122,7 +124,8 @@ assign (boolean i) ls χ = withBoolean i (booleanValue χ i ls) χ
 -- "a gathered bound or value, reduced, has numerator or denominator beyond"
 unfoldable pub exceeds : Variable → List Line → Assignment → Bool
 exceeds (rational f) ls χ =
-    any (λ g. beyond (g .at)) (gather negatively χ f ls) || any (λ g. beyond (g .at)) (gather positively χ f ls) || beyond (rationalValue χ f ls)
+    any (λ g. beyond (g .at)) (gather negatively χ f ls) || any (λ g. beyond (g .at)) (gather positively χ f ls)
+    || beyond (rationalValue χ f ls)
 exceeds (boolean i) ls χ = false
 
 -- ---- the walk

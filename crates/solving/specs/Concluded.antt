@@ -4,8 +4,8 @@ use mathlib.Core.List.{List, map}
 use mathlib.Core.Option.{Option, none, some}
 use Prim.Native.Nat.{ℕ}
 use lib.ListN.{length}
-use Rattle.types.specs.declared.answers.Refusal.the-variants as refusal
-use Rattle.types.specs.declared.answers.Verdict.the-variants.{Satisfiable, Unsatisfiable, Unwritten}
+use Rattle.rules_types.specs.declared.answers.Refusal.the-variants as refusal
+use Rattle.rules_types.specs.declared.answers.Verdict.the-variants.{Satisfiable, Unsatisfiable, Unwritten}
 use Rattle.rules.specs.Problem.{Problem}
 use Rattle.rules.specs.Steps.{Step}
 use Rattle.rules.specs.Elimination.{State, running, ended, empty, overflow, outOfSteps, order}
@@ -13,9 +13,9 @@ use Rattle.rules.specs.Needs.{stepsOf, pairsOf}
 use Rattle.rules.specs.Values.{walk}
 use Rattle.rules.specs.Model.{written}
 use Rattle.rules.specs.Calls.{Outcome, stopped, decided, noModel, concluded}
-use Rattle.eliminating.specs.declared.End.{End}
-use Rattle.eliminating.specs.declared.End.the-variants.{Saturated, Empty, Overflow, OutOfSteps}
-use Rattle.eliminating.specs.Ends.{endOf}
+use Rattle.elimination.specs.declared.eliminate.End.{End}
+use Rattle.elimination.specs.declared.eliminate.End.the-variants.{Saturated, Empty, Overflow, OutOfSteps}
+use Rattle.elimination.specs.Ends.{endOf}
 
 module _ (p : Problem) where
   -- by the sheet of the walk

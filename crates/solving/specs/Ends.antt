@@ -4,17 +4,17 @@ use mathlib.Core.List.{List, _++_}
 use mathlib.Core.Option.{Option, none, some}
 use Prim.Native.Nat.{ℕ}
 use lib.ListN.{drop}
-use Rattle.types.specs.declared.answers.Refusal.{Refusal}
-use Rattle.types.specs.declared.answers.Verdict.{Verdict}
-use Rattle.types.specs.declared.answers.Verdict.the-variants.{Satisfiable, Unwritten}
-use Rattle.types.specs.declared.answers.Answer.the-variants.{Decided, Refused}
-use Rattle.types.specs.declared.answers.Solved.{Solved}
+use Rattle.rules_types.specs.declared.answers.Refusal.{Refusal}
+use Rattle.rules_types.specs.declared.answers.Verdict.{Verdict}
+use Rattle.rules_types.specs.declared.answers.Verdict.the-variants.{Satisfiable, Unwritten}
+use Rattle.rules_types.specs.declared.answers.Answer.the-variants.{Decided, Refused}
+use Rattle.rules_types.specs.declared.answers.Solved.{Solved}
 use Rattle.rules.specs.Elimination.{order}
 use Rattle.rules.specs.Values.{walk}
 use Rattle.rules.specs.Model.{written}
-use Rattle.line_bytes.specs.Places.{zeroed}
-use Rattle.proof_lines.specs.Held.{linesIn}
-use Rattle.eliminating.specs.declared.Elimination.{Elimination}
+use Rattle.steps.specs.Places.{zeroed}
+use Rattle.steps.specs.Lines.{linesIn}
+use Rattle.elimination.specs.declared.eliminate.Elimination.{Elimination}
 
 abbrev pub refusedBy : Refusal → Elimination → Solved
 refusedBy f c = record { answer = Refused f (c .steps); pairs = c .pairs }

@@ -2,10 +2,10 @@
 use mathlib.Core.Path.{_≡_, refl}
 use mathlib.Core.List.{List}
 use Prim.Native.Nat.{ℕ}
-use Rattle.types.specs.declared.answers.Refusal.{Refusal}
-use Rattle.types.specs.declared.answers.Answer.the-variants.{Refused}
-use Rattle.types.specs.declared.answers.Solved.{Solved}
-use Rattle.types.specs.declared.limits.Limits.{Limits}
+use Rattle.rules_types.specs.declared.answers.Refusal.{Refusal}
+use Rattle.rules_types.specs.declared.answers.Answer.the-variants.{Refused}
+use Rattle.rules_types.specs.declared.answers.Solved.{Solved}
+use Rattle.rules_types.specs.declared.limits.Limits.{Limits}
 use Rattle.rules.specs.Calls.{Outcome, faulted, said, proofAfter, modelAfter}
 
 -- of the lent bytes and what they are then
@@ -18,6 +18,7 @@ pub record Leaves (limits : Limits) (o : Outcome) (lentProof lentModel after fil
 abbrev pub faultedBy : Refusal → ℕ → Solved
 faultedBy f place = record { answer = Refused f place; pairs = 0 }
 
-pub leaves-faulted : (limits : Limits) (f : Refusal) (place : ℕ) (proof model : List ℕ) → Leaves limits (faulted f place) proof model proof model (faultedBy f place)
+pub leaves-faulted : (limits : Limits) (f : Refusal) (place : ℕ) (proof model : List ℕ)
+    → Leaves limits (faulted f place) proof model proof model (faultedBy f place)
 unfolding said proofAfter modelAfter
 leaves-faulted limits f place proof model = record { says = refl; proof = refl; model = refl }

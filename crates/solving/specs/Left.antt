@@ -6,14 +6,14 @@ use Prim.Native.Nat.{ℕ, _+_, _*_, _-_, _≤_}
 use native.Mathlib.Omega.{arith}
 use lib.ListN.{length, drop, replicate}
 use lib.Seq.{drop-at, drop-drop}
-use Rattle.types.specs.declared.answers.Refusal.{Refusal}
-use Rattle.types.specs.declared.answers.Refusal.the-variants as refusal
-use Rattle.types.specs.declared.answers.Verdict.{Verdict}
-use Rattle.types.specs.declared.answers.Verdict.the-variants.{Satisfiable, Unsatisfiable, Unwritten}
-use Rattle.types.specs.declared.answers.Answer.the-variants.{Decided, Refused}
-use Rattle.types.specs.declared.answers.Solved.{Solved}
-use Rattle.types.specs.declared.limits.Limits.{Limits}
-use Rattle.types.specs.Limits as limit
+use Rattle.rules_types.specs.declared.answers.Refusal.{Refusal}
+use Rattle.rules_types.specs.declared.answers.Refusal.the-variants as refusal
+use Rattle.rules_types.specs.declared.answers.Verdict.{Verdict}
+use Rattle.rules_types.specs.declared.answers.Verdict.the-variants.{Satisfiable, Unsatisfiable, Unwritten}
+use Rattle.rules_types.specs.declared.answers.Answer.the-variants.{Decided, Refused}
+use Rattle.rules_types.specs.declared.answers.Solved.{Solved}
+use Rattle.rules_types.specs.declared.limits.Limits.{Limits}
+use Rattle.rules_types.specs.Limits as limit
 use Rattle.rules.specs.Problem.{Problem}
 use Rattle.rules.specs.Steps.{Step, encodeProof}
 use Rattle.rules.specs.Elimination.{State, limited, order, loadableOf, elimination}
@@ -21,24 +21,25 @@ use Rattle.rules.specs.Needs.{stepsOf, pairsOf}
 use Rattle.rules.specs.Values.{walk}
 use Rattle.rules.specs.Model.{written}
 use Rattle.rules.specs.Calls.{stopped, decided, noModel, concluded, said, proofAfter, modelAfter}
-use Rattle.lists.specs.All.{all-map}
-use Rattle.soundness.specs.WellFormed.{WellFormed}
-use Rattle.elimination.specs.Held.{limited-held}
-use Rattle.elimination.specs.Sound.{Sound, elimination-sound}
-use Rattle.resolution.specs.Formed.{Formed}
-use Rattle.encoding.specs.Steps.{proof-length}
-use Rattle.line_bytes.specs.Places.{zeroed, zeroed-behind}
-use Rattle.proof_lines.specs.Held.{linesIn}
+use Rattle.theory_lists.specs.All.{all-map}
+use Rattle.theory_splitting.specs.WellFormed.{WellFormed}
+use Rattle.theory_elimination.specs.Held.{limited-held}
+use Rattle.theory_elimination.specs.Sound.{Sound, elimination-sound}
+use Rattle.theory_resolution.specs.Formed.{Formed}
+use Rattle.theory_bytes.specs.Steps.{proof-length}
+use Rattle.steps.specs.Places.{zeroed, zeroed-behind}
+use Rattle.steps.specs.Lines.{linesIn}
 use Rattle.walk.specs.Narrow.{Narrow}
-use Rattle.eliminating.specs.declared.End.{End}
-use Rattle.eliminating.specs.declared.End.the-variants.{Saturated, Empty, Overflow, OutOfSteps}
-use Rattle.eliminating.specs.declared.Elimination.{Elimination}
-use Rattle.eliminating.specs.Eliminated.{Eliminated}
+use Rattle.elimination.specs.declared.eliminate.End.{End}
+use Rattle.elimination.specs.declared.eliminate.End.the-variants.{Saturated, Empty, Overflow, OutOfSteps}
+use Rattle.elimination.specs.declared.eliminate.Elimination.{Elimination}
+use Rattle.elimination.specs.Eliminated.{Eliminated}
 use Rattle.solving.specs.Ends.{refusedBy, decidedBy, Written, WrittenBy}
 use Rattle.solving.specs.Leaves.{Leaves}
 use Rattle.solving.specs.Concluded.{finished, Concludes, concludes}
 
-module _ {limits : Limits} {p : Problem} (w : WellFormed p) {before after : List ℕ} {c : Elimination} (e : Eliminated limits p before after c) where
+module _ {limits : Limits} {p : Problem} (w : WellFormed p) {before after : List ℕ} {c : Elimination}
+    (e : Eliminated limits p before after c) where
   abbrev state : State
   state = elimination (limited limits) p
 
@@ -54,7 +55,8 @@ module _ {limits : Limits} {p : Problem} (w : WellFormed p) {before after : List
 
   used : length (encodeProof steps) ≡ 64 * length steps
   unfolding elimination
-  used = proof-length steps (all-map (λ s. Sound (s .line)) (λ s. Formed (s .line)) steps (λ s h. h .formed) (elimination-sound p w (limited limits) order))
+  used = proof-length steps
+      (all-map (λ s. Sound (s .line)) (λ s. Formed (s .line)) steps (λ s h. h .formed) (elimination-sound p w (limited limits) order))
 
   -- no line has a variable that the question does not have
   pub narrow : Narrow after (c .steps) (p .rationals)
@@ -64,8 +66,10 @@ module _ {limits : Limits} {p : Problem} (w : WellFormed p) {before after : List
   beyond : drop (limit.proofBytes limits) after ≡ drop (limit.proofBytes limits) before
   beyond =
       let m : 64 * length steps + (limit.proofBytes limits - 64 * length steps) ≡ limit.proofBytes limits = omega (arith, few) in
-      let d : drop (64 * length steps) after ≡ drop (64 * length steps) before = ap (drop (64 * length steps)) (e .bytes) ∙ drop-at (encodeProof steps) (drop (64 * length steps) before) (64 * length steps) used in
-      ap (λ (i : ℕ). drop i after) (sym m) ∙ sym (drop-drop (limit.proofBytes limits - 64 * length steps) (64 * length steps) after) ∙ ap (drop (limit.proofBytes limits - 64 * length steps)) d
+      let d : drop (64 * length steps) after ≡ drop (64 * length steps) before = ap (drop (64 * length steps)) (e .bytes)
+      ∙ drop-at (encodeProof steps) (drop (64 * length steps) before) (64 * length steps) used in
+      ap (λ (i : ℕ). drop i after) (sym m) ∙ sym (drop-drop (limit.proofBytes limits - 64 * length steps) (64 * length steps) after)
+      ∙ ap (drop (limit.proofBytes limits - 64 * length steps)) d
       ∙ drop-drop (limit.proofBytes limits - 64 * length steps) (64 * length steps) before ∙ ap (λ (i : ℕ). drop i before) m
 
   zeros-all : zeroed 0 (limits .steps) after ≡ replicate (limit.proofBytes limits) 0 ++ drop (limit.proofBytes limits) before
@@ -75,12 +79,14 @@ module _ {limits : Limits} {p : Problem} (w : WellFormed p) {before after : List
       ∙ ap (λ (i : ℕ). replicate {A = ℕ} i 0 ++ drop i after) m
       ∙ ap (λ (r : List ℕ). replicate (limit.proofBytes limits) 0 ++ r) beyond
 
-  zeros-unused : zeroed (c .steps) (limits .steps) after ≡ encodeProof steps ++ replicate (limit.proofBytes limits - limit.stepBytes * length steps) 0 ++ drop (limit.proofBytes limits) before
+  zeros-unused : zeroed (c .steps) (limits .steps) after
+      ≡ encodeProof steps ++ replicate (limit.proofBytes limits - limit.stepBytes * length steps) 0 ++ drop (limit.proofBytes limits) before
   zeros-unused =
       let k = length steps in
       let m : 64 * limits .steps - 64 * k ≡ limit.proofBytes limits - 64 * k = omega arith in
       let n : 64 * k + (limit.proofBytes limits - 64 * k) ≡ limit.proofBytes limits = omega (arith, few) in
-      let rest : drop (limit.proofBytes limits - 64 * k) (drop (64 * k) before) ≡ drop (limit.proofBytes limits) before = drop-drop (limit.proofBytes limits - 64 * k) (64 * k) before ∙ ap (λ (i : ℕ). drop i before) n in
+      let rest : drop (limit.proofBytes limits - 64 * k) (drop (64 * k) before) ≡ drop (limit.proofBytes limits) before =
+      drop-drop (limit.proofBytes limits - 64 * k) (64 * k) before ∙ ap (λ (i : ℕ). drop i before) n in
       (λ i. zeroed (e .steps i) (limits .steps) (e .bytes i))
       ∙ zeroed-behind k (encodeProof steps) used (limits .steps) (drop (64 * k) before)
       ∙ ap (λ (i : ℕ). encodeProof steps ++ replicate {A = ℕ} i 0 ++ drop i (drop (64 * k) before)) m
@@ -91,7 +97,8 @@ module _ {limits : Limits} {p : Problem} (w : WellFormed p) {before after : List
   concludes-at end h = subst (Concludes p state) (sym (e .end) ∙ h) (concludes p state)
 
   module _ (model : List ℕ) where
-    leaves-stopped : (f : Refusal) → concluded p state ≡ stopped f (length steps) (pairsOf state) → Leaves limits (concluded p state) before model (zeroed 0 (limits .steps) after) model (refusedBy f c)
+    leaves-stopped : (f : Refusal) → concluded p state ≡ stopped f (length steps) (pairsOf state)
+        → Leaves limits (concluded p state) before model (zeroed 0 (limits .steps) after) model (refusedBy f c)
     unfolding said proofAfter modelAfter
     leaves-stopped f o =
         rw o
@@ -101,13 +108,16 @@ module _ {limits : Limits} {p : Problem} (w : WellFormed p) {before after : List
           model = refl;
         })
 
-    pub leaves-overflow : c .end ≡ Overflow → Leaves limits (concluded p state) before model (zeroed 0 (limits .steps) after) model (refusedBy refusal.Overflow c)
+    pub leaves-overflow : c .end ≡ Overflow
+        → Leaves limits (concluded p state) before model (zeroed 0 (limits .steps) after) model (refusedBy refusal.Overflow c)
     leaves-overflow h = leaves-stopped refusal.Overflow (concludes-at Overflow h)
 
-    pub leaves-out : c .end ≡ OutOfSteps → Leaves limits (concluded p state) before model (zeroed 0 (limits .steps) after) model (refusedBy refusal.OutOfSteps c)
+    pub leaves-out : c .end ≡ OutOfSteps
+        → Leaves limits (concluded p state) before model (zeroed 0 (limits .steps) after) model (refusedBy refusal.OutOfSteps c)
     leaves-out h = leaves-stopped refusal.OutOfSteps (concludes-at OutOfSteps h)
 
-    leaves-decided : (v : Verdict) (bytes filled : List ℕ) → concluded p state ≡ decided v steps (pairsOf state) bytes → filled ≡ bytes ++ drop 64 model
+    leaves-decided : (v : Verdict) (bytes filled : List ℕ) → concluded p state ≡ decided v steps (pairsOf state) bytes
+        → filled ≡ bytes ++ drop 64 model
         → Leaves limits (concluded p state) before model (zeroed (c .steps) (limits .steps) after) filled (decidedBy v c)
     unfolding said proofAfter modelAfter
     leaves-decided v bytes filled o m =
@@ -122,16 +132,19 @@ module _ {limits : Limits} {p : Problem} (w : WellFormed p) {before after : List
     unfolding noModel
     no-model = zeroed-behind 0 [] refl 1 model
 
-    pub leaves-empty : c .end ≡ Empty → Leaves limits (concluded p state) before model (zeroed (c .steps) (limits .steps) after) (zeroed 0 1 model) (decidedBy Unsatisfiable c)
+    pub leaves-empty : c .end ≡ Empty → Leaves limits (concluded p state) before model (zeroed (c .steps) (limits .steps) after)
+        (zeroed 0 1 model) (decidedBy Unsatisfiable c)
     leaves-empty h = leaves-decided Unsatisfiable noModel (zeroed 0 1 model) (concludes-at Empty h) no-model
 
     pub leaves-saturated : (filled : List ℕ) (s : Solved) → c .end ≡ Saturated → Written (p .booleans) (p .rationals) c after model filled s
         → Leaves limits (concluded p state) before model (zeroed (c .steps) (limits .steps) after) filled s
     leaves-saturated filled s h = by (written (p .booleans) (p .rationals) (walk order (linesIn after (c .steps)))) refl
       where
-        concludes : (o : Option (List ℕ)) → written (p .booleans) (p .rationals) (walk order (linesIn after (c .steps))) ≡ o → concluded p state ≡ finished p state o
+        concludes : (o : Option (List ℕ)) → written (p .booleans) (p .rationals) (walk order (linesIn after (c .steps))) ≡ o
+            → concluded p state ≡ finished p state o
         concludes o f = concludes-at Saturated h o (sym (ap (λ ls. written (p .booleans) (p .rationals) (walk order ls)) (e .lines)) ∙ f)
 
-        by : (o : Option (List ℕ)) → written (p .booleans) (p .rationals) (walk order (linesIn after (c .steps))) ≡ o → WrittenBy o c model filled s → Leaves limits (concluded p state) before model (zeroed (c .steps) (limits .steps) after) filled s
+        by : (o : Option (List ℕ)) → written (p .booleans) (p .rationals) (walk order (linesIn after (c .steps))) ≡ o → WrittenBy o c model
+            filled s → Leaves limits (concluded p state) before model (zeroed (c .steps) (limits .steps) after) filled s
         by none f g = rw (g .said) (leaves-decided Unwritten noModel filled (concludes none f) (g .left ∙ no-model))
         by (some bytes) f g = rw (g .said) (leaves-decided Satisfiable bytes filled (concludes (some bytes) f) (g .left))

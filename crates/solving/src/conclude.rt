@@ -1,18 +1,18 @@
 // What each end of a course leaves: the answer, the proof's bytes and the model's.
-use eliminating::Elimination;
-use line_bytes::steps::zero;
-use model_bytes::write_model;
-use types::answers::Answer;
-use types::answers::Refusal;
-use types::answers::Solved;
-use types::answers::Verdict;
-use types::limits::Limits;
+use elimination::eliminate::Elimination;
+use models::encode::write_model;
+use rules_types::answers::Answer;
+use rules_types::answers::Refusal;
+use rules_types::answers::Solved;
+use rules_types::answers::Verdict;
+use rules_types::limits::Limits;
+use steps::store::zero;
 use walk::backwards::walk;
 ghost use mathlib.Core.Path.{_≡_};
 ghost use Prim.Native.Nat.{_*_, _≤_};
 ghost use lib.ListN.{length};
-ghost use Rattle.line_bytes.specs.Places.{zeroed};
-ghost use Rattle.proof_lines.specs.Held.{ReadyLines};
+ghost use Rattle.steps.specs.Places.{zeroed};
+ghost use Rattle.steps.specs.Lines.{ReadyLines};
 ghost use Rattle.walk.specs.Narrow.{Narrow};
 ghost use Rattle.solving.specs.Ends.{refusedBy, decidedBy, Written};
 

@@ -2,18 +2,18 @@
 use crate::conclude::refuse;
 use crate::conclude::saturated;
 use crate::conclude::without_model;
-use eliminating::End;
-use eliminating::eliminate;
-use types::answers::Refusal;
-use types::answers::Solved;
-use types::answers::Verdict;
-use types::limits::Limits;
+use elimination::eliminate::End;
+use elimination::eliminate::eliminate;
+use rules_types::answers::Refusal;
+use rules_types::answers::Solved;
+use rules_types::answers::Verdict;
+use rules_types::limits::Limits;
 ghost use Prim.Native.Nat.{_*_, _≤_};
 ghost use lib.ListN.{length};
 ghost use Rattle.rules.specs.Elimination.{limited, elimination};
 ghost use Rattle.rules.specs.Calls.{concluded};
-ghost use Rattle.reading.specs.Parsed.{problemAt};
-ghost use Rattle.reading.specs.Readable.{Readable};
+ghost use Rattle.problem_read.specs.Parsed.{problemAt};
+ghost use Rattle.problem_read.specs.Readable.{Readable};
 ghost use Rattle.solving.specs.Leaves.{Leaves};
 
 pub fn decide(

@@ -1,14 +1,14 @@
 // "1 to 3 are tested in order, 4 to 11 as fields are read, then 12, 13. 1 to 13 report no pairs and alter no byte."
 use crate::decide::decide;
-use reader::cursor::Scan;
-use reading::read::read;
-use types::answers::Answer;
-use types::answers::Refusal;
-use types::answers::Solved;
-use types::limits::Limits;
+use problem_read::read::read;
+use problem_scan::cursor::Scan;
+use rules_types::answers::Answer;
+use rules_types::answers::Refusal;
+use rules_types::answers::Solved;
+use rules_types::limits::Limits;
 ghost use mathlib.Core.Path.{_≡_};
 ghost use Prim.Native.Nat.{_≤_};
-ghost use Rattle.types.specs.Limits.{standard};
+ghost use Rattle.rules_types.specs.Limits.{standard};
 ghost use Rattle.rules.specs.Calls.{lent, solve};
 ghost use Rattle.solving.specs.Leaves.{Leaves, faultedBy};
 

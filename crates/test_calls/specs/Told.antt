@@ -1,11 +1,11 @@
 -- What a test program is told of a reading.
 use mathlib.Core.Path.{_≡_, refl}
 use lib.ListN.{length}
-use Rattle.types.specs.Answers.{refusalNumber}
+use Rattle.rules_types.specs.Answers.{refusalNumber}
 use Rattle.rules.specs.Calls.{Reading, faulty, sound}
-use Rattle.reader.specs.declared.cursor.Scan.{Scan}
-use Rattle.reader.specs.declared.cursor.Scan.the-variants.{Sound, Fault}
-use Rattle.reading.specs.Outcome.{outcome}
+use Rattle.problem_scan.specs.declared.cursor.Scan.{Scan}
+use Rattle.problem_scan.specs.declared.cursor.Scan.the-variants.{Sound, Fault}
+use Rattle.problem_read.specs.Outcome.{outcome}
 use Rattle.test_calls.specs.declared.ReadTold.{ReadTold}
 
 unfoldable pub told : Reading → ReadTold

@@ -1,6 +1,6 @@
 // Calls for the test programs alone: parts of the solver that its own calls do not show one by one.
-use reader::cursor::Scan;
-use reading::read::read;
+use problem_read::read::read;
+use problem_scan::cursor::Scan;
 ghost use mathlib.Core.Path.{_≡_};
 ghost use Rattle.rules.specs.Calls.{read};
 ghost use Rattle.test_calls.specs.Told.{told};

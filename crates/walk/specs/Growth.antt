@@ -9,8 +9,8 @@ use lib.IntN.{ℤ, pos, natAbs, _*ℤ_}
 use lib.Dec.{eqb, ltb}
 use lib.ListN.{drop}
 use borrow.Author.Tests.{ltb-true, lt-ltb, eqb-true, eqb-false}
-use Rattle.types.specs.Limits.{amount}
-use Rattle.integers.specs.Size.{abs-*}
+use Rattle.rules_types.specs.Limits.{amount}
+use Rattle.theory_integers.specs.Size.{abs-*}
 use Rattle.rules.specs.Lists.{any, tabulate, put}
 use Rattle.rules.specs.Arithmetic.{lcm}
 use Rattle.rules.specs.Meaning.{Assignment}
@@ -18,22 +18,24 @@ use Rattle.rules.specs.Lines.{Line, Variable, rational, boolean}
 use Rattle.rules.specs.Elimination.{order}
 use Rattle.rules.specs.Values.{Fraction, rationalValue, withRational, withBoolean, assign, exceeds, Walked, walkFrom}
 use Rattle.rules.specs.Model.{tooLarge}
-use Rattle.vectors.specs.Put.{put-other}
-use Rattle.vectors.specs.Lcm.{lcm-dvdˡ, lcm-positive}
-use Rattle.bounds.specs.Below.{Positive}
-use Rattle.saturation.specs.Gathered.{rational-sound}
-use Rattle.saturation.specs.Order.{variableAt, order-from}
-use Rattle.saturation.specs.Aligned.{Aligned, aligned-cons, rest-aligned}
-use Rattle.saturation.specs.Unset.{Unset, walk-unset}
-use Rattle.gathering.specs.Round.{own}
+use Rattle.theory_vectors.specs.Put.{put-other}
+use Rattle.theory_vectors.specs.Lcm.{lcm-dvdˡ, lcm-positive}
+use Rattle.theory_bounds.specs.Below.{Positive}
+use Rattle.theory_saturation.specs.Gathered.{rational-sound}
+use Rattle.theory_saturation.specs.Order.{variableAt, order-from}
+use Rattle.theory_saturation.specs.Aligned.{Aligned, aligned-cons, rest-aligned}
+use Rattle.theory_saturation.specs.Unset.{Unset, walk-unset}
+use Rattle.values.specs.Round.{own}
 
 -- of functions, place by place
-any-grows : (p : ℤ → Bool) (n : ℕ) (g h : ℕ → ℤ) → ((i : ℕ) → p (g i) ≡ true → p (h i) ≡ true) → any p (tabulate n g) ≡ true → any p (tabulate n h) ≡ true
+any-grows : (p : ℤ → Bool) (n : ℕ) (g h : ℕ → ℤ) → ((i : ℕ) → p (g i) ≡ true → p (h i) ≡ true) → any p (tabulate n g) ≡ true
+    → any p (tabulate n h) ≡ true
 unfolding any tabulate
 any-grows p zero g h k e = e
 any-grows p (suc n) g h k e = by (p (g 0)) refl e (any-grows p n (λ i. g (suc i)) (λ i. h (suc i)) (λ i. k (suc i)))
   where
-    by : (b : Bool) → p (g 0) ≡ b → b || any p (tabulate n (λ i. g (suc i))) ≡ true → (any p (tabulate n (λ i. g (suc i))) ≡ true → any p (tabulate n (λ i. h (suc i))) ≡ true) → p (h 0) || any p (tabulate n (λ i. h (suc i))) ≡ true
+    by : (b : Bool) → p (g 0) ≡ b → b || any p (tabulate n (λ i. g (suc i))) ≡ true → (any p (tabulate n (λ i. g (suc i))) ≡ true
+        → any p (tabulate n (λ i. h (suc i))) ≡ true) → p (h 0) || any p (tabulate n (λ i. h (suc i))) ≡ true
     by true i w r = rw (k 0 i)
     by false i w r = rw (r w) (or-true (p (h 0)))
 
@@ -48,7 +50,8 @@ module _ (f : ℕ) (x : Fraction) (χ : Assignment) (z : 0 < χ .denominator) (q
   larger = le-of-dvd (lcm-positive d (x .denominator) z q) (lcm-dvdˡ d (x .denominator) z)
 
   factor : 0 < D / d
-  factor = pos-of-dvd-of-pos (dvd-mul-left (D / d) d) (rw (mul-div-cancel' d (lcm-dvdˡ d (x .denominator) z)) (lcm-positive d (x .denominator) z q))
+  factor = pos-of-dvd-of-pos (dvd-mul-left (D / d) d)
+      (rw (mul-div-cancel' d (lcm-dvdˡ d (x .denominator) z)) (lcm-positive d (x .denominator) z q))
 
   abbrev scaled : ℕ → ℤ
   scaled = put f (x .numerator *ℤ pos (D / x .denominator)) (λ j. χ .numerators j *ℤ pos (D / d))
@@ -61,8 +64,12 @@ module _ (f : ℕ) (x : Fraction) (χ : Assignment) (z : 0 < χ .denominator) (q
           let h : natAbs (χ .numerators j) ≡ 0 = ap (λ (k : ℕ). natAbs (χ .numerators k)) (eqb-true j f i) ∙ ap natAbs free in
           absurd (omega (arith, ltb-true amount (natAbs (χ .numerators j)) e))
       by false i =
-          rw (put-other f (x .numerator *ℤ pos (D / x .denominator)) (λ j. χ .numerators j *ℤ pos (D / d)) j (eqb-false j f i), abs-* (χ .numerators j) (pos (D / d)))
-          (lt-ltb amount (natAbs (χ .numerators j) * (D / d)) (omega (arith, le-mul-of-pos-right (natAbs (χ .numerators j)) factor, ltb-true amount (natAbs (χ .numerators j)) e)))
+          rw (
+            put-other f (x .numerator *ℤ pos (D / x .denominator)) (λ j. χ .numerators j *ℤ pos (D / d)) j (eqb-false j f i),
+            abs-* (χ .numerators j) (pos (D / d)),
+          )
+          (lt-ltb amount (natAbs (χ .numerators j) * (D / d))
+          (omega (arith, le-mul-of-pos-right (natAbs (χ .numerators j)) factor, ltb-true amount (natAbs (χ .numerators j)) e)))
 
   rational-grows : (r : ℕ) → tooLarge r χ ≡ true → tooLarge r (withRational f x χ) ≡ true
   unfolding tooLarge withRational
@@ -75,10 +82,12 @@ module _ (f : ℕ) (x : Fraction) (χ : Assignment) (z : 0 < χ .denominator) (q
           rw (any-grows (λ z. ltb amount (natAbs z)) r (χ .numerators) scaled numerator-grows w)
           (or-true (ltb amount D))
 
-pub assign-grows : (t : ℕ) (ls : List Line) (χ : Assignment) → Unset (suc t) χ → (v : Variable) (r : ℕ) → Aligned t (v ∷ []) → tooLarge r χ ≡ true → tooLarge r (assign v ls χ) ≡ true
+pub assign-grows : (t : ℕ) (ls : List Line) (χ : Assignment) → Unset (suc t) χ → (v : Variable) (r : ℕ) → Aligned t (v ∷ [])
+    → tooLarge r χ ≡ true → tooLarge r (assign v ls χ) ≡ true
 unfolding assign withBoolean tooLarge
 assign-grows t ls χ s (boolean i) r h e = e
-assign-grows t ls χ s (rational g) r h e = rational-grows g (rationalValue χ g ls) χ (s .positive) (rational-sound χ (s .positive) g ls) (s .free g (omega (arith, h .0))) r e
+assign-grows t ls χ s (rational g) r h e =
+    rational-grows g (rationalValue χ g ls) χ (s .positive) (rational-sound χ (s .positive) g ls) (s .free g (omega (arith, h .0))) r e
 
 -- ---- the walk
 module _ (lines : List Line) where
@@ -86,18 +95,22 @@ module _ (lines : List Line) where
   abbrev pub unwritable : ℕ → Walked → Bool
   unwritable r w = w .exceeded || tooLarge r (w .assignment)
 
-  unwritable-next : (r t : ℕ) (v : Variable) (vs : List Variable) → Aligned t (v ∷ vs) → unwritable r (walkFrom order lines (suc t) vs) ≡ true → unwritable r (walkFrom order lines t (v ∷ vs)) ≡ true
+  unwritable-next : (r t : ℕ) (v : Variable) (vs : List Variable) → Aligned t (v ∷ vs)
+      → unwritable r (walkFrom order lines (suc t) vs) ≡ true → unwritable r (walkFrom order lines t (v ∷ vs)) ≡ true
   unfolding walkFrom
   unwritable-next r t v vs h e = by (w .exceeded) (tooLarge r (w .assignment)) refl (exceeds v (own t lines) (w .assignment)) e
     where
       w : Walked
       w = walkFrom order lines (suc t) vs
 
-      by : (x l : Bool) → tooLarge r (w .assignment) ≡ l → (y : Bool) → x || l ≡ true → (x || y) || tooLarge r (assign v (own t lines) (w .assignment)) ≡ true
+      by : (x l : Bool) → tooLarge r (w .assignment) ≡ l → (y : Bool) → x || l ≡ true → (x || y)
+          || tooLarge r (assign v (own t lines) (w .assignment)) ≡ true
       by true l i y k = refl
-      by false l i y k = let a = aligned-cons t v vs h in rw (assign-grows t (own t lines) (w .assignment) (walk-unset order lines (suc t) vs (a .1)) v r (a .0) (i ∙ k)) (or-true y)
+      by false l i y k = let a = aligned-cons t v vs h in
+          rw (assign-grows t (own t lines) (w .assignment) (walk-unset order lines (suc t) vs (a .1)) v r (a .0) (i ∙ k)) (or-true y)
 
-  pub unwritable-end : (r t : ℕ) → t ≤ 40 → unwritable r (walkFrom order lines t (drop t order)) ≡ true → unwritable r (walkFrom order lines 0 order) ≡ true
+  pub unwritable-end : (r t : ℕ) → t ≤ 40 → unwritable r (walkFrom order lines t (drop t order)) ≡ true
+      → unwritable r (walkFrom order lines 0 order) ≡ true
   unwritable-end r zero h e = e
   unwritable-end r (suc t) h e =
       let o = order-from t (omega arith) in

@@ -8,9 +8,9 @@ use Rattle.rules.specs.Meaning.{Assignment}
 use Rattle.rules.specs.Lines.{Line, Variable, rational}
 use Rattle.rules.specs.Values.{Fraction, rationalValue, withRational, assign, exceeds}
 use Rattle.rules.specs.Model.{encodeModel, tooLarge}
-use Rattle.evaluation.specs.declared.model.Model.{Model}
-use Rattle.evaluation.specs.Model.{assignment}
-use Rattle.gathering.specs.Range.{InRange}
+use Rattle.models.specs.declared.model.Model.{Model}
+use Rattle.models.specs.Model.{assignment}
+use Rattle.values.specs.Range.{InRange}
 
 -- the bytes of an assignment that can be written
 abbrev pub bytesOf : ℕ → ℕ → Bool → Model → Option (List ℕ)
@@ -41,7 +41,8 @@ Assigned true m v ls χ = Next m v ls χ
 Assigned false m v ls χ = exceeds v ls χ || tooLarge 8 (assign v ls χ) ≡ true
 
 -- a rational variable's value put in
-pub assigned-by : (χ : Assignment) (f : ℕ) (ls : List Line) (x : Fraction) → x ≡ rationalValue χ f ls → exceeds (rational f) ls χ ≡ false → (t : Bool) (m : Model) → Outcome t m (withRational f x χ) → Assigned t m (rational f) ls χ
+pub assigned-by : (χ : Assignment) (f : ℕ) (ls : List Line) (x : Fraction) → x ≡ rationalValue χ f ls → exceeds (rational f) ls χ ≡ false
+    → (t : Bool) (m : Model) → Outcome t m (withRational f x χ) → Assigned t m (rational f) ls χ
 unfolding assign
 assigned-by χ f ls x e n true m h = record { same = h .same ∙ ap (λ (y : Fraction). withRational f y χ) e; range = h .range; none = n }
 assigned-by χ f ls x e n false m h = rw (n, ← e) h

@@ -9,23 +9,23 @@ use lib.Dec.{leb, ltb, ltb→lt}
 use lib.ListN.{length, getD, set, replicate}
 use lib.Seq.{take-all}
 use borrow.Author.Tests.{le-ltb, lt-ltb, lt-leb, leb-false}
-use Rattle.types.specs.Limits.{amount}
-use Rattle.integers.specs.Ring.{*-comm, *-zeroʳ, +-identityˡ, +-identityʳ}
+use Rattle.rules_types.specs.Limits.{amount}
+use Rattle.theory_integers.specs.Ring.{*-comm, *-zeroʳ, +-identityˡ, +-identityʳ}
 use Rattle.rules.specs.Lists.{any, tabulate, put}
 use Rattle.rules.specs.Problem.{inRange}
 use Rattle.rules.specs.Arithmetic.{lcm, combine}
 use Rattle.rules.specs.Meaning.{Assignment}
 use Rattle.rules.specs.Values.{Fraction, withRational, withBoolean}
 use Rattle.rules.specs.Model.{tooLarge}
-use Rattle.lists.specs.Tests.{of-true, of-false, is-false, tests-agree}
-use Rattle.lists.specs.All.{every, any-agree, getD-replicate-same}
-use Rattle.lists.specs.Tabulated.{tabulate-take, none-tabulate}
-use Rattle.vectors.specs.Dot.{getD-combine}
+use Rattle.theory_lists.specs.Tests.{of-true, of-false, is-false, tests-agree}
+use Rattle.theory_lists.specs.All.{every, any-agree, getD-replicate-same}
+use Rattle.theory_lists.specs.Tabulated.{tabulate-take, none-tabulate}
+use Rattle.theory_vectors.specs.Dot.{getD-combine}
 use Rattle.masks.specs.Mask.{bits, length-bits}
-use Rattle.vectors.specs.Amounts.{Amounts, narrow-small, small-amounts}
-use Rattle.evaluation.specs.declared.model.Model.{Model}
-use Rattle.evaluation.specs.Model.{value, assignment}
-use Rattle.gathering.specs.Range.{InRange}
+use Rattle.theory_vectors.specs.Amounts.{Amounts, narrow-small, small-amounts}
+use Rattle.models.specs.declared.model.Model.{Model}
+use Rattle.models.specs.Model.{value, assignment}
+use Rattle.values.specs.Range.{InRange}
 use Rattle.walk.specs.Outcome.{Same}
 
 -- an element put in, by the list
@@ -45,11 +45,13 @@ boolean-words m n i a h e =
     λ k. record { booleans = λ j. same j k; numerators = value (m .numerators); denominator = m .denominator }
   where
     same : (j : ℕ) → getD (bits 32 n) j false ≡ put i a (λ j. getD (bits 32 (m .booleans)) j false) j
-    same j = ap (λ (s : List Bool). getD s j false) e ∙ getD-put (bits 32 (m .booleans)) i a false (omega (arith, length-bits 32 (m .booleans))) j
+    same j = ap (λ (s : List Bool). getD s j false) e
+        ∙ getD-put (bits 32 (m .booleans)) i a false (omega (arith, length-bits 32 (m .booleans))) j
 
 -- ---- numerators over a new denominator
 module _ (a c m : ℤ) where
-  put-both : (f : ℕ) (g z : ℕ → ℤ) → ((j : ℕ) → z j ≡ pos 0) → (j : ℕ) → c *ℤ put f (pos 0) g j +ℤ a *ℤ put f m z j ≡ put f (a *ℤ m) (λ j. g j *ℤ c) j
+  put-both : (f : ℕ) (g z : ℕ → ℤ) → ((j : ℕ) → z j ≡ pos 0) → (j : ℕ)
+      → c *ℤ put f (pos 0) g j +ℤ a *ℤ put f m z j ≡ put f (a *ℤ m) (λ j. g j *ℤ c) j
   unfolding put
   put-both zero g z e zero = rw (*-zeroʳ c) (+-identityˡ (a *ℤ m))
   put-both zero g z e (suc j) = rw (e (suc j), *-zeroʳ a, +-identityʳ (c *ℤ g (suc j))) (*-comm c (g (suc j)))
@@ -68,21 +70,29 @@ module _ (a c m : ℤ) where
         same j =
             getD-combine c (set numerators f (pos 0)) a (set (replicate 8 (pos 0)) f m) j
             ∙ rw (getD-put numerators f (pos 0) (pos 0) (omega arith) j, getD-put (replicate 8 (pos 0)) f m (pos 0) h j)
-            (put-both f (λ k. getD numerators k (pos 0)) (λ k. getD (replicate 8 (pos 0)) k (pos 0)) (λ k. getD-replicate-same 8 k (pos 0)) j)
+            (put-both f (λ k. getD numerators k (pos 0)) (λ k. getD (replicate 8 (pos 0)) k (pos 0))
+            (λ k. getD-replicate-same 8 k (pos 0)) j)
 
 -- ---- too large, by the numerators' list
 -- the same test of a number, said with ≤ and with <
 outside : (z : ℤ) → ltb amount (natAbs z) ≡ not (inRange z)
 unfolding inRange
 outside z =
-    tests-agree (ltb amount (natAbs z)) (not (leb (natAbs z) amount)) (λ t. of-false (leb (natAbs z) amount) (lt-leb (natAbs z) amount (ltb→lt amount (natAbs z) t)))
+    tests-agree (ltb amount (natAbs z)) (not (leb (natAbs z) amount))
+    (λ t. of-false (leb (natAbs z) amount) (lt-leb (natAbs z) amount (ltb→lt amount (natAbs z) t)))
     (λ t. of-true (ltb amount (natAbs z)) (lt-ltb amount (natAbs z) (leb-false (natAbs z) amount (is-false (leb (natAbs z) amount) t))))
 
-pub large-words : (row : List ℤ) (χ : Assignment) → length row ≡ 8 → value row ≡ χ .numerators → tooLarge 8 χ ≡ ltb amount (χ .denominator) || any (λ z. not (inRange z)) row
+pub large-words : (row : List ℤ) (χ : Assignment) → length row ≡ 8 → value row ≡ χ .numerators → tooLarge 8 χ ≡ ltb amount (χ .denominator)
+    || any (λ z. not (inRange z)) row
 unfolding tooLarge value
 large-words row χ n e =
-    let t : tabulate 8 (χ .numerators) ≡ row = ap (λ (g : ℕ → ℤ). tabulate 8 g) (sym e) ∙ tabulate-take 8 row (pos 0) (omega arith) ∙ take-all 8 row (omega arith) in
-    rw (t, any-agree (λ z. ltb amount (natAbs z)) (λ z. not (inRange z)) row (every (λ z. ltb amount (natAbs z) ≡ not (inRange z)) row outside))
+    let t : tabulate 8 (χ .numerators) ≡ row = ap (λ (g : ℕ → ℤ). tabulate 8 g) (sym e) ∙ tabulate-take 8 row (pos 0) (omega arith)
+    ∙ take-all 8 row (omega arith) in
+    rw (
+      t,
+      any-agree (λ z. ltb amount (natAbs z)) (λ z. not (inRange z)) row
+          (every (λ z. ltb amount (natAbs z) ≡ not (inRange z)) row outside),
+    )
 
 pub amounts-words : (row : List ℤ) → any (λ z. not (inRange z)) row ≡ false → Amounts row
 amounts-words row e =
@@ -92,7 +102,8 @@ pub range-written : (m : Model) (r : ℕ) → InRange m → tooLarge r (assignme
 unfolding tooLarge assignment value
 range-written m r h =
     rw (le-ltb amount (m .denominator) (h .small))
-    (none-tabulate (λ z. ltb amount (natAbs z)) r (λ f. getD (m .numerators) f (pos 0)) (λ i k. le-ltb amount (natAbs (getD (m .numerators) i (pos 0))) (h .amounts .small i)))
+    (none-tabulate (λ z. ltb amount (natAbs z)) r (λ f. getD (m .numerators) f (pos 0))
+    (λ i k. le-ltb amount (natAbs (getD (m .numerators) i (pos 0))) (h .amounts .small i)))
 
 -- ---- a rational variable more, over the common denominator D
 module _ (m : Model) (f : ℕ) (x : Fraction) (D : ℕ) (common : D ≡ lcm (m .denominator) (x .denominator)) where
@@ -100,7 +111,8 @@ module _ (m : Model) (f : ℕ) (x : Fraction) (D : ℕ) (common : D ≡ lcm (m .
   unfolding tooLarge withRational assignment
   denominator-large h = rw (← common, lt-ltb amount D h)
 
-  module _ (row : List ℤ) (n : length row ≡ 8) (e : value row ≡ put f (x .numerator *ℤ pos (D / x .denominator)) (λ j. value (m .numerators) j *ℤ pos (D / m .denominator))) where
+  module _ (row : List ℤ) (n : length row ≡ 8)
+      (e : value row ≡ put f (x .numerator *ℤ pos (D / x .denominator)) (λ j. value (m .numerators) j *ℤ pos (D / m .denominator))) where
     abbrev grown : Assignment
     grown = record { booleans = assignment m .booleans; numerators = value row; denominator = D }
 
@@ -111,6 +123,7 @@ module _ (m : Model) (f : ℕ) (x : Fraction) (D : ℕ) (common : D ≡ lcm (m .
     pub numerators-large : any (λ z. not (inRange z)) row ≡ true → tooLarge 8 (withRational f x (assignment m)) ≡ true
     numerators-large h = rw (← grown-is, large-words row grown n refl, h) (or-true (ltb amount D))
 
-    pub rational-words : any (λ z. not (inRange z)) row ≡ false → 0 < D → D ≤ amount → Same (record { booleans = m .booleans; numerators = row; denominator = D }) (withRational f x (assignment m))
+    pub rational-words : any (λ z. not (inRange z)) row ≡ false → 0 < D → D ≤ amount
+        → Same (record { booleans = m .booleans; numerators = row; denominator = D }) (withRational f x (assignment m))
     unfolding assignment
     rational-words h z l = record { same = grown-is; range = record { amounts = amounts-words row h; positive = z; small = l } }

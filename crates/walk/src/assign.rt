@@ -1,24 +1,24 @@
 // One variable more in an assignment, all rational variables over their least common denominator.
-use evaluation::model::Model;
 use fractions::fraction::Fraction;
 use lines::row::overflowing_row;
 use machine::gcd::gcd;
 use masks::with;
 use masks::without;
+use models::model::Model;
 use rows::combine::combine_rows;
-use types::limits::Limits;
+use rules_types::limits::Limits;
 ghost use mathlib.Core.Path.{_≡_};
 ghost use Prim.Native.Nat.{_≤_, _<_};
 ghost use lib.IntN.{pos, natAbs, _*ℤ_};
-ghost use Rattle.types.specs.Limits.{amount};
+ghost use Rattle.rules_types.specs.Limits.{amount};
 ghost use Rattle.rules.specs.Lists.{put};
 ghost use Rattle.rules.specs.Arithmetic.{lcm};
 ghost use Rattle.rules.specs.Values.{withBoolean, withRational};
 ghost use Rattle.fractions.specs.Meaning.{meaning};
 ghost use Rattle.fractions.specs.Range.{Small};
-ghost use Rattle.vectors.specs.Amounts.{Amounts};
-ghost use Rattle.evaluation.specs.Model.{value, assignment};
-ghost use Rattle.gathering.specs.Range.{InRange};
+ghost use Rattle.theory_vectors.specs.Amounts.{Amounts};
+ghost use Rattle.models.specs.Model.{value, assignment};
+ghost use Rattle.values.specs.Range.{InRange};
 ghost use Rattle.walk.specs.Outcome.{Outcome};
 
 // The assignment, and whether it can still be written: amounts over a denominator that is an amount.

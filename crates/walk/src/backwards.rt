@@ -2,14 +2,14 @@
 // end.
 use crate::assign::Reached;
 use crate::round::assign;
-use evaluation::model::Model;
+use models::model::Model;
 ghost use mathlib.Core.Path.{_≡_};
 ghost use Prim.Native.Nat.{ℕ, _*_, _≤_};
 ghost use lib.ListN.{length};
 ghost use Rattle.rules.specs.Elimination.{order};
 ghost use Rattle.rules.specs.Values.{walk};
 ghost use Rattle.rules.specs.Model.{written};
-ghost use Rattle.proof_lines.specs.Held.{linesIn, ReadyLines};
+ghost use Rattle.steps.specs.Lines.{linesIn, ReadyLines};
 ghost use Rattle.walk.specs.Narrow.{Narrow};
 ghost use Rattle.walk.specs.Outcome.{bytesOf, Kept};
 

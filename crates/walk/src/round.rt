@@ -2,17 +2,17 @@
 use crate::assign::Reached;
 use crate::assign::with_boolean;
 use crate::assign::with_rational;
-use evaluation::model::Model;
-use gathering::boolean::boolean_value;
-use gathering::rational::rational_value;
+use models::model::Model;
+use values::boolean::boolean_value;
+use values::rational::rational_value;
 ghost use Prim.Native.Nat.{_+_, _*_, _≤_, _<_};
 ghost use lib.ListN.{length};
 ghost use Rattle.rules.specs.Lines.{rational, boolean};
-ghost use Rattle.saturation.specs.Order.{variableAt};
-ghost use Rattle.proof_lines.specs.Held.{linesIn, ReadyLines};
-ghost use Rattle.evaluation.specs.Model.{assignment};
-ghost use Rattle.gathering.specs.Range.{InRange};
-ghost use Rattle.gathering.specs.Round.{own};
+ghost use Rattle.theory_saturation.specs.Order.{variableAt};
+ghost use Rattle.steps.specs.Lines.{linesIn, ReadyLines};
+ghost use Rattle.models.specs.Model.{assignment};
+ghost use Rattle.values.specs.Range.{InRange};
+ghost use Rattle.values.specs.Round.{own};
 ghost use Rattle.walk.specs.Outcome.{Assigned};
 
 fn assign_rational(proof: &[u8], n: usize, f: usize, model: Model) -> Reached

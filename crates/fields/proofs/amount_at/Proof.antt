@@ -5,7 +5,7 @@ use mir.Syntax.{w64}
 use mir.Facts.{toZ-ofZ}
 use borrow.Author.Needs.{sfits-of}
 use Rattle.rules.specs.Bytes.{fromUnsigned}
-use Rattle.layout.specs.Fields.{fieldAt-<}
+use Rattle.theory_bytes.specs.Fields.{fieldAt-<}
 use borrow.Author.Needs.{needs}
 use Rattle.fields.proofs.amount_at.Statement.{statement}
 use Rattle.fields.proofs.amount_at.Tie as tie

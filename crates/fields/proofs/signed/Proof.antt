@@ -8,7 +8,7 @@ use mir.Val.{toZ, SFits}
 use mir.Facts.{toZ-ofZ, toZ-pos}
 use borrow.Author.Needs.{needs}
 use Rattle.rules.specs.Bytes.{fromUnsigned}
-use Rattle.layout.specs.Amounts.{fromUnsigned-low, fromUnsigned-high}
+use Rattle.theory_bytes.specs.Amounts.{fromUnsigned-low, fromUnsigned-high}
 use Rattle.fields.specs.Field.{fromUnsigned-minus}
 use Rattle.fields.proofs.signed.Statement.{statement}
 use Rattle.fields.proofs.signed.Tie as tie

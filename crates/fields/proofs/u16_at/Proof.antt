@@ -1,6 +1,6 @@
 -- `fields::u16_at` meets its contract. Assumes nothing.
 use native.Mathlib.Omega.{arith}
-use Rattle.layout.specs.Fields.{fieldAt-2}
+use Rattle.theory_bytes.specs.Fields.{fieldAt-2}
 use borrow.Author.Needs.{needs}
 use Rattle.fields.proofs.u16_at.Statement.{statement}
 use Rattle.fields.proofs.u16_at.Tie as tie

@@ -1,6 +1,6 @@
 -- `fields::u32_at` meets its contract. Assumes nothing.
 use mathlib.Core.Path.{sym, _∙_}
-use Rattle.layout.specs.Fields.{fieldAt-4}
+use Rattle.theory_bytes.specs.Fields.{fieldAt-4}
 use borrow.Author.Needs.{needs}
 use Rattle.fields.proofs.u32_at.Statement.{statement}
 use Rattle.fields.proofs.u32_at.Tie as tie

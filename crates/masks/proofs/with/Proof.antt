@@ -19,7 +19,8 @@ shl-result c = search needs
 returns-2 : tie.Need-returns-2
 returns-2 c =
     let s = c .before in
-    ap (λ (n : ℕ). bits 32 (bitOr (s .args .mask) n)) (shift-is (s .args .i) (c .if1 .left)) ∙ sym (including-bits 32 (s .args .mask) (s .args .i))
+    ap (λ (n : ℕ). bits 32 (bitOr (s .args .mask) n)) (shift-is (s .args .i) (c .if1 .left))
+    ∙ sym (including-bits 32 (s .args .mask) (s .args .i))
 
 pub with-spec : {M : Type 1} → statement M
 with-spec = tie.close (tie.spec returns cast-result shl-result returns-2)

@@ -29,7 +29,12 @@ returns-2 : tie.Need-returns-2
 unfolding value
 returns-2 c =
     let t = c .before .before .before .before .before in
-    rw (t .before .before .lower .given .1, t .if1 .taken, c .before .before .before .upper .given .1, c .before .if2 .taken) (c .midpoint .ensures)
+    rw (
+      t .before .before .lower .given .1,
+      t .if1 .taken,
+      c .before .before .before .upper .given .1,
+      c .before .if2 .taken,
+    ) (c .midpoint .ensures)
 
 returns-3 : tie.Need-returns-3
 unfolding value

@@ -1,6 +1,6 @@
 -- `calls::jemuling_hand_back` meets its contract. Assumes nothing.
 use mathlib.Core.Path.{ap, _∙_}
-use Rattle.types.specs.declared.limits.Limits.{Limits}
+use Rattle.rules_types.specs.declared.limits.Limits.{Limits}
 use Rattle.rules.specs.Calls.{evidence}
 use Rattle.jemuling.specs.Told.{evidenceTold}
 use borrow.Author.Needs.{needs}
@@ -21,7 +21,8 @@ returns c =
     let e = c .before in
     let s = e .before .before .before .before in
     c .evidence-told .ensures
-    ∙ ap evidenceTold (e .evidence .ensures ∙ ap (λ (l : Limits). evidence l (s .args .number) (s .args .lines) (s .args .proof .now) (s .args .model .now)) (e .before .standard .ensures))
+    ∙ ap evidenceTold (e .evidence .ensures ∙ ap (λ (l : Limits). evidence l (s .args .number) (s .args .lines) (s .args .proof .now)
+    (s .args .model .now)) (e .before .standard .ensures))
 
 pub jemuling-hand-back-spec : {M : Type 1} → statement M
 jemuling-hand-back-spec =

@@ -1,6 +1,6 @@
 -- `told::answer_told` meets its contract: by the case that it is. Assumes nothing.
 use mathlib.Core.Path.{sym, ap, _∙_}
-use Rattle.types.specs.Answers.{answerNumber, answerValue}
+use Rattle.rules_types.specs.Answers.{answerNumber, answerValue}
 use Rattle.jemuling.specs.Told.{answerTold}
 use borrow.Author.Needs.{needs}
 use Rattle.jemuling.proofs.told.answer_told.Statement.{statement}

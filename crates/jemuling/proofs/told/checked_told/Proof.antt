@@ -1,6 +1,6 @@
 -- `told::checked_told` meets its contract: by the case that it is. Assumes nothing.
 use mathlib.Core.Path.{sym, ap, _∙_}
-use Rattle.types.specs.Answers.{checkedNumber, checkedValue}
+use Rattle.rules_types.specs.Answers.{checkedNumber, checkedValue}
 use Rattle.jemuling.specs.Told.{checkedTold}
 use borrow.Author.Needs.{needs}
 use Rattle.jemuling.proofs.told.checked_told.Statement.{statement}

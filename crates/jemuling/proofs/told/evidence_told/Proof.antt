@@ -1,6 +1,6 @@
 -- `told::evidence_told` meets its contract: by the case that it is. Assumes nothing.
 use mathlib.Core.Path.{sym, ap}
-use Rattle.types.specs.Answers.{evidenceNumber, evidenceLength}
+use Rattle.rules_types.specs.Answers.{evidenceNumber, evidenceLength}
 use Rattle.jemuling.specs.Told.{evidenceTold}
 use borrow.Author.Needs.{needs}
 use Rattle.jemuling.proofs.told.evidence_told.Statement.{statement}

@@ -9,7 +9,11 @@ answer-told-requires c κs = search needs
 
 returns : tie.Need-returns
 unfolding answerTold solvedTold
-returns c = λ i. record { number = c .answer-told .ensures i .number; value = c .answer-told .ensures i .value; pairs = c .before .args .s .pairs }
+returns c = λ i. record {
+  number = c .answer-told .ensures i .number;
+  value = c .answer-told .ensures i .value;
+  pairs = c .before .args .s .pairs;
+}
 
 pub solved-told-spec : {M : Type 1} → statement M
 solved-told-spec = tie.close (tie.spec answer-told-requires returns)

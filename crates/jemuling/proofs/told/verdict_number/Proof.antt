@@ -1,6 +1,6 @@
 -- `told::verdict_number` meets its contract: by the case that it is. Assumes nothing.
 use mathlib.Core.Path.{sym, ap}
-use Rattle.types.specs.Answers.{verdictNumber}
+use Rattle.rules_types.specs.Answers.{verdictNumber}
 use borrow.Author.Needs.{needs}
 use Rattle.jemuling.proofs.told.verdict_number.Statement.{statement}
 use Rattle.jemuling.proofs.told.verdict_number.Tie as tie

@@ -31,14 +31,17 @@ is-zero-requires : tie.Need-is-zero-requires Inv-loop μ-loop
 is-zero-requires c κs = search needs
 
 -- the test at the place
-here : (c : tie.After-is-zero Inv-loop μ-loop) → not (isZero (getD (c .before .before .before .before .args .t1) (c .before .before .before .loop .i) (pos 0))) ≡ not (c .is-zero .result)
-here c = ap not (told isZero (getD (c .before .before .before .before .args .t1) (c .before .before .before .loop .i) (pos 0)) (search (needs, c .before)) (c .is-zero .ensures))
+here : (c : tie.After-is-zero Inv-loop μ-loop) → not
+    (isZero (getD (c .before .before .before .before .args .t1) (c .before .before .before .loop .i) (pos 0))) ≡ not (c .is-zero .result)
+here c = ap not (told isZero (getD (c .before .before .before .before .args .t1) (c .before .before .before .loop .i) (pos 0))
+    (search (needs, c .before)) (c .is-zero .ensures))
 
 returns : tie.Need-returns Inv-loop μ-loop
 returns c =
     let a = c .before .before .before .before in
     let n : length (a .before .args .t1) ≡ 8 = search needs in
-    sym (leading-at (a .before .args .t1) (a .loop .i) (a .before .args .rest) (a .loop .inv .none) (omega arith) (here (c .before) ∙ c .if1 .taken))
+    sym (leading-at (a .before .args .t1) (a .loop .i) (a .before .args .rest) (a .loop .inv .none) (omega arith)
+    (here (c .before) ∙ c .if1 .taken))
 
 add-i : tie.Need-add-i Inv-loop μ-loop
 add-i c = search needs
@@ -47,7 +50,8 @@ loop-less : tie.Need-loop-less Inv-loop μ-loop
 loop-less c = search needs
 
 loop-again : tie.Need-loop-again Inv-loop μ-loop
-loop-again c = let a = c .before .before .before .before in scanned-next _ (a .loop .i) (a .loop .inv) (omega arith) (here (c .before) ∙ c .if1 .left)
+loop-again c = let a = c .before .before .before .before in
+    scanned-next _ (a .loop .i) (a .loop .inv) (omega arith) (here (c .before) ∙ c .if1 .left)
 
 add-result : tie.Need-add-result Inv-loop μ-loop
 add-result c = search needs

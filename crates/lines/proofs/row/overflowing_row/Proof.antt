@@ -7,7 +7,7 @@ use borrow.Author.Needs.{needs}
 use lib.IntN.{pos}
 use lib.ListN.{length, getD}
 use Rattle.rules.specs.Problem.{inRange}
-use Rattle.lists.specs.Scan.{any-at, any-none}
+use Rattle.theory_lists.specs.Scan.{any-at, any-none}
 use Rattle.lines.specs.Scan.{Scanned, scanned-start, scanned-next, told}
 use Rattle.lines.proofs.row.overflowing_row.Statement.{statement}
 use Rattle.lines.proofs.row.overflowing_row.Tie as tie
@@ -31,8 +31,10 @@ in-range-requires : tie.Need-in-range-requires Inv-loop μ-loop
 in-range-requires c κs = search needs
 
 -- the test at the place
-here : (c : tie.After-in-range Inv-loop μ-loop) → not (inRange (getD (c .before .before .before .before .args .t1) (c .before .before .before .loop .i) (pos 0))) ≡ not (c .in-range .result)
-here c = ap not (told inRange (getD (c .before .before .before .before .args .t1) (c .before .before .before .loop .i) (pos 0)) (search (needs, c .before)) (c .in-range .ensures))
+here : (c : tie.After-in-range Inv-loop μ-loop) → not
+    (inRange (getD (c .before .before .before .before .args .t1) (c .before .before .before .loop .i) (pos 0))) ≡ not (c .in-range .result)
+here c = ap not (told inRange (getD (c .before .before .before .before .args .t1) (c .before .before .before .loop .i) (pos 0))
+    (search (needs, c .before)) (c .in-range .ensures))
 
 returns : tie.Need-returns Inv-loop μ-loop
 returns c =
@@ -47,7 +49,8 @@ loop-less : tie.Need-loop-less Inv-loop μ-loop
 loop-less c = search needs
 
 loop-again : tie.Need-loop-again Inv-loop μ-loop
-loop-again c = let a = c .before .before .before .before in scanned-next _ (a .loop .i) (a .loop .inv) (omega arith) (here (c .before) ∙ c .if1 .left)
+loop-again c = let a = c .before .before .before .before in
+    scanned-next _ (a .loop .i) (a .loop .inv) (omega arith) (here (c .before) ∙ c .if1 .left)
 
 returns-2 : tie.Need-returns-2 Inv-loop μ-loop
 returns-2 c =

@@ -11,7 +11,7 @@ use mir.Syntax.{w64}
 use mir.Val.{SFits}
 use mir.Facts.{toZ-ofZ}
 use Rattle.rules.specs.Arithmetic.{equal}
-use Rattle.lists.specs.Scan.{same-at, same-none}
+use Rattle.theory_lists.specs.Scan.{same-at, same-none}
 use Rattle.lines.specs.Scan.{Scanned, scanned-start, scanned-next}
 use Rattle.lines.proofs.row.same_row.Statement.{statement}
 use Rattle.lines.proofs.row.same_row.Tie as tie
@@ -44,7 +44,8 @@ equal-requires c κs = search needs
 abbrev element : (c : tie.After-equal Inv-loop μ-loop) (s : tie.Start Inv-loop μ-loop → List ℤ) → ℤ
 element c s = getD (s (c .before .before .before .before .before)) (c .before .before .before .before .loop .i) (pos 0)
 
-here : (c : tie.After-equal Inv-loop μ-loop) → not (equal (element c (λ s. s .args .t1)) (element c (λ s. s .args .t2))) ≡ not (c .equal .result)
+here : (c : tie.After-equal Inv-loop μ-loop)
+    → not (equal (element c (λ s. s .args .t1)) (element c (λ s. s .args .t2))) ≡ not (c .equal .result)
 here c =
     let u : SFits w64 (element c (λ s. s .args .t1)) = search (needs, c .before .before) in
     let l : SFits w64 (element c (λ s. s .args .t2)) = search (needs, c .before) in
@@ -55,7 +56,8 @@ returns c =
     let a = c .before .before .before .before .before in
     let n : length (a .before .args .t1) ≡ 8 = search needs in
     let m : length (a .before .args .t2) ≡ 8 = search needs in
-    sym (same-at (pos 0) equal (a .before .args .t1) (a .before .args .t2) (a .loop .i) (omega arith) (omega arith) (here (c .before) ∙ c .if1 .taken))
+    sym (same-at (pos 0) equal (a .before .args .t1) (a .before .args .t2) (a .loop .i) (omega arith) (omega arith)
+    (here (c .before) ∙ c .if1 .taken))
 
 add-i : tie.Need-add-i Inv-loop μ-loop
 add-i c = search needs
@@ -64,7 +66,8 @@ loop-less : tie.Need-loop-less Inv-loop μ-loop
 loop-less c = search needs
 
 loop-again : tie.Need-loop-again Inv-loop μ-loop
-loop-again c = let a = c .before .before .before .before .before in scanned-next _ (a .loop .i) (a .loop .inv) (omega arith) (here (c .before) ∙ c .if1 .left)
+loop-again c = let a = c .before .before .before .before .before in
+    scanned-next _ (a .loop .i) (a .loop .inv) (omega arith) (here (c .before) ∙ c .if1 .left)
 
 returns-2 : tie.Need-returns-2 Inv-loop μ-loop
 returns-2 c =

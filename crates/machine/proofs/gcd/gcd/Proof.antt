@@ -2,7 +2,7 @@
 use mathlib.Core.Path.{sym}
 use native.Mathlib.Omega.{arith}
 use borrow.Author.Needs.{needs}
-use Rattle.vectors.specs.Gcd.{gcd-zeroˡ, gcd-zeroʳ}
+use Rattle.theory_vectors.specs.Gcd.{gcd-zeroˡ, gcd-zeroʳ}
 use Rattle.machine.specs.Odd.{oddPart-odd, twos-<, gcd-shifted}
 use Rattle.machine.proofs.gcd.gcd.Statement.{statement}
 use Rattle.machine.proofs.gcd.gcd.Tie as tie

@@ -4,7 +4,7 @@ use Prim.Native.Nat.{_+_, _-_, _%_, _^_, _<_}
 use native.Mathlib.Omega.{arith}
 use borrow.Author.Needs.{needs}
 use Rattle.rules.specs.Arithmetic.{gcd}
-use Rattle.vectors.specs.Gcd.{gcd-zeroʳ}
+use Rattle.theory_vectors.specs.Gcd.{gcd-zeroʳ}
 use Rattle.machine.specs.Odd.{pass-odd, pass-gcd, pass-less}
 use Rattle.machine.proofs.gcd.gcd_odd.Statement.{statement}
 use Rattle.machine.proofs.gcd.gcd_odd.Tie as tie
@@ -31,14 +31,16 @@ lesser-requires c κs = search needs
 loop-less : tie.Need-loop-less Inv-loop μ-loop
 loop-less c =
     let l = c .before .before .before .before .loop in
-    rw (c .lesser .ensures, c .before .distance .ensures, c .before .before .odd-part .ensures) (pass-less (l .x) (l .y) (l .inv .0) (omega arith))
+    rw (c .lesser .ensures, c .before .distance .ensures, c .before .before .odd-part .ensures)
+    (pass-less (l .x) (l .y) (l .inv .0) (omega arith))
 
 loop-again : tie.Need-loop-again Inv-loop μ-loop
 loop-again c =
     let l = c .before .before .before .before .loop in (
       rw (c .lesser .ensures, c .before .before .odd-part .ensures) (pass-odd (l .x) (l .y) (l .inv .0) (omega arith) (l .inv .1)),
       search (needs, c .before .distance .ok),
-      rw (c .lesser .ensures, c .before .distance .ensures, c .before .before .odd-part .ensures) (pass-gcd (l .x) (l .y) (l .inv .0) ∙ l .inv .2),
+      rw (c .lesser .ensures, c .before .distance .ensures, c .before .before .odd-part .ensures)
+          (pass-gcd (l .x) (l .y) (l .inv .0) ∙ l .inv .2),
     )
 
 returns : tie.Need-returns Inv-loop μ-loop

@@ -4,7 +4,7 @@ use Prim.Native.Nat.{ℕ}
 use lib.Dec.{leb}
 use mir.Facts.{toZ-ofZ}
 use borrow.Author.Needs.{needs}
-use Rattle.types.specs.Limits.{amount}
+use Rattle.rules_types.specs.Limits.{amount}
 use Rattle.rules.specs.Problem.{inRange}
 use Rattle.machine.proofs.sign.in_range.Statement.{statement}
 use Rattle.machine.proofs.sign.in_range.Tie as tie

@@ -16,7 +16,8 @@ is-positive-requires c κs = search needs
 returns : tie.Need-returns
 returns c =
     let s = c .before .before in
-    c .is-positive .ensures ∙ ap isPositive (toZ-ofZ {w = w64} (s .fits .bound)) ∙ sym (related-strict (s .args .bound)) ∙ ap (λ (t : Bool). related t (pos 0) (s .args .bound)) (sym (c .before .if1 .taken))
+    c .is-positive .ensures ∙ ap isPositive (toZ-ofZ {w = w64} (s .fits .bound)) ∙ sym (related-strict (s .args .bound))
+    ∙ ap (λ (t : Bool). related t (pos 0) (s .args .bound)) (sym (c .before .if1 .taken))
 
 is-negative-requires : tie.Need-is-negative-requires
 is-negative-requires c κs = search needs
@@ -24,7 +25,8 @@ is-negative-requires c κs = search needs
 returns-2 : tie.Need-returns-2
 returns-2 c =
     let s = c .before .before in
-    ap not (c .is-negative .ensures ∙ ap isNegative (toZ-ofZ {w = w64} (s .fits .bound))) ∙ sym (related-weak (s .args .bound)) ∙ ap (λ (t : Bool). related t (pos 0) (s .args .bound)) (sym (c .before .if1 .left))
+    ap not (c .is-negative .ensures ∙ ap isNegative (toZ-ofZ {w = w64} (s .fits .bound))) ∙ sym (related-weak (s .args .bound))
+    ∙ ap (λ (t : Bool). related t (pos 0) (s .args .bound)) (sym (c .before .if1 .left))
 
 pub zero-related-spec : {M : Type 1} → statement M
 zero-related-spec =

@@ -1,7 +1,7 @@
 -- `check::check_model` meets its contract: the question's fault, or a question that was read without fault.
 use mathlib.Core.Path.{sym, _∙_}
 use borrow.Author.Needs.{needs}
-use Rattle.reading.specs.Readable.{readable}
+use Rattle.problem_read.specs.Readable.{readable}
 use Rattle.model_check.specs.Check.{checked-fault}
 use Rattle.model_check.proofs.check.check_model.Statement.{statement}
 use Rattle.model_check.proofs.check.check_model.Tie as tie

@@ -29,7 +29,8 @@ returns-3 c =
     let e = c .before .before in
     let m = e .before .before in
     let s = m .before .before .before .before in
-    c .check-clauses .ensures ∙ sym (checked-clauses (s .pre) (s .args .bytes .now) (m .before .if1 .left) (m .read-model .ensures) (not-false _ (e .if2 .left)))
+    c .check-clauses .ensures
+    ∙ sym (checked-clauses (s .pre) (s .args .bytes .now) (m .before .if1 .left) (m .read-model .ensures) (not-false _ (e .if2 .left)))
 
 pub check-readable-spec : {M : Type 1} → statement M
 check-readable-spec =

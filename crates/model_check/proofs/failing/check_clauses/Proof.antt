@@ -3,7 +3,7 @@ use mathlib.Core.Path.{sym, _∙_}
 use native.Mathlib.Omega.{arith}
 use borrow.Author.Needs.{needs}
 use borrow.Author.Tests.{not-true, not-false}
-use Rattle.evaluation.specs.Model.{assignment}
+use Rattle.models.specs.Model.{assignment}
 use Rattle.model_check.specs.Failing.{Checking, checking-start, checking-done, checking-clause, checking-fails, checking-next}
 use Rattle.model_check.proofs.failing.check_clauses.Statement.{statement}
 use Rattle.model_check.proofs.failing.check_clauses.Tie as tie
@@ -18,7 +18,8 @@ loop-holds : tie.Need-loop-holds Inv-loop μ-loop
 loop-holds c = checking-start (c .before .pre .1 .0)
 
 clause-holds-requires : tie.Need-clause-holds-requires Inv-loop μ-loop
-clause-holds-requires c κs = let s = c .before .before .before in (s .pre .0, (checking-clause (c .before .loop .inv) (c .loop-test .taken), s .pre .1 .1))
+clause-holds-requires c κs = let s = c .before .before .before in
+    (s .pre .0, (checking-clause (c .before .loop .inv) (c .loop-test .taken), s .pre .1 .1))
 
 returns : tie.Need-returns Inv-loop μ-loop
 returns c =
@@ -43,7 +44,8 @@ loop-again : tie.Need-loop-again Inv-loop μ-loop
 loop-again c =
     let e = c .before in
     let t = e .before .before in
-    rw (c .next .ensures) (checking-next (t .before .loop .inv) (t .loop-test .taken) (sym (e .before .clause-holds .ensures) ∙ not-false _ (e .if1 .left)))
+    rw (c .next .ensures)
+    (checking-next (t .before .loop .inv) (t .loop-test .taken) (sym (e .before .clause-holds .ensures) ∙ not-false _ (e .if1 .left)))
 
 returns-2 : tie.Need-returns-2 Inv-loop μ-loop
 returns-2 c = checking-done (c .before .loop .inv) (c .loop-test .left)

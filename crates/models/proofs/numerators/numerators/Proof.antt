@@ -8,7 +8,7 @@ use lib.ListN.{length, length-set}
 use mir.Syntax.{w64}
 use mir.Val.{toZ, ofZ}
 use mir.Facts.{toZ-ofZ}
-use Rattle.reader.specs.Values.{amountAt}
+use Rattle.problem_scan.specs.Values.{amountAt}
 use Rattle.models.specs.Numerators.{RowTo, row-none, row-more, row-bad, row-done}
 use Rattle.models.proofs.numerators.numerators.Statement.{statement}
 use Rattle.models.proofs.numerators.numerators.Tie as tie
@@ -24,7 +24,8 @@ loop-holds c = (omega arith, refl, row-none)
 
 -- the amount that was read, and its test
 read-is : (c : tie.After-amount-at Inv-loop μ-loop)
-    → let s = c .before .before .before .before in toZ w64 (ofZ w64 (c .amount-at .result)) ≡ amountAt (s .args .s .now) (s .args .from + c .before .before .loop .i * 4)
+    → let s = c .before .before .before .before in
+    toZ w64 (ofZ w64 (c .amount-at .result)) ≡ amountAt (s .args .s .now) (s .args .from + c .before .before .loop .i * 4)
 unfolding amountAt
 read-is c = toZ-ofZ {w = w64} (sfits-of (c .amount-at .ok)) ∙ c .amount-at .ensures
 
@@ -45,7 +46,8 @@ returns c =
     let t = c .before .before in
     let l = t .before .before .loop in
     let s = t .before .before .before .before in
-    row-bad (l .inv .2) (t .before .loop-test .taken) (s .pre .0) _ (read-is t) (sym (c .before .in-range .ensures) ∙ not-true _ (c .if1 .taken))
+    row-bad (l .inv .2) (t .before .loop-test .taken) (s .pre .0) _ (read-is t)
+    (sym (c .before .in-range .ensures) ∙ not-true _ (c .if1 .taken))
 
 mul-out : tie.Need-mul-out Inv-loop μ-loop
 mul-out c = search needs

@@ -28,7 +28,8 @@ returns c =
     let s = c .before .before in
     (sym (normal-clash (s .args .line) (sym (c .before .clashes .ensures) ∙ c .if1 .taken)), s .pre .0)
 
-consistent : (c : tie.Else1) → meet (meaning (c .before .before .args .line) .positive) (meaning (c .before .before .args .line) .negative) ≡ false
+consistent : (c : tie.Else1)
+    → meet (meaning (c .before .before .args .line) .positive) (meaning (c .before .before .args .line) .negative) ≡ false
 consistent c = sym (c .before .clashes .ensures) ∙ c .if1 .left
 
 returns-2 : tie.Need-returns-2
@@ -53,8 +54,11 @@ returns-3 : tie.Need-returns-3
 unfolding normalized
 returns-3 c =
     let e₂ = c .before .before .before .before in
-    let s = e₂ .before .before .before in
-    (ap some (c .reduce .ensures .0) ∙ sym (normal-reduced (s .args .line) (consistent (e₂ .before)) (some-relation e₂) (nonzero (c .before))), c .reduce .ensures .1)
+    let s = e₂ .before .before .before in (
+      ap some (c .reduce .ensures .0)
+          ∙ sym (normal-reduced (s .args .line) (consistent (e₂ .before)) (some-relation e₂) (nonzero (c .before))),
+      c .reduce .ensures .1,
+    )
 
 trivial-requires : tie.Need-trivial-requires
 trivial-requires c κs = search needs
@@ -63,7 +67,9 @@ zeros : (c : tie.Else3) → all isZero (c .before .before .before .before .befor
 zeros c = let t : c .before .zero-row .result ≡ true = search (needs, not-true, not-false) in sym (c .before .zero-row .ensures) ∙ t
 
 -- what the test of the bound says
-bound-test : (c : tie.After-trivial) → c .trivial .result ≡ related (eqb (c .before .before .before .before .before .before .before .before .args .line .relation) 2) (pos 0) (c .before .before .before .before .before .before .before .before .args .line .bound)
+bound-test : (c : tie.After-trivial)
+    → c .trivial .result ≡ related (eqb (c .before .before .before .before .before .before .before .before .args .line .relation) 2) (pos 0)
+    (c .before .before .before .before .before .before .before .before .args .line .bound)
 bound-test c =
     let s = c .before .before .before .before .before .before .before .before in
     let f : SFits w64 (s .args .line .bound) = search (needs, s .good) in
@@ -74,8 +80,11 @@ unfolding normalized
 returns-4 c =
     let e₃ = c .before .before .before in
     let e₂ = e₃ .before .before .before in
-    let s = e₂ .before .before .before in
-    (sym (normal-trivial (s .args .line) (consistent (e₂ .before)) (some-relation e₂) (zeros e₃) (sym (bound-test (c .before)) ∙ c .if4 .taken)), s .pre .0)
+    let s = e₂ .before .before .before in (
+      sym (normal-trivial (s .args .line) (consistent (e₂ .before)) (some-relation e₂) (zeros e₃)
+          (sym (bound-test (c .before)) ∙ c .if4 .taken)),
+      s .pre .0,
+    )
 
 unconstrained-requires : tie.Need-unconstrained-requires
 unconstrained-requires c κs = search needs
@@ -85,8 +94,11 @@ unfolding normalized
 returns-5 c =
     let e₃ = c .before .before .before .before in
     let e₂ = e₃ .before .before .before in
-    let s = e₂ .before .before .before in
-    (ap some (c .unconstrained .ensures .0) ∙ sym (normal-struck (s .args .line) (consistent (e₂ .before)) (some-relation e₂) (zeros e₃) (sym (bound-test (c .before .before)) ∙ c .before .if4 .left)), c .unconstrained .ensures .1)
+    let s = e₂ .before .before .before in (
+      ap some (c .unconstrained .ensures .0) ∙ sym (normal-struck (s .args .line) (consistent (e₂ .before)) (some-relation e₂) (zeros e₃)
+          (sym (bound-test (c .before .before)) ∙ c .before .if4 .left)),
+      c .unconstrained .ensures .1,
+    )
 
 pub normalize-spec : {M : Type 1} → statement M
 normalize-spec =

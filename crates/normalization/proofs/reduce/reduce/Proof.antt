@@ -9,7 +9,7 @@ use mir.Syntax.{w64}
 use mir.Val.{SFits}
 use mir.Facts.{toZ-ofZ}
 use Rattle.rules.specs.Arithmetic.{gcdAll}
-use Rattle.vectors.specs.Constraint.{quotients}
+use Rattle.theory_vectors.specs.Constraint.{quotients}
 use Rattle.lines.specs.Line.{constraintOf, meaning}
 use Rattle.normalization.specs.Reduced.{reducedLine, reduced-is, with-constraint, content-positive, content-small}
 use Rattle.normalization.proofs.reduce.reduce.Statement.{statement}
@@ -21,8 +21,10 @@ content-requires c κs = search needs
 bound-fits : (s : tie.Start) → SFits w64 (s .args .line .bound)
 bound-fits s = search (needs, s .good)
 
-content-is : (c : tie.After-content) → c .content .result ≡ gcdAll (c .before .before .before .args .line .bound ∷ c .before .before .before .args .line .coefficients)
-content-is c = let s = c .before .before .before in c .content .ensures ∙ ap (λ (b : ℤ). gcdAll (b ∷ s .args .line .coefficients)) (toZ-ofZ (bound-fits s))
+content-is : (c : tie.After-content)
+    → c .content .result ≡ gcdAll (c .before .before .before .args .line .bound ∷ c .before .before .before .args .line .coefficients)
+content-is c = let s = c .before .before .before in c .content .ensures
+    ∙ ap (λ (b : ℤ). gcdAll (b ∷ s .args .line .coefficients)) (toZ-ofZ (bound-fits s))
 
 -- the content is a divisor of the machine's signed numbers
 divisor : (c : tie.After-content) → (0 < c .content .result) × (c .content .result < 2 ^ 63)
@@ -30,7 +32,10 @@ divisor c =
     let s = c .before .before .before in
     let l = s .args .line in
     let nonzero = s .pre .1 .0 in
-    rw (content-is c) (content-positive (l .coefficients) (l .bound) nonzero, content-small (l .coefficients) (l .bound) nonzero (s .pre .1 .1 .coefficients))
+    rw (content-is c) (
+      content-positive (l .coefficients) (l .bound) nonzero,
+      content-small (l .coefficients) (l .bound) nonzero (s .pre .1 .1 .coefficients),
+    )
 
 divide-requires : tie.Need-divide-requires
 divide-requires c κs = divisor c

@@ -9,16 +9,17 @@ use lib.Dec.{eqb}
 use Rattle.rules.specs.Lists.{same}
 use Rattle.rules.specs.Elimination.{covered}
 use Rattle.lines.specs.Line.{meaning}
-use Rattle.line_bytes.specs.Decoding.{decoded, decoded-encoded}
-use Rattle.line_bytes.specs.Encoding.{headerOf}
-use Rattle.line_bytes.specs.Places.{stepAt}
-use Rattle.placing.specs.Steps.{stepsIn, Words}
+use Rattle.steps.specs.Decoding.{decoded, decoded-encoded}
+use Rattle.steps.specs.Encoding.{headerOf}
+use Rattle.steps.specs.Places.{stepAt}
+use Rattle.steps.specs.Held.{stepsIn, Words}
 use Rattle.placing.specs.Same.{behind, coveredFrom, covered-all, covered-step, covered-none}
 use Rattle.placing.proofs.covered.covered.Statement.{statement}
 use Rattle.placing.proofs.covered.covered.Tie as tie
 
 abbrev Inv-loop : tie.InvT-loop
-Inv-loop proof n bytes bound positive i₀ i = (i ≤ n) × (covered (meaning (decoded bytes)) (stepsIn proof n) ≡ coveredFrom i (meaning (decoded bytes)) proof n)
+Inv-loop proof n bytes bound positive i₀ i = (i ≤ n)
+    × (covered (meaning (decoded bytes)) (stepsIn proof n) ≡ coveredFrom i (meaning (decoded bytes)) proof n)
 
 abbrev μ-loop : tie.MeasureT-loop
 μ-loop proof n bytes bound positive i₀ i = n - i
@@ -48,7 +49,12 @@ same-step-requires : tie.Need-same-step-requires Inv-loop μ-loop
 same-step-requires c κs = search needs
 
 words : (s : tie.Start Inv-loop μ-loop) → Words (s .args .line)
-words s = record { ready = s .pre .1; eight = search (needs, s .good); positive = search (needs, s .good); negative = search (needs, s .good) }
+words s = record {
+  ready = s .pre .1;
+  eight = search (needs, s .good);
+  positive = search (needs, s .good);
+  negative = search (needs, s .good);
+}
 
 -- the bytes that are looked for are the line's
 line-is : (c : tie.After-encode Inv-loop μ-loop) → decoded (c .encode .result) ≡ c .before .before .args .line
@@ -60,14 +66,16 @@ line-is c =
 -- the invariant, of the line itself
 left : (c : tie.At-loop Inv-loop μ-loop) →
     let s = c .before .before .before .before .before .before .before in
-    covered (meaning (s .args .line)) (stepsIn (s .args .proof .now) (s .args .n)) ≡ coveredFrom (c .loop .i) (meaning (s .args .line)) (s .args .proof .now) (s .args .n)
+    covered (meaning (s .args .line)) (stepsIn (s .args .proof .now) (s .args .n))
+    ≡ coveredFrom (c .loop .i) (meaning (s .args .line)) (s .args .proof .now) (s .args .n)
 left c = rw (line-is (c .before .before .before .before .before)) at (c .loop .inv .1)
 
 -- one step on
 next : (c : tie.After-same-step Inv-loop μ-loop) →
     let l = c .before .before .before in
     let s = l .before .before .before .before .before .before .before in
-    covered (meaning (s .args .line)) (stepsIn (s .args .proof .now) (s .args .n)) ≡ c .same-step .result || coveredFrom (l .loop .i + 1) (meaning (s .args .line)) (s .args .proof .now) (s .args .n)
+    covered (meaning (s .args .line)) (stepsIn (s .args .proof .now) (s .args .n)) ≡ c .same-step .result
+    || coveredFrom (l .loop .i + 1) (meaning (s .args .line)) (s .args .proof .now) (s .args .n)
 next c =
     let l = c .before .before .before in
     let e = l .before .before .before .before .before in
@@ -75,7 +83,8 @@ next c =
     left l
     ∙ covered-step (s .pre .0) (l .loop .i) (omega arith) (headerOf 0 0 0 0) (s .args .line) (words s)
     ∙ ap (λ (t : Bool). t || coveredFrom (l .loop .i + 1) (meaning (s .args .line)) (s .args .proof .now) (s .args .n))
-    (ap (λ (b : List ℕ). same eqb (behind (stepAt (s .args .proof .now) (l .loop .i))) (behind b)) (sym (e .encode .ensures)) ∙ sym (c .same-step .ensures))
+    (ap (λ (b : List ℕ). same eqb (behind (stepAt (s .args .proof .now) (l .loop .i))) (behind b)) (sym (e .encode .ensures))
+    ∙ sym (c .same-step .ensures))
 
 returns : tie.Need-returns Inv-loop μ-loop
 returns c = sym (next (c .before) ∙ rw (c .if1 .taken))
@@ -87,7 +96,10 @@ loop-less : tie.Need-loop-less Inv-loop μ-loop
 loop-less c = search needs
 
 loop-again : tie.Need-loop-again Inv-loop μ-loop
-loop-again c = (omega arith, rw (line-is (c .before .before .before .before .before .before .before .before .before)) (next (c .before) ∙ rw (c .if1 .left)))
+loop-again c = (
+  omega arith,
+  rw (line-is (c .before .before .before .before .before .before .before .before .before)) (next (c .before) ∙ rw (c .if1 .left)),
+)
 
 returns-2 : tie.Need-returns-2 Inv-loop μ-loop
 returns-2 c = sym (left (c .before) ∙ covered-none _ _ _ (c .before .loop .i) (omega arith) (omega arith))

@@ -8,15 +8,16 @@ use borrow.Author.Tests.{eq-eqb, ne-eqb}
 use lib.Dec.{eqb}
 use lib.ListN.{length, getD, drop}
 use Rattle.rules.specs.Lists.{same}
-use Rattle.lists.specs.Scan.{same-next, same-end}
-use Rattle.line_bytes.specs.Places.{stepAt}
-use Rattle.placing.specs.Steps.{length-stepAt, byte-stepAt, field-stepAt}
+use Rattle.theory_lists.specs.Scan.{same-next, same-end}
+use Rattle.steps.specs.Places.{stepAt}
+use Rattle.steps.specs.Held.{length-stepAt, byte-stepAt, field-stepAt}
 use Rattle.placing.specs.Same.{behind, same-by-field}
 use Rattle.placing.proofs.covered.same_step.Statement.{statement}
 use Rattle.placing.proofs.covered.same_step.Tie as tie
 
 abbrev Inv-loop : tie.InvT-loop
-Inv-loop proof i bytes bound positive at k₀ k = (6 ≤ k) × (k ≤ 64) × (same eqb (behind (stepAt proof i)) (behind bytes) ≡ same eqb (drop k (stepAt proof i)) (drop k bytes))
+Inv-loop proof i bytes bound positive at k₀ k = (6 ≤ k) × (k ≤ 64)
+    × (same eqb (behind (stepAt proof i)) (behind bytes) ≡ same eqb (drop k (stepAt proof i)) (drop k bytes))
 
 abbrev μ-loop : tie.MeasureT-loop
 μ-loop proof i bytes bound positive at k₀ k = 64 - k
@@ -36,7 +37,8 @@ returns c =
     let s = u .before .before .before in
     let p = s .args .proof .now in
     let i = s .args .i in
-    sym (same-by-field 42 (stepAt p i) (s .args .bytes .now) (λ e. c .if1 .taken (u .u32-at .ensures ∙ sym (field-stepAt p i (omega arith) 48 (omega arith)) ∙ e ∙ sym (s .pre .1 .1 .0))))
+    sym (same-by-field 42 (stepAt p i) (s .args .bytes .now)
+    (λ e. c .if1 .taken (u .u32-at .ensures ∙ sym (field-stepAt p i (omega arith) 48 (omega arith)) ∙ e ∙ sym (s .pre .1 .1 .0))))
 
 add-u32-at-2 : tie.Need-add-u32-at-2 Inv-loop μ-loop
 add-u32-at-2 c = search needs
@@ -50,7 +52,8 @@ returns-2 c =
     let s = u .before .before .before .before .before in
     let p = s .args .proof .now in
     let i = s .args .i in
-    sym (same-by-field 2 (stepAt p i) (s .args .bytes .now) (λ e. c .if2 .taken (u .u32-at2 .ensures ∙ sym (field-stepAt p i (omega arith) 8 (omega arith)) ∙ e ∙ sym (s .pre .1 .1 .1))))
+    sym (same-by-field 2 (stepAt p i) (s .args .bytes .now)
+    (λ e. c .if2 .taken (u .u32-at2 .ensures ∙ sym (field-stepAt p i (omega arith) 8 (omega arith)) ∙ e ∙ sym (s .pre .1 .1 .1))))
 
 loop-holds : tie.Need-loop-holds Inv-loop μ-loop
 unfolding behind
@@ -71,7 +74,8 @@ next : (c : tie.In-loop Inv-loop μ-loop) →
     let s = c .before .before .before .before .before .before .before .before in
     let a = stepAt (s .args .proof .now) (s .args .i) in
     let b = s .args .bytes .now in
-    same eqb (behind a) (behind b) ≡ eqb (getD (s .args .proof .now) (64 * s .args .i + l .k) 0) (getD b (l .k) 0) && same eqb (drop (l .k + 1) a) (drop (l .k + 1) b)
+    same eqb (behind a) (behind b) ≡ eqb (getD (s .args .proof .now) (64 * s .args .i + l .k) 0) (getD b (l .k) 0)
+    && same eqb (drop (l .k + 1) a) (drop (l .k + 1) b)
 next c =
     let l = c .before .loop in
     let s = c .before .before .before .before .before .before .before .before in
@@ -82,7 +86,8 @@ next c =
     let room : 64 * i + 64 ≤ length p = s .pre .0 in
     l .inv .2
     ∙ same-next 0 eqb a b (l .k) (omega (arith, length-stepAt p i room)) (omega arith)
-    ∙ ap (λ (x : ℕ). eqb x (getD b (l .k) 0) && same eqb (drop (l .k + 1) a) (drop (l .k + 1) b)) (byte-stepAt p i room (l .k) (omega arith))
+    ∙ ap (λ (x : ℕ). eqb x (getD b (l .k) 0) && same eqb (drop (l .k + 1) a) (drop (l .k + 1) b))
+    (byte-stepAt p i room (l .k) (omega arith))
 
 returns-3 : tie.Need-returns-3 Inv-loop μ-loop
 returns-3 c = sym (next (c .before .before .before) ∙ rw (ne-eqb _ _ (c .if3 .taken)))

@@ -7,8 +7,8 @@ use lib.ListN.{length}
 use Rattle.rules.specs.Steps.{Step}
 use Rattle.fields.specs.Field.{stored}
 use Rattle.lines.specs.Line.{meaning}
-use Rattle.line_bytes.specs.Encoding.{headerOf, encoded}
-use Rattle.placing.specs.Steps.{Words, stepOf, step-back, kept-new}
+use Rattle.steps.specs.Encoding.{headerOf, encoded}
+use Rattle.steps.specs.Held.{Words, stepOf, step-back, kept-new}
 use Rattle.placing.specs.Point.{place-known, place-out-of-steps, place-new}
 use borrow.Author.Needs.{needs}
 use Rattle.placing.proofs.place.place.Statement.{statement}
@@ -18,7 +18,12 @@ abbrev step : tie.Start → Step
 step s = stepOf (s .args .how) (s .args .which) (s .args .first) (s .args .second) (s .args .line)
 
 words : (s : tie.Start) → Words (s .args .line)
-words s = record { ready = s .pre .1 .0; eight = search (needs, s .good); positive = search (needs, s .good); negative = search (needs, s .good) }
+words s = record {
+  ready = s .pre .1 .0;
+  eight = search (needs, s .good);
+  positive = search (needs, s .good);
+  negative = search (needs, s .good);
+}
 
 covered-requires : tie.Need-covered-requires
 covered-requires c κs = search needs
@@ -68,10 +73,12 @@ returns-3 c =
     let a = s .args in
     let p = a .p in
     let bytes = encoded (headerOf (a .how) (a .which) (a .first) (a .second)) (meaning (a .line)) in
-    let wrote : k .put .last .0 ≡ stored (64 * p .steps) bytes (a .proof .now) = k .put .ensures ∙ ap (λ (x : List ℕ). stored (64 * p .steps) x (a .proof .now)) (e .encode .ensures) in
+    let wrote : k .put .last .0 ≡ stored (64 * p .steps) bytes (a .proof .now) = k .put .ensures
+    ∙ ap (λ (x : List ℕ). stored (64 * p .steps) x (a .proof .now)) (e .encode .ensures) in
     let whole : length bytes ≡ 64 = ap length (sym (e .encode .ensures)) ∙ search needs in
     rw (wrote, c .progress-of .ensures)
-    (place-new p (s .pre .0) (step s) (sym (b .covered .ensures) ∙ e .before .before .before .if1 .left) bytes (kept-new (s .pre .1 .1) (a .line) (words s)) (step-back (s .pre .1 .1) (a .line) (words s)) (omega arith) whole)
+    (place-new p (s .pre .0) (step s) (sym (b .covered .ensures) ∙ e .before .before .before .if1 .left) bytes
+    (kept-new (s .pre .1 .1) (a .line) (words s)) (step-back (s .pre .1 .1) (a .line) (words s)) (omega arith) whole)
 
 pub place-spec : {M : Type 1} → statement M
 place-spec =

@@ -2,7 +2,7 @@
 use mathlib.Core.Path.{_≡_, sym, _∙_}
 use mathlib.Core.Bool.{true, false}
 use borrow.Author.Tests.{not-true, not-false}
-use Rattle.reading.specs.Readable.{Readable, readable}
+use Rattle.problem_read.specs.Readable.{Readable, readable}
 use Rattle.proof_check.specs.Called.{called-faulty, called-length, called-whole}
 use borrow.Author.Needs.{needs}
 use Rattle.proof_check.proofs.check.check_proof.Statement.{statement}
@@ -21,8 +21,10 @@ whole-steps-requires : tie.Need-whole-steps-requires
 whole-steps-requires c κs = search needs
 
 -- what reading gave
-known : (c : tie.After-s2) → Readable (c .before .before .before .before .before .args .input .now) (c .s2 .given .0 .0) (c .s2 .given .0 .1 .0) (c .s2 .given .0 .1 .1 .0)
-known c = readable (c .before .before .before .before .before .args .input .now) _ _ _ (sym (c .before .before .read .ensures) ∙ c .s2 .given .1)
+known : (c : tie.After-s2) → Readable (c .before .before .before .before .before .args .input .now) (c .s2 .given .0 .0)
+    (c .s2 .given .0 .1 .0) (c .s2 .given .0 .1 .1 .0)
+known c = readable (c .before .before .before .before .before .args .input .now) _ _ _
+    (sym (c .before .before .read .ensures) ∙ c .s2 .given .1)
 
 returns : tie.Need-returns
 returns c =

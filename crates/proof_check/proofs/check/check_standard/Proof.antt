@@ -1,6 +1,6 @@
 -- `check::check_standard` meets its contract. Assumes nothing.
 use mathlib.Core.Path.{ap, _∙_}
-use Rattle.types.specs.declared.limits.Limits.{Limits}
+use Rattle.rules_types.specs.declared.limits.Limits.{Limits}
 use Rattle.rules.specs.Calls.{proofChecked}
 use borrow.Author.Needs.{needs}
 use Rattle.proof_check.proofs.check.check_standard.Statement.{statement}

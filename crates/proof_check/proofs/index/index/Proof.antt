@@ -1,28 +1,33 @@
 -- `index::index` meets its contract. Invariant: the first c clauses are indexed, and the next one is at hand. Assumes nothing.
 use Prim.Native.Nat.{_<_, _-_, _≤_}
-use Rattle.reader.specs.Values.{clauseEnd}
+use Rattle.problem_scan.specs.Values.{clauseEnd}
 use mathlib.Core.Path.{_≡_, refl, _∙_}
 use native.Mathlib.Omega.{arith}
 use borrow.Author.Needs.{needs}
 use lib.ListN.{length, length-set}
-use Rattle.proof_check.specs.Index.{Indexing, readable-short, indexing-start, indexing-within, indexing-place, indexing-small, indexing-next}
+use Rattle.proof_check.specs.Index.{Indexing, readable-short, indexing-start, indexing-within, indexing-place, indexing-small}
+use Rattle.proof_check.specs.Index.{indexing-next}
 use Rattle.proof_check.proofs.index.index.Statement.{statement}
 use Rattle.proof_check.proofs.index.index.Tie as tie
 
 abbrev Inv-loop : tie.InvT-loop
-Inv-loop q places₀ variables₀ r n at₀ variable₀ c₀ places variables at variable c = (length places ≡ length places₀) × (length variables ≡ length variables₀) × Indexing q variable₀ r n places variables at variable c
+Inv-loop q places₀ variables₀ r n at₀ variable₀ c₀ places variables at variable c = (length places ≡ length places₀)
+    × (length variables ≡ length variables₀) × Indexing q variable₀ r n places variables at variable c
 
 abbrev μ-loop : tie.MeasureT-loop
 μ-loop q places₀ variables₀ r n at₀ variable₀ c₀ places variables at variable c = n - c
 
 loop-holds : tie.Need-loop-holds Inv-loop μ-loop
-loop-holds c = let s = c .before .before .before in (refl, refl, indexing-start (s .args .places .now) (s .args .variables .now) (s .pre .0))
+loop-holds c = let s = c .before .before .before in
+    (refl, refl, indexing-start (s .args .places .now) (s .args .variables .now) (s .pre .0))
 
 -- the clause at hand stands in the slice, and so does what is behind it
-inside : (c : tie.In-loop Inv-loop μ-loop) → let s = c .before .before .before .before .before in clauseEnd (s .args .q .now) (s .args .sizes .rationals) (c .before .loop .at) ≤ length (s .args .q .now)
+inside : (c : tie.In-loop Inv-loop μ-loop) → let s = c .before .before .before .before .before in
+    clauseEnd (s .args .q .now) (s .args .sizes .rationals) (c .before .loop .at) ≤ length (s .args .q .now)
 inside c = indexing-within (c .before .loop .inv .2) (c .loop-test .taken)
 
-room : (c : tie.In-loop Inv-loop μ-loop) → (c .before .loop .c < length (c .before .loop .places)) × (c .before .loop .c < length (c .before .loop .variables))
+room : (c : tie.In-loop Inv-loop μ-loop) → (c .before .loop .c < length (c .before .loop .places))
+    × (c .before .loop .c < length (c .before .loop .variables))
 room c =
     let l = c .before .loop in
     let s = c .before .before .before .before .before in
@@ -68,7 +73,8 @@ loop-again c =
     let s = k .before .before .before .before .before in (
       length-set (l .places) (l .c) (l .at) ∙ l .inv .0,
       length-set (l .variables) (l .c) (l .variable) ∙ l .inv .1,
-      rw (c .next .ensures, c .before .splits .ensures) (indexing-next (l .inv .2) (k .loop-test .taken) (s .pre .0 .parsed .booleans) (room k .0) (room k .1)),
+      rw (c .next .ensures, c .before .splits .ensures)
+          (indexing-next (l .inv .2) (k .loop-test .taken) (s .pre .0 .parsed .booleans) (room k .0) (room k .1)),
     )
 
 same-length : tie.Need-same-length Inv-loop μ-loop

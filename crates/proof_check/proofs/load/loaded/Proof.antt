@@ -1,8 +1,8 @@
 -- `load::loaded` meets its contract. Assumes nothing.
 use native.Mathlib.Omega.{arith}
 use lib.ListN.{getD}
-use Rattle.checking.specs.Stated.{states-none}
-use Rattle.checking.specs.Resolvents.{states-same}
+use Rattle.step_check.specs.Stated.{states-none}
+use Rattle.step_check.specs.Resolvents.{states-same}
 use Rattle.proof_check.specs.Index.{Entry}
 use Rattle.proof_check.specs.Loaded.{loaded-beyond, loaded-found}
 use borrow.Author.Needs.{needs}
@@ -28,7 +28,8 @@ returns : tie.Need-returns
 returns c =
     let k = c .before .before .before in
     let s = k .before .before .before .before .before .before .before in
-    states-none (s .args .t5) (c .unstated .result) (c .unstated .ensures) (loaded-beyond (s .pre .readable) (s .args .t5) (omega (arith, c .before .if1 .taken, k .before .before .u16-at .ensures)))
+    states-none (s .args .t5) (c .unstated .result) (c .unstated .ensures)
+    (loaded-beyond (s .pre .readable) (s .args .t5) (omega (arith, c .before .if1 .taken, k .before .before .u16-at .ensures)))
 
 mul-part : tie.Need-mul-part
 mul-part c = search needs
@@ -46,9 +47,12 @@ cast-part-2 : tie.Need-cast-part-2
 cast-part-2 c = omega (arith, c .shared-slice-known5 .given (c .before .before .before .before .before .before .u16-at .result))
 
 -- the entry of the clause that the bytes name
-entry : (c : tie.Else1) → let k = c .before .before in let a = k .before .before .before .before .before .before .before .args in let n = k .before .before .u16-at .result in
-    Entry (a .q .now) (a .sizes .booleans) (a .sizes .rationals) (a .sizes .clauses) (getD (a .places .now) n 0) (getD (a .variables .now) n 0) n
-entry c = let k = c .before .before in k .before .before .before .before .before .before .before .pre .entries (k .before .before .u16-at .result) (omega (arith, c .if1 .left))
+entry : (c : tie.Else1) → let k = c .before .before in let a = k .before .before .before .before .before .before .before .args in let n =
+    k .before .before .u16-at .result in
+    Entry (a .q .now) (a .sizes .booleans) (a .sizes .rationals) (a .sizes .clauses) (getD (a .places .now) n 0)
+    (getD (a .variables .now) n 0) n
+entry c = let k = c .before .before in k .before .before .before .before .before .before .before .pre .entries
+    (k .before .before .u16-at .result) (omega (arith, c .if1 .left))
 
 part-requires : tie.Need-part-requires
 part-requires c κs =
@@ -66,7 +70,8 @@ returns-2 c =
     let e = p .before .before .before in
     let k = e .before .before in
     let s = k .before .before .before .before .before .before .before in
-    states-same (loaded-found (s .pre .readable) (s .args .t5) (p .part .result) (k .before .before .u16-at .ensures) (k .u16-at2 .ensures) (entry e) (p .part .ensures .0)) (c .compared .ensures)
+    states-same (loaded-found (s .pre .readable) (s .args .t5) (p .part .result) (k .before .before .u16-at .ensures) (k .u16-at2 .ensures)
+    (entry e) (p .part .ensures .0)) (c .compared .ensures)
 
 pub loaded-spec : {M : Type 1} → statement M
 loaded-spec =

@@ -4,9 +4,9 @@ use native.Mathlib.Omega.{arith}
 use lib.ListN.{length, getD}
 use Rattle.rules.specs.Bytes.{fieldAt}
 use Rattle.rules.specs.Elimination.{loadableOf}
-use Rattle.layout.specs.Fields.{fieldAt-1}
-use Rattle.proof_lines.specs.Held.{linesIn}
-use Rattle.checking.specs.Resolvents.{states-same}
+use Rattle.theory_bytes.specs.Fields.{fieldAt-1}
+use Rattle.steps.specs.Lines.{linesIn}
+use Rattle.step_check.specs.Resolvents.{states-same}
 use Rattle.proof_check.specs.Index.{problemOf}
 use Rattle.proof_check.specs.Loaded.{loaded-other, stated-loaded, stated-derived}
 use borrow.Author.Needs.{needs}
@@ -26,7 +26,8 @@ returns : tie.Need-returns
 returns c =
     let s = c .before .before .before .before .before .before in
     let a = s .args in
-    states-same (stated-loaded (loadableOf (problemOf (a .q .now) (a .sizes))) (linesIn (a .proof .now) (a .i)) (a .t7) (first-byte s ∙ c .before .if1 .taken)) (c .loaded .ensures)
+    states-same (stated-loaded (loadableOf (problemOf (a .q .now) (a .sizes))) (linesIn (a .proof .now) (a .i)) (a .t7)
+    (first-byte s ∙ c .before .if1 .taken)) (c .loaded .ensures)
 
 derived-requires : tie.Need-derived-requires
 derived-requires c κs = search needs
@@ -36,7 +37,8 @@ returns-2 c =
     let s = c .before .before .before .before .before .before in
     let a = s .args in
     let none-loaded = loaded-other (s .pre .0 .readable) (a .t7) (λ e. c .before .if1 .left (sym (first-byte s) ∙ e)) in
-    states-same (stated-derived (loadableOf (problemOf (a .q .now) (a .sizes))) (linesIn (a .proof .now) (a .i)) (a .t7) none-loaded) (c .derived .ensures)
+    states-same (stated-derived (loadableOf (problemOf (a .q .now) (a .sizes))) (linesIn (a .proof .now) (a .i)) (a .t7)
+    none-loaded) (c .derived .ensures)
 
 pub line-stated-spec : {M : Type 1} → statement M
 line-stated-spec =

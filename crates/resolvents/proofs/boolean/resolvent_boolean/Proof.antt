@@ -36,7 +36,11 @@ returns c =
     let x = ap (constraintOf (from .relation) (from .coefficients)) b ∙ k .constrained .ensures .0 in (
       λ j. record { positive = p j; negative = n j; constraint = x j },
       record {
-        shaped = record { related = ready .shaped .related; coefficients = ready .shaped .coefficients; bound = λ z. b ∙ ready .shaped .bound z };
+        shaped = record {
+          related = ready .shaped .related;
+          coefficients = ready .shaped .coefficients;
+          bound = λ z. b ∙ ready .shaped .bound z;
+        };
         coefficients = ready .coefficients;
         bound = rw b (ready .bound);
       },

@@ -9,7 +9,7 @@ use mir.Syntax.{w64}
 use mir.Val.{toZ, ofZ}
 use mir.Facts.{toZ-ofZ}
 use Rattle.rules.specs.Resolve.{resolvent}
-use Rattle.vectors.specs.Amounts.{Small}
+use Rattle.theory_vectors.specs.Amounts.{Small}
 use Rattle.rows.specs.Products.{amount-bits, combine-≤}
 use Rattle.lines.specs.Line.{meaning}
 use Rattle.masks.specs.Mask.{union-bits}
@@ -37,7 +37,8 @@ factor-requires c κs =
     rw (amount-bits (getD (s .args .lower .coefficients) (s .args .f) (pos 0)) h) h
 
 -- what the factor is, as its bits say
-factor-is : (c : tie.After-factor) → toZ w64 (ofZ w64 (c .factor .result)) ≡ pos (natAbs (getD (c .before .before .before .before .before .args .lower .coefficients) (c .before .before .before .before .before .args .f) (pos 0)))
+factor-is : (c : tie.After-factor) → toZ w64 (ofZ w64 (c .factor .result)) ≡ pos (natAbs (getD
+    (c .before .before .before .before .before .args .lower .coefficients) (c .before .before .before .before .before .args .f) (pos 0)))
 factor-is c =
     let s = c .before .before .before .before .before in
     let z = getD (s .args .lower .coefficients) (s .args .f) (pos 0) in
@@ -50,8 +51,10 @@ combine-rows-requires c κs =
     let s = c .before .before .before .before .before in
     let u = s .pre .1 .0 in
     let l = s .pre .1 .1 .0 in
-    let ha = u .coefficients .small (s .args .f) in
-    (rw (factor-is c) (l .coefficients .small (s .args .f)), (rw (amount-bits (getD (s .args .upper .coefficients) (s .args .f) (pos 0)) ha) ha, (u .coefficients, l .coefficients)))
+    let ha = u .coefficients .small (s .args .f) in (
+      rw (factor-is c) (l .coefficients .small (s .args .f)),
+      (rw (amount-bits (getD (s .args .upper .coefficients) (s .args .f) (pos 0)) ha) ha, (u .coefficients, l .coefficients)),
+    )
 
 combine-requires : tie.Need-combine-requires
 combine-requires c κs =
@@ -59,15 +62,26 @@ combine-requires c κs =
     let s = k .before .before .before .before .before in
     let u = s .pre .1 .0 in
     let l = s .pre .1 .1 .0 in
-    let ha = u .coefficients .small (s .args .f) in
-    (rw (factor-is k) (l .coefficients .small (s .args .f)), (rw (amount-bits (s .args .upper .bound) (u .bound)) (u .bound), (rw (amount-bits (getD (s .args .upper .coefficients) (s .args .f) (pos 0)) ha) ha, rw (amount-bits (s .args .lower .bound) (l .bound)) (l .bound))))
+    let ha = u .coefficients .small (s .args .f) in (
+      rw (factor-is k) (l .coefficients .small (s .args .f)),
+      (
+        rw (amount-bits (s .args .upper .bound) (u .bound)) (u .bound),
+        (
+          rw (amount-bits (getD (s .args .upper .coefficients) (s .args .f) (pos 0)) ha) ha,
+          rw (amount-bits (s .args .lower .bound) (l .bound)) (l .bound),
+        ),
+      ),
+    )
 
 stricter-requires : tie.Need-stricter-requires
 stricter-requires c κs = search needs
 
 -- both lines have a constraint
 related : (s : tie.Start) → (0 < s .args .upper .relation) × (0 < s .args .lower .relation)
-related s = (upper-constraint (s .args .f) (s .args .upper) (s .pre .1 .1 .1 .0), lower-constraint (s .args .f) (s .args .lower) (s .pre .1 .1 .1 .1))
+related s = (
+  upper-constraint (s .args .f) (s .args .upper) (s .pre .1 .1 .1 .0),
+  lower-constraint (s .args .f) (s .args .lower) (s .pre .1 .1 .1 .1),
+)
 
 returns : tie.Need-returns
 unfolding meaning resolvent
@@ -84,8 +98,10 @@ returns c =
     let ha = hu .coefficients .small f in
     let ea = amount-bits (getD (u .coefficients) f (pos 0)) ha in
     let row = rw (factor-is k, ea) at (m .before .before .before .combine-rows .ensures) in
-    let bound = toZ-ofZ {w = w64} (sfits-of (m .combine .ok)) ∙ (rw (factor-is k, ea, amount-bits (u .bound) (hu .bound), amount-bits (l .bound) (hl .bound)) at (m .combine .ensures)) in
-    let e = combination-is f (u .coefficients) (u .bound) (l .coefficients) (l .bound) (u .relation) (l .relation) (hu .shaped .related) (hl .shaped .related) (hr .0) (hr .1) in
+    let bound = toZ-ofZ {w = w64} (sfits-of (m .combine .ok))
+    ∙ (rw (factor-is k, ea, amount-bits (u .bound) (hu .bound), amount-bits (l .bound) (hl .bound)) at (m .combine .ensures)) in
+    let e = combination-is f (u .coefficients) (u .bound) (l .coefficients) (l .bound) (u .relation) (l .relation) (hu .shaped .related)
+    (hl .shaped .related) (hr .0) (hr .1) in
     let r = constraints-agree (c .stricter .ensures) row bound in
     let p = sym (union-bits 32 (u .positive) (l .positive)) in
     let n = sym (union-bits 32 (u .negative) (l .negative)) in
@@ -98,7 +114,11 @@ returns c =
           bound = λ z. absurd (omega (arith, c .stricter .ensures, hr .0, z));
         },
         record {
-          coefficients = λ i. rw row (omega (arith, combine-≤ (pos (natAbs (getD (l .coefficients) f (pos 0)))) (u .coefficients) (getD (u .coefficients) f (pos 0)) (l .coefficients) (hl .coefficients .small f) (hu .coefficients) ha (hl .coefficients) i));
+          coefficients = λ i. rw row (omega (
+            arith,
+            combine-≤ (pos (natAbs (getD (l .coefficients) f (pos 0)))) (u .coefficients)
+                (getD (u .coefficients) f (pos 0)) (l .coefficients) (hl .coefficients .small f) (hu .coefficients) ha (hl .coefficients) i,
+          ));
         },
       ),
     )

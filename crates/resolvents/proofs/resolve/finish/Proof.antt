@@ -19,7 +19,8 @@ returns c =
     gives-dropped (n .line) (k .normalize .ensures .1) (sym (normalized-dropped n (c .if1 .taken)) ∙ k .normalize .ensures .0)
 
 -- the line that is left
-left : (c : tie.Else1) → some (meaning (c .before .before .normalize .result .line)) ≡ normalLine (meaning (c .before .before .before .args .line))
+left : (c : tie.Else1)
+    → some (meaning (c .before .before .normalize .result .line)) ≡ normalLine (meaning (c .before .before .before .args .line))
 left c = let k = c .before .before in sym (normalized-left (k .normalize .result) (c .if1 .left)) ∙ k .normalize .ensures .0
 
 overflows-requires : tie.Need-overflows-requires

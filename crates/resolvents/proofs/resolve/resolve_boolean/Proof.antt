@@ -17,7 +17,8 @@ finish-requires c κs = let r = c .resolvent-boolean .ensures .1 in (r .shaped, 
 
 returns : tie.Need-returns
 unfolding resolve
-returns c = subst (λ (m : rules.Line). Gives (normalLine m) (c .finish .result)) (c .before .resolvent-boolean .ensures .0) (c .finish .ensures)
+returns c = subst (λ (m : rules.Line). Gives (normalLine m) (c .finish .result))
+    (c .before .resolvent-boolean .ensures .0) (c .finish .ensures)
 
 pub resolve-boolean-spec : {M : Type 1} → statement M
 resolve-boolean-spec = tie.close (tie.spec resolvent-boolean-requires finish-requires returns)

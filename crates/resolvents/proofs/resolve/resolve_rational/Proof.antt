@@ -16,7 +16,8 @@ finish-requires c κs = search needs
 
 returns : tie.Need-returns
 unfolding resolve
-returns c = subst (λ (m : rules.Line). Gives (normalLine m) (c .finish .result)) (c .before .resolvent-rational .ensures .0) (c .finish .ensures)
+returns c = subst (λ (m : rules.Line). Gives (normalLine m) (c .finish .result))
+    (c .before .resolvent-rational .ensures .0) (c .finish .ensures)
 
 pub resolve-rational-spec : {M : Type 1} → statement M
 resolve-rational-spec = tie.close (tie.spec resolvent-rational-requires finish-requires returns)

@@ -5,7 +5,7 @@ use native.Mathlib.Numerals.{add-one}
 use native.Mathlib.Omega.{arith}
 use Rattle.rules.specs.Resolve.{resolve}
 use Rattle.lines.specs.Line.{meaning}
-use Rattle.proof_lines.specs.Held.{lineAt}
+use Rattle.steps.specs.Lines.{lineAt}
 use Rattle.rounds.specs.Sides.{variableOf}
 use Rattle.rounds.specs.Pairs.{left, settled, resolventOf}
 use borrow.Author.Needs.{needs}
@@ -21,8 +21,13 @@ resolve-requires c κs =
     let s = c .before .before .before in
     let a = s .args in
     let h = s .pre .1 .0 in
-    let k = s .pre .0 .held .steps in
-    (h .ranged, (rw (s .pre .1 .1) (k (a .i) (h .upper-held) .ready), (rw (c .line-at .ensures) (k (a .j) (h .lower-held) .ready), (rw (s .pre .1 .1) (h .upper), rw (c .line-at .ensures) (h .lower)))))
+    let k = s .pre .0 .held .steps in (
+      h .ranged,
+      (
+        rw (s .pre .1 .1) (k (a .i) (h .upper-held) .ready),
+        (rw (c .line-at .ensures) (k (a .j) (h .lower-held) .ready), (rw (s .pre .1 .1) (h .upper), rw (c .line-at .ensures) (h .lower))),
+      ),
+    )
 
 add-settle : tie.Need-add-settle
 add-settle c = search needs

@@ -36,7 +36,10 @@ place-requires c κs =
     let s = t .before .before .before in
     let q = s .pre .1 .1 in (
       rw (k .counted3 .ensures) (s .pre .0),
-      (q .1 .1 .ready (t .enum-told3 .given .1), rw (h .how-of .ensures, c .which-of .ensures) (named-pair (s .args .v) (s .args .i) (s .args .j) (q .0) (q .1 .0))),
+      (
+        q .1 .1 .ready (t .enum-told3 .given .1),
+        rw (h .how-of .ensures, c .which-of .ensures) (named-pair (s .args .v) (s .args .i) (s .args .j) (q .0) (q .1 .0)),
+      ),
     )
 
 returns : tie.Need-returns
@@ -49,7 +52,8 @@ returns-2 : tie.Need-returns-2
 returns-2 c =
     let s = c .before .before .before .before in
     let a = s .args in
-    rw (c .counted2 .ensures) (settle-overflow (a .v) (a .i) (a .j) (a .r) (a .p) (a .pairs) (s .pre .1 .1 .1 .1) (s .pre .0) (c .before .enum-told2 .given .1))
+    rw (c .counted2 .ensures)
+    (settle-overflow (a .v) (a .i) (a .j) (a .r) (a .p) (a .pairs) (s .pre .1 .1 .1 .1) (s .pre .0) (c .before .enum-told2 .given .1))
 
 same-length : tie.Need-same-length
 same-length c = search needs
@@ -63,7 +67,8 @@ returns-3 c =
     let t = n .before .before in
     let s = t .before .before .before in
     let a = s .args in
-    settle-made (a .v) (a .i) (a .j) (a .r) (a .p) (a .pairs) (s .pre .1 .1 .1 .1) (t .enum-told3 .given .1) (k .place .last .0) (k .place .result)
+    settle-made (a .v) (a .i) (a .j) (a .r) (a .p) (a .pairs) (s .pre .1 .1 .1 .1) (t .enum-told3 .given .1)
+    (k .place .last .0) (k .place .result)
     (rw (h .how-of .ensures, w .which-of .ensures, n .counted3 .ensures) at (k .place .ensures))
 
 pub settle-spec : {M : Type 1} → statement M

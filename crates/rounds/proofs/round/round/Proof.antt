@@ -7,14 +7,16 @@ use native.Mathlib.Omega.{arith}
 use borrow.Author.Needs.{needs}
 use borrow.Author.Tests.{not-true, not-false}
 use Rattle.placing.specs.declared.place.Point.{Point}
-use Rattle.placing.specs.Steps.{held-fewer}
+use Rattle.steps.specs.Held.{held-fewer}
 use Rattle.rounds.specs.Left.{line-same}
-use Rattle.rounds.specs.Round.{AtUpper, AtLower, Entered, upper-first, upper-done, lower-first, upper-next, pairable, Underway, laterLowers, underway-pair, lower-next, round-ended}
+use Rattle.rounds.specs.Round.{AtUpper, AtLower, Entered, upper-first, upper-done, lower-first, upper-next, pairable, Underway}
+use Rattle.rounds.specs.Round.{laterLowers, underway-pair, lower-next, round-ended}
 use Rattle.rounds.proofs.round.round.Statement.{statement}
 use Rattle.rounds.proofs.round.round.Tie as tie
 
 abbrev Inv-loop : tie.InvT-loop
-Inv-loop proof₀ t v limits m first i p₀ upper j₀ proof p j = (start : List ℕ) (from : Point) → Entered limits v t m j₀ start from proof₀ p₀ i → AtLower limits v t start from proof p i j
+Inv-loop proof₀ t v limits m first i p₀ upper j₀ proof p j = (start : List ℕ) (from : Point)
+    → Entered limits v t m j₀ start from proof₀ p₀ i → AtLower limits v t start from proof p i j
 
 abbrev μ-loop : tie.MeasureT-loop
 μ-loop proof₀ t v limits m first i p₀ upper j₀ proof p j = m - j
@@ -32,7 +34,8 @@ next-requires-2 : tie.Need-next-requires-2 Inv-loop μ-loop Inv-pairs μ-pairs
 next-requires-2 c κs = let s = c .before .before .before .before in (s .pre .0 .held, (omega arith, s .pre .1 .1 .0))
 
 pairs-holds : tie.Need-pairs-holds Inv-loop μ-loop Inv-pairs μ-pairs
-pairs-holds c = let s = c .before .before .before .before .before in upper-first (s .args .limits) (s .args .v) (s .args .t) (s .args .proof .now) (s .args .from) (s .pre .0) (s .pre .1 .0) (c .next2 .ensures)
+pairs-holds c = let s = c .before .before .before .before .before in upper-first (s .args .limits) (s .args .v) (s .args .t)
+    (s .args .proof .now) (s .args .from) (s .pre .0) (s .pre .1 .0) (c .next2 .ensures)
 
 line-at-requires : tie.Need-line-at-requires Inv-loop μ-loop Inv-pairs μ-pairs
 line-at-requires c κs = search needs
@@ -48,7 +51,8 @@ loop-holds c =
 entered : (c : tie.At-loop Inv-loop μ-loop Inv-pairs μ-pairs) →
     let u = c .before .before .before .before in
     let a = u .before .before .before .before .before .before .args in
-    Entered (a .limits) (a .v) (a .t) (a .from .steps) (u .before .before .before .next .result) (a .proof .now) (a .from) (u .pairs .proof) (u .pairs .p) (u .pairs .i)
+    Entered (a .limits) (a .v) (a .t) (a .from .steps) (u .before .before .before .next .result) (a .proof .now) (a .from) (u .pairs .proof)
+    (u .pairs .p) (u .pairs .i)
 entered c =
     let u = c .before .before .before .before in
     let s = u .before .before .before .before .before .before in
@@ -59,7 +63,8 @@ lower : (c : tie.At-loop Inv-loop μ-loop Inv-pairs μ-pairs) →
     let u = c .before .before .before .before in
     let a = u .before .before .before .before .before .before .args in
     AtLower (a .limits) (a .v) (a .t) (a .proof .now) (a .from) (c .loop .proof) (c .loop .p) (u .pairs .i) (c .loop .j)
-lower c = let a = c .before .before .before .before .before .before .before .before .before .before .args in c .loop .inv (a .proof .now) (a .from) (entered c)
+lower c = let a = c .before .before .before .before .before .before .before .before .before .before .args in
+    c .loop .inv (a .proof .now) (a .from) (entered c)
 
 pair-requires : tie.Need-pair-requires Inv-loop μ-loop Inv-pairs μ-pairs
 pair-requires c κs =
@@ -72,8 +77,10 @@ pair-requires c κs =
     let i = u .pairs .i in (
       r .underway .leads .standing,
       (
-        pairable (a .limits) (a .v) (a .t) (a .proof .now) (a .from) (s .pre .0) r (omega arith) (u .pairs .inv .upper (omega arith)) (omega arith) (s .pre .1 .1 .0) (s .pre .1 .1 .1 .0) (s .pre .1 .1 .1 .1),
-        l .before .line-at .ensures ∙ line-same (u .pairs .inv .underway .leads) room i (omega arith) ∙ sym (line-same (r .underway .leads) room i (omega arith)),
+        pairable (a .limits) (a .v) (a .t) (a .proof .now) (a .from) (s .pre .0) r (omega arith) (u .pairs .inv .upper (omega arith))
+            (omega arith) (s .pre .1 .1 .0) (s .pre .1 .1 .1 .0) (s .pre .1 .1 .1 .1),
+        l .before .line-at .ensures ∙ line-same (u .pairs .inv .underway .leads) room i (omega arith)
+            ∙ sym (line-same (r .underway .leads) room i (omega arith)),
       ),
     )
 
@@ -82,26 +89,35 @@ tried : (c : tie.After-pair Inv-loop μ-loop Inv-pairs μ-pairs) →
     let l = c .before .before .before in
     let u = l .before .before .before .before in
     let a = u .before .before .before .before .before .before .args in
-    Underway (a .limits) (a .v) (a .t) (a .proof .now) (a .from) (c .pair .last .0) (c .pair .result) (laterLowers (a .limits) (a .v) (a .t) (a .proof .now) (a .from) (u .pairs .i) (l .loop .j + 1)) (65536 * u .pairs .i + (l .loop .j + 1))
+    Underway (a .limits) (a .v) (a .t) (a .proof .now) (a .from) (c .pair .last .0) (c .pair .result) (laterLowers (a .limits) (a .v) (a .t)
+    (a .proof .now) (a .from) (u .pairs .i) (l .loop .j + 1)) (65536 * u .pairs .i + (l .loop .j + 1))
 tried c =
     let l = c .before .before .before in
     let u = l .before .before .before .before in
     let s = u .before .before .before .before .before .before in
     let a = s .args in
-    underway-pair (a .limits) (a .v) (a .t) (a .proof .now) (a .from) (s .pre .0) (lower l) (omega arith) (u .pairs .inv .upper (omega arith)) (omega arith) (c .pair .ensures)
+    underway-pair (a .limits) (a .v) (a .t) (a .proof .now) (a .from) (s .pre .0) (lower l) (omega arith)
+    (u .pairs .inv .upper (omega arith)) (omega arith) (c .pair .ensures)
 
 is-running-requires : tie.Need-is-running-requires Inv-loop μ-loop Inv-pairs μ-pairs
 is-running-requires c κs = search needs
 
 add-next : tie.Need-add-next Inv-loop μ-loop Inv-pairs μ-pairs
-add-next c = let s = c .before .before .before .before .before .before .before .before .before .before .before .before .before .before .before .before .before .before in omega (arith, c .before .before .before .before .before .before .before .loop-test .taken, s .pre .0 .few, s .pre .1 .1 .1 .0)
+add-next c = let s = c .before .before .before .before .before .before .before .before .before .before .before .before .before .before
+    .before .before .before .before in
+    omega (arith, c .before .before .before .before .before .before .before .loop-test .taken, s .pre .0 .few, s .pre .1 .1 .1 .0)
 
 next-requires-3 : tie.Need-next-requires-3 Inv-loop μ-loop Inv-pairs μ-pairs
 next-requires-3 c κs =
     let k = c .before .before .before .before .before in
     let h = k .before .before .loop-test in
-    let r = tried k .leads in
-    (held-fewer (r .standing .held) (r .grows), (omega arith, k .before .before .before .before .before .before .before .before .before .before .before .before .before .pre .1 .1 .0))
+    let r = tried k .leads in (
+      held-fewer (r .standing .held) (r .grows),
+      (
+        omega arith,
+        k .before .before .before .before .before .before .before .before .before .before .before .before .before .pre .1 .1 .0,
+      ),
+    )
 
 loop-less : tie.Need-loop-less Inv-loop μ-loop Inv-pairs μ-pairs
 loop-less c = search needs
@@ -117,7 +133,8 @@ loop-again c =
     let h = w .steps in
     let i : u .pairs .i < from .steps = omega (arith, l .before .before .before .pairs-test) in
     let j : l .loop .j < from .steps = omega (arith, k .before .before .loop-test) in
-    lower-next (a .limits) (a .v) (a .t) start from (w .standing) (l .loop .inv start from w) i (w .at .upper i) j (k .pair .ensures) (sym (e .before .is-running .ensures) ∙ not-false _ (e .if1 .left)) (rw (w .steps) (c .next3 .ensures))
+    lower-next (a .limits) (a .v) (a .t) start from (w .standing) (l .loop .inv start from w) i (w .at .upper i) j (k .pair .ensures)
+    (sym (e .before .is-running .ensures) ∙ not-false _ (e .if1 .left)) (rw (w .steps) (c .next3 .ensures))
 
 add-next-2 : tie.Need-add-next-2 Inv-loop μ-loop Inv-pairs μ-pairs
 add-next-2 c = search needs
@@ -125,8 +142,13 @@ add-next-2 c = search needs
 next-requires-4 : tie.Need-next-requires-4 Inv-loop μ-loop Inv-pairs μ-pairs
 next-requires-4 c κs =
     let l = c .before .before in
-    let r = lower l .underway .leads in
-    (held-fewer (r .standing .held) (r .grows), (omega (arith, l .before .before .before .pairs-test), l .before .before .before .before .before .before .before .before .before .before .pre .1 .1 .0))
+    let r = lower l .underway .leads in (
+      held-fewer (r .standing .held) (r .grows),
+      (
+        omega (arith, l .before .before .before .pairs-test),
+        l .before .before .before .before .before .before .before .before .before .before .pre .1 .1 .0,
+      ),
+    )
 
 pairs-less : tie.Need-pairs-less Inv-loop μ-loop Inv-pairs μ-pairs
 pairs-less c = search needs
@@ -136,7 +158,8 @@ pairs-again c =
     let l = c .before .before .before in
     let s = l .before .before .before .before .before .before .before .before .before .before in
     let a = s .args in
-    upper-next (a .limits) (a .v) (a .t) (a .proof .now) (a .from) (s .pre .0) (lower l) (omega (arith, c .before .before .loop-test)) (omega (arith, s .pre .0 .few, s .pre .1 .1 .1 .0)) (c .next4 .ensures)
+    upper-next (a .limits) (a .v) (a .t) (a .proof .now) (a .from) (s .pre .0) (lower l) (omega (arith, c .before .before .loop-test))
+    (omega (arith, s .pre .0 .few, s .pre .1 .1 .1 .0)) (c .next4 .ensures)
 
 same-length : tie.Need-same-length Inv-loop μ-loop Inv-pairs μ-pairs
 same-length c = search needs
@@ -146,8 +169,10 @@ returns c =
     let u = c .before in
     let s = u .before .before .before .before .before .before in
     let a = s .args in
-    let r = u .pairs .inv in
-    (upper-done (a .limits) (a .v) (a .t) (a .proof .now) (a .from) (s .pre .0) r (omega arith), omega (arith, r .underway .counted, r .few, s .pre .0 .few, s .pre .1 .1 .1 .0))
+    let r = u .pairs .inv in (
+      upper-done (a .limits) (a .v) (a .t) (a .proof .now) (a .from) (s .pre .0) r (omega arith),
+      omega (arith, r .underway .counted, r .few, s .pre .0 .few, s .pre .1 .1 .1 .0),
+    )
 
 same-length-2 : tie.Need-same-length-2 Inv-loop μ-loop Inv-pairs μ-pairs
 same-length-2 c = tried (c .before .before .before .before) .leads .as-long
@@ -161,7 +186,8 @@ returns-2 c =
     let a = s .args in
     let i : u .pairs .i < a .from .steps = omega (arith, l .before .before .before .pairs-test) in
     let j : l .loop .j < a .from .steps = omega (arith, k .before .before .loop-test) in (
-      round-ended (a .limits) (a .v) (a .t) (a .proof .now) (a .from) (s .pre .0) (lower l) i (u .pairs .inv .upper i) j (k .pair .ensures) (sym (c .before .is-running .ensures) ∙ not-true _ (c .if1 .taken)),
+      round-ended (a .limits) (a .v) (a .t) (a .proof .now) (a .from) (s .pre .0) (lower l) i (u .pairs .inv .upper i) j (k .pair .ensures)
+          (sym (c .before .is-running .ensures) ∙ not-true _ (c .if1 .taken)),
       omega (arith, tried k .counted, s .pre .0 .few, s .pre .1 .1 .1 .0),
     )
 

@@ -2,7 +2,7 @@
 use mathlib.Core.Path.{_≡_, _∙_}
 use Rattle.rules.specs.Lines.{positively, negatively}
 use Rattle.lines.specs.Line.{meaning}
-use Rattle.proof_lines.specs.Held.{lineAt}
+use Rattle.steps.specs.Lines.{lineAt}
 use Rattle.rounds.specs.Sides.{onSide, positive-bytes, negative-bytes}
 use borrow.Author.Needs.{needs}
 use Rattle.rounds.proofs.side.boolean_side.Statement.{statement}
@@ -24,7 +24,8 @@ returns : tie.Need-returns
 unfolding onSide positively meaning
 returns c =
     let s = c .before .before .before .before in
-    let m : c .before .mask-at .result ≡ lineAt (s .args .proof .now) (s .args .i) .positive = c .before .mask-at .ensures ∙ positive-bytes (s .args .proof .now) (s .args .i) (s .pre .0) in
+    let m : c .before .mask-at .result ≡ lineAt (s .args .proof .now) (s .args .i) .positive = c .before .mask-at .ensures
+    ∙ positive-bytes (s .args .proof .now) (s .args .i) (s .pre .0) in
     c .member .ensures ∙ rw (m, c .before .before .if1 .taken)
 
 mul-mask-at-2 : tie.Need-mul-mask-at-2
@@ -43,7 +44,8 @@ returns-2 : tie.Need-returns-2
 unfolding onSide negatively meaning
 returns-2 c =
     let s = c .before .before .before .before in
-    let m : c .before .mask-at2 .result ≡ lineAt (s .args .proof .now) (s .args .i) .negative = c .before .mask-at2 .ensures ∙ negative-bytes (s .args .proof .now) (s .args .i) (s .pre .0) in
+    let m : c .before .mask-at2 .result ≡ lineAt (s .args .proof .now) (s .args .i) .negative = c .before .mask-at2 .ensures
+    ∙ negative-bytes (s .args .proof .now) (s .args .i) (s .pre .0) in
     c .member2 .ensures ∙ rw (m, c .before .before .if1 .left)
 
 pub boolean-side-spec : {M : Type 1} → statement M

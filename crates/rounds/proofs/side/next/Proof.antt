@@ -3,13 +3,14 @@ use mathlib.Core.Path.{_≡_, refl, sym, _∙_}
 use Prim.Native.Nat.{_-_, _≤_}
 use native.Mathlib.Omega.{arith}
 use borrow.Author.Needs.{needs}
-use Rattle.proof_lines.specs.Held.{lineAt}
+use Rattle.steps.specs.Lines.{lineAt}
 use Rattle.rounds.specs.Sides.{variableOf, chosen, selected, selected-past}
 use Rattle.rounds.proofs.side.next.Statement.{statement}
 use Rattle.rounds.proofs.side.next.Tie as tie
 
 abbrev Inv-loop : tie.InvT-loop
-Inv-loop proof from m t v upper i₀ i = (from ≤ i) × (i ≤ m) × (selected (chosen upper (variableOf v) t) proof m from ≡ selected (chosen upper (variableOf v) t) proof m i)
+Inv-loop proof from m t v upper i₀ i = (from ≤ i) × (i ≤ m)
+    × (selected (chosen upper (variableOf v) t) proof m from ≡ selected (chosen upper (variableOf v) t) proof m i)
 
 abbrev μ-loop : tie.MeasureT-loop
 μ-loop proof from m t v upper i₀ i = m - i
@@ -39,8 +40,12 @@ loop-again : tie.Need-loop-again Inv-loop μ-loop
 loop-again c =
     let l = c .before .before .before .loop in
     let s = c .before .before .before .before .before in
-    let a = s .args in
-    (omega arith, omega arith, l .inv .2 ∙ selected-past (chosen (a .upper) (variableOf (a .v)) (a .t)) (a .proof .now) (a .m) (l .i) (omega arith) (sym (c .before .stands .ensures) ∙ c .if1 .left))
+    let a = s .args in (
+      omega arith,
+      omega arith,
+      l .inv .2 ∙ selected-past (chosen (a .upper) (variableOf (a .v)) (a .t)) (a .proof .now) (a .m) (l .i)
+          (omega arith) (sym (c .before .stands .ensures) ∙ c .if1 .left),
+    )
 
 returns-2 : tie.Need-returns-2 Inv-loop μ-loop
 returns-2 c =

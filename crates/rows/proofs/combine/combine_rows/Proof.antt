@@ -9,7 +9,7 @@ use mir.Syntax.{w64}
 use mir.Val.{toZ, ofZ}
 use mir.Facts.{toZ-ofZ}
 use Rattle.rules.specs.Arithmetic.{combine}
-use Rattle.vectors.specs.Dot.{getD-combine}
+use Rattle.theory_vectors.specs.Dot.{getD-combine}
 use Rattle.rows.specs.Row.{Filled, filled-none, filled-more, filled-all, length-rows}
 use Rattle.rows.specs.Products.{amount-bits}
 use Rattle.rows.proofs.combine.combine_rows.Statement.{statement}
@@ -46,7 +46,12 @@ combine-requires c κs =
     let i = c .before .before .before .loop .i in
     let s = c .before .before .before .before in
     let p = s .pre in
-    simp (amount-bits (s .args .c) (p .0), amount-bits (s .args .a) (p .1 .0), amount-bits (getD (s .args .t2) i (pos 0)) (p .1 .1 .0 .small i), amount-bits (getD (s .args .t4) i (pos 0)) (p .1 .1 .1 .small i))
+    simp (
+      amount-bits (s .args .c) (p .0),
+      amount-bits (s .args .a) (p .1 .0),
+      amount-bits (getD (s .args .t2) i (pos 0)) (p .1 .1 .0 .small i),
+      amount-bits (getD (s .args .t4) i (pos 0)) (p .1 .1 .1 .small i),
+    )
     (p .0, (p .1 .1 .0 .small i, (p .1 .0, p .1 .1 .1 .small i)))
 
 mul-out : tie.Need-mul-out Inv-loop μ-loop
@@ -69,14 +74,25 @@ loop-again c =
     let ls = s .args .t4 in
     let k = toZ w64 (ofZ w64 (s .args .c)) in
     let m = toZ w64 (ofZ w64 (s .args .a)) in
-    let e : c .combine .result ≡ getD (combine k us m ls) (l .i) (pos 0) = (rw (amount-bits (getD us (l .i) (pos 0)) (s .pre .1 .1 .0 .small (l .i)), amount-bits (getD ls (l .i) (pos 0)) (s .pre .1 .1 .1 .small (l .i))) at (c .combine .ensures)) ∙ sym (getD-combine k us m ls (l .i)) in
-    (omega arith, l .inv .1, l .inv .2, filled-more _ (l .inv .3) (omega (arith, length-rows k us m ls (l .inv .1) (l .inv .2))) (toZ-ofZ {w = w64} (sfits-of (c .combine .ok)) ∙ e))
+    let e : c .combine .result ≡ getD (combine k us m ls) (l .i) (pos 0) = (rw (
+      amount-bits (getD us (l .i) (pos 0))
+          (s .pre .1 .1 .0 .small (l .i)),
+      amount-bits (getD ls (l .i) (pos 0)) (s .pre .1 .1 .1 .small (l .i)),
+    ) at (c .combine .ensures))
+    ∙ sym (getD-combine k us m ls (l .i)) in (
+      omega arith,
+      l .inv .1,
+      l .inv .2,
+      filled-more _ (l .inv .3) (omega (arith, length-rows k us m ls (l .inv .1) (l .inv .2)))
+          (toZ-ofZ {w = w64} (sfits-of (c .combine .ok)) ∙ e),
+    )
 
 returns : tie.Need-returns Inv-loop μ-loop
 returns c =
     let l = c .before .loop in
     let s = c .before .before in
-    let f : Filled (combine (s .args .c) (s .args .t2) (s .args .a) (s .args .t4)) (l .i) (l .out) = rw (toZ-ofZ (s .fits .c), toZ-ofZ (s .fits .a)) at (l .inv .3) in
+    let f : Filled (combine (s .args .c) (s .args .t2) (s .args .a) (s .args .t4)) (l .i) (l .out) =
+    rw (toZ-ofZ (s .fits .c), toZ-ofZ (s .fits .a)) at (l .inv .3) in
     filled-all f (omega (arith, length-rows (s .args .c) (s .args .t2) (s .args .a) (s .args .t4) (l .inv .1) (l .inv .2)))
 
 pub combine-rows-spec : {M : Type 1} → statement M

@@ -10,7 +10,7 @@ use mir.Syntax.{w64}
 use mir.Val.{toZ, SFits}
 use mir.Facts.{toZ-ofZ}
 use Rattle.rules.specs.Arithmetic.{gcd, gcdAll}
-use Rattle.vectors.specs.GcdFold.{gcd-oneˡ, gcdAll-next, gcdAll-end}
+use Rattle.theory_vectors.specs.GcdFold.{gcd-oneˡ, gcdAll-next, gcdAll-end}
 use Rattle.rows.proofs.content.content.Statement.{statement}
 use Rattle.rows.proofs.content.content.Tie as tie
 
@@ -57,8 +57,11 @@ loop-again c =
     let l = c .before .before .before .before .before .loop in
     let s = c .before .before .before .before .before .before .before in
     let z = getD (s .args .t1) (l .i) (pos 0) in
-    let f : SFits w64 z = search (needs, c .before .before) in
-    (omega arith, l .inv .1, rw (c .gcd .ensures, c .before .size2 .ensures, toZ-ofZ f) (gcdAll-next (l .g) (s .args .t1) (l .i) (omega arith) ∙ l .inv .2))
+    let f : SFits w64 z = search (needs, c .before .before) in (
+      omega arith,
+      l .inv .1,
+      rw (c .gcd .ensures, c .before .size2 .ensures, toZ-ofZ f) (gcdAll-next (l .g) (s .args .t1) (l .i) (omega arith) ∙ l .inv .2),
+    )
 
 returns-2 : tie.Need-returns-2 Inv-loop μ-loop
 returns-2 c =

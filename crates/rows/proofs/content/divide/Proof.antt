@@ -8,7 +8,7 @@ use lib.ListN.{length, getD}
 use mir.Syntax.{w64}
 use mir.Val.{SFits}
 use mir.Facts.{toZ-ofZ}
-use Rattle.vectors.specs.Constraint.{quotients, length-quotients, getD-quotients}
+use Rattle.theory_vectors.specs.Constraint.{quotients, length-quotients, getD-quotients}
 use Rattle.rows.specs.Row.{Filled, filled-none, filled-more, filled-all, quotients-one}
 use Rattle.rows.proofs.content.divide.Statement.{statement}
 use Rattle.rows.proofs.content.divide.Tie as tie
@@ -56,8 +56,12 @@ loop-again c =
     let row = s .args .t1 in
     let g = s .args .g in
     let f : SFits w64 (getD row (l .i) (pos 0)) = search (needs, c .before) in
-    let e : c .quotient .result ≡ getD (quotients g row) (l .i) (pos 0) = (rw (toZ-ofZ f) at (c .quotient .ensures)) ∙ sym (getD-quotients g row (l .i)) in
-    (omega arith, l .inv .1, filled-more _ (l .inv .2) (omega (arith, length-quotients g row)) (toZ-ofZ {w = w64} (sfits-of (c .quotient .ok)) ∙ e))
+    let e : c .quotient .result ≡ getD (quotients g row) (l .i) (pos 0) = (rw (toZ-ofZ f) at (c .quotient .ensures))
+    ∙ sym (getD-quotients g row (l .i)) in (
+      omega arith,
+      l .inv .1,
+      filled-more _ (l .inv .2) (omega (arith, length-quotients g row)) (toZ-ofZ {w = w64} (sfits-of (c .quotient .ok)) ∙ e),
+    )
 
 returns-2 : tie.Need-returns-2 Inv-loop μ-loop
 returns-2 c =

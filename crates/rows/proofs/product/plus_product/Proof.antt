@@ -16,8 +16,14 @@ fits : (s : tie.Start) → SFits w64 (s .args .total +ℤ s .args .z *ℤ s .arg
 fits s = plus-product-fits (s .args .total) (s .args .z) (s .args .x) (s .pre .0) (s .pre .1 .0) (s .pre .1 .1)
 
 -- what the bits of the operands come to
-computed : (s : tie.Start) → toZ w64 (ofZ w64 (s .args .total)) +ℤ toZ w64 (ofZ w64 (toZ w64 (ofZ w64 (s .args .z)) *ℤ toZ w64 (ofZ w64 (s .args .x)))) ≡ s .args .total +ℤ s .args .z *ℤ s .args .x
-computed s = rw (toZ-ofZ (s .fits .total), toZ-ofZ (s .fits .z), toZ-ofZ (s .fits .x), toZ-ofZ (product-fits (s .args .z) (s .args .x) (s .pre .1 .0) (s .pre .1 .1)))
+computed : (s : tie.Start) → toZ w64 (ofZ w64 (s .args .total)) +ℤ toZ w64
+    (ofZ w64 (toZ w64 (ofZ w64 (s .args .z)) *ℤ toZ w64 (ofZ w64 (s .args .x)))) ≡ s .args .total +ℤ s .args .z *ℤ s .args .x
+computed s = rw (
+  toZ-ofZ (s .fits .total),
+  toZ-ofZ (s .fits .z),
+  toZ-ofZ (s .fits .x),
+  toZ-ofZ (product-fits (s .args .z) (s .args .x) (s .pre .1 .0) (s .pre .1 .1)),
+)
 
 add-result : tie.Need-add-result
 add-result c = rw (computed c) (fits c)

@@ -18,10 +18,12 @@ cast-result : tie.Need-cast-result
 cast-result c = search needs
 
 mul-result : tie.Need-mul-result
-mul-result c = rw (widened c, toZ-ofZ (c .fits .bound)) (scaled-fits (c .args .bound) (c .args .denominator) (c .pre) (c .fits .denominator .fits))
+mul-result c = rw (widened c, toZ-ofZ (c .fits .bound))
+    (scaled-fits (c .args .bound) (c .args .denominator) (c .pre) (c .fits .denominator .fits))
 
 returns : tie.Need-returns
-returns c = rw (widened c, toZ-ofZ (c .fits .bound)) (toZ-ofZ (scaled-fits (c .args .bound) (c .args .denominator) (c .pre) (c .fits .denominator .fits)))
+returns c = rw (widened c, toZ-ofZ (c .fits .bound))
+    (toZ-ofZ (scaled-fits (c .args .bound) (c .args .denominator) (c .pre) (c .fits .denominator .fits)))
 
 pub scaled-spec : {M : Type 1} → statement M
 scaled-spec = tie.close (tie.spec cast-result mul-result returns)

@@ -5,7 +5,7 @@ use borrow.Author.Tests.{not-true, not-false}
 use Rattle.rules.specs.Elimination.{order}
 use Rattle.rules.specs.Values.{walk}
 use Rattle.rules.specs.Model.{written}
-use Rattle.proof_lines.specs.Held.{linesIn}
+use Rattle.steps.specs.Lines.{linesIn}
 use Rattle.walk.specs.Outcome.{bytesOf, Kept}
 use borrow.Author.Needs.{needs}
 use Rattle.solving.proofs.conclude.saturated.Statement.{statement}
@@ -13,7 +13,8 @@ use Rattle.solving.proofs.conclude.saturated.Tie as tie
 
 -- what the walk has told, by whether it can be written
 model : (c : tie.After-walk) (t : Bool) → c .walk .result .written ≡ t
-    → let s = c .before .before .before .before in written (s .args .b) (s .args .r) (walk order (linesIn (s .args .proof .now) (s .args .c .steps))) ≡ bytesOf (s .args .b) (s .args .r) t (c .walk .result .model)
+    → let s = c .before .before .before .before in written (s .args .b) (s .args .r)
+    (walk order (linesIn (s .args .proof .now) (s .args .c .steps))) ≡ bytesOf (s .args .b) (s .args .r) t (c .walk .result .model)
 model c t e =
     let s = c .before .before .before .before in
     c .walk .ensures .0 (s .args .b) ∙ ap (λ (t : Bool). bytesOf (s .args .b) (s .args .r) t (c .walk .result .model)) e
@@ -34,8 +35,10 @@ returns : tie.Need-returns
 returns c =
     let m = c .before .before .before .before in
     let t = m .before .before .before in
-    let e : t .before .before .walk .result .written ≡ false = search (needs, not-true, not-false, t .if1) in
-    (rw (model (t .before .before) false e) (record { said = m .without-model .ensures .0; left = m .without-model .ensures .1 .1 }), m .without-model .ensures .1 .0)
+    let e : t .before .before .walk .result .written ≡ false = search (needs, not-true, not-false, t .if1) in (
+      rw (model (t .before .before) false e) (record { said = m .without-model .ensures .0; left = m .without-model .ensures .1 .1 }),
+      m .without-model .ensures .1 .0,
+    )
 
 cast-zero : tie.Need-cast-zero
 cast-zero c = search needs

@@ -1,14 +1,15 @@
 -- `decide::decide` meets its contract: a law for each end of the course. Assumes nothing.
-use Rattle.soundness.specs.WellFormed.{WellFormed}
-use Rattle.soundness.specs.Reading.{read-well-formed}
-use Rattle.reading.specs.Parsed.{problemAt}
+use Rattle.theory_splitting.specs.WellFormed.{WellFormed}
+use Rattle.theory_splitting.specs.Reading.{read-well-formed}
+use Rattle.problem_read.specs.Parsed.{problemAt}
 use Rattle.solving.specs.Left.{few-steps, narrow, leaves-overflow, leaves-out, leaves-empty, leaves-saturated}
 use borrow.Author.Needs.{needs}
 use Rattle.solving.proofs.decide.decide.Statement.{statement}
 use Rattle.solving.proofs.decide.decide.Tie as tie
 
 -- the question is well formed
-formed : (c : tie.After-eliminate) → let a = c .before .before .before .before .before .args in WellFormed (problemAt (a .input .now) (a .b) (a .r) (a .n))
+formed : (c : tie.After-eliminate) → let a = c .before .before .before .before .before .args in
+    WellFormed (problemAt (a .input .now) (a .b) (a .r) (a .n))
 formed c =
     let s = c .before .before .before .before .before in
     let a = s .args in
@@ -33,7 +34,8 @@ enum-told-3 : tie.Need-enum-told-3
 enum-told-3 c = search needs
 
 without-model-requires : tie.Need-without-model-requires
-without-model-requires c κs = let k = c .before .before .before .before .before .before in (few-steps (formed k) (k .eliminate .ensures), search needs)
+without-model-requires c κs = let k = c .before .before .before .before .before .before in
+    (few-steps (formed k) (k .eliminate .ensures), search needs)
 
 enum-told-4 : tie.Need-enum-told-4
 enum-told-4 c = search needs
@@ -43,8 +45,10 @@ saturated-requires c κs =
     let k = c .before .before .before .before .before .before in
     let s = k .before .before .before .before .before in
     let e = k .eliminate .ensures in
-    let w = formed k in
-    (s .pre .0 .parsed .booleans, (s .pre .0 .parsed .rationals, (few-steps w e, (search needs, (s .pre .1 .1 .0, (e .ready, narrow w e))))))
+    let w = formed k in (
+      s .pre .0 .parsed .booleans,
+      (s .pre .0 .parsed .rationals, (few-steps w e, (search needs, (s .pre .1 .1 .0, (e .ready, narrow w e))))),
+    )
 
 same-length : tie.Need-same-length
 same-length c = search needs
@@ -54,7 +58,8 @@ returns c =
     let f = c .before .before in
     let t = f .before .before in
     let k = t .before .before .before .before in
-    rw (f .refuse .ensures .0, f .refuse .ensures .1) (leaves-overflow (formed k) (k .eliminate .ensures) (k .before .before .before .before .before .args .model .now) (t .enum-told .given .1))
+    rw (f .refuse .ensures .0, f .refuse .ensures .1) (leaves-overflow (formed k) (k .eliminate .ensures)
+    (k .before .before .before .before .before .args .model .now) (t .enum-told .given .1))
 
 same-length-2 : tie.Need-same-length-2
 same-length-2 c = search needs
@@ -64,7 +69,8 @@ returns-2 c =
     let f = c .before .before in
     let t = f .before .before in
     let k = t .before .before .before .before in
-    rw (f .refuse2 .ensures .0, f .refuse2 .ensures .1) (leaves-out (formed k) (k .eliminate .ensures) (k .before .before .before .before .before .args .model .now) (t .enum-told2 .given .1))
+    rw (f .refuse2 .ensures .0, f .refuse2 .ensures .1) (leaves-out (formed k) (k .eliminate .ensures)
+    (k .before .before .before .before .before .args .model .now) (t .enum-told2 .given .1))
 
 same-length-3 : tie.Need-same-length-3
 same-length-3 c = search needs
@@ -78,7 +84,8 @@ returns-3 c =
     let t = f .before .before .before in
     let k = t .before .before .before .before in
     rw (f .without-model .ensures .0, f .without-model .ensures .1 .0, f .without-model .ensures .1 .1)
-    (leaves-empty (formed k) (k .eliminate .ensures) (k .before .before .before .before .before .args .model .now) (t .enum-told3 .given .1))
+    (leaves-empty (formed k) (k .eliminate .ensures) (k .before .before .before .before .before .args .model .now)
+    (t .enum-told3 .given .1))
 
 same-length-5 : tie.Need-same-length-5
 same-length-5 c = search needs
@@ -92,7 +99,8 @@ returns-4 c =
     let t = f .before .before .before in
     let k = t .before .before .before .before in
     rw (f .saturated .ensures .1)
-    (leaves-saturated (formed k) (k .eliminate .ensures) (k .before .before .before .before .before .args .model .now) _ _ (t .enum-told4 .given .1) (f .saturated .ensures .0))
+    (leaves-saturated (formed k) (k .eliminate .ensures) (k .before .before .before .before .before .args .model .now) _ _
+    (t .enum-told4 .given .1) (f .saturated .ensures .0))
 
 pub decide-spec : {M : Type 1} → statement M
 decide-spec =

@@ -2,9 +2,9 @@
 use mathlib.Core.Path.{sym, _∙_}
 use native.Mathlib.Omega.{arith}
 use Rattle.rules.specs.Calls.{read}
-use Rattle.soundness.specs.Lent.{lent-short-proof, lent-short-model, lent-fault, lent-sound}
-use Rattle.reading.specs.Outcome.{outcome-faulty}
-use Rattle.reading.specs.Readable.{readable}
+use Rattle.theory_splitting.specs.Lent.{lent-short-proof, lent-short-model, lent-fault, lent-sound}
+use Rattle.problem_read.specs.Outcome.{outcome-faulty}
+use Rattle.problem_read.specs.Readable.{readable}
 use Rattle.solving.specs.Leaves.{leaves-faulted}
 use borrow.Author.Needs.{needs}
 use Rattle.solving.proofs.solve.solve_within.Statement.{statement}
@@ -22,7 +22,10 @@ returns c =
     let b = t .before in
     let s = b .before .before .before .before in
     let a = s .args in
-    rw (lent-short-proof (a .limits) (a .input .now) (a .proof .now) (a .model .now) (rw (b .proof-bytes .ensures) at (t .if1 .taken)), c .faulted .ensures) (leaves-faulted (a .limits) _ _ (a .proof .now) (a .model .now))
+    rw (
+      lent-short-proof (a .limits) (a .input .now) (a .proof .now) (a .model .now) (rw (b .proof-bytes .ensures) at (t .if1 .taken)),
+      c .faulted .ensures,
+    ) (leaves-faulted (a .limits) _ _ (a .proof .now) (a .model .now))
 
 faulted-requires-2 : tie.Need-faulted-requires-2
 faulted-requires-2 c κs = search needs
@@ -34,7 +37,11 @@ returns-2 c =
     let b = l .before in
     let s = b .before .before .before .before in
     let a = s .args in
-    rw (lent-short-model (a .limits) (a .input .now) (a .proof .now) (a .model .now) (rw (b .proof-bytes .ensures) at (l .if1 .left)) (t .if2 .taken), c .faulted2 .ensures) (leaves-faulted (a .limits) _ _ (a .proof .now) (a .model .now))
+    rw (
+      lent-short-model (a .limits) (a .input .now) (a .proof .now) (a .model .now) (rw (b .proof-bytes .ensures) at (l .if1 .left))
+          (t .if2 .taken),
+      c .faulted2 .ensures,
+    ) (leaves-faulted (a .limits) _ _ (a .proof .now) (a .model .now))
 
 read-requires : tie.Need-read-requires
 read-requires c κs = search needs
@@ -68,7 +75,11 @@ returns-3 c =
     let s = b .before .before .before .before in
     let a = s .args in
     let e = outcome-faulty (read (a .input .now)) _ _ (sym (d .read .ensures) ∙ m .s .given .1) in
-    rw (lent-fault (a .limits) (a .input .now) (a .proof .now) (a .model .now) (rw (b .proof-bytes .ensures) at (l .before .if1 .left)) (l .if2 .left) _ _ e, c .faulted3 .ensures) (leaves-faulted (a .limits) _ _ (a .proof .now) (a .model .now))
+    rw (
+      lent-fault (a .limits) (a .input .now) (a .proof .now) (a .model .now) (rw (b .proof-bytes .ensures) at (l .before .if1 .left))
+          (l .if2 .left) _ _ e,
+      c .faulted3 .ensures,
+    ) (leaves-faulted (a .limits) _ _ (a .proof .now) (a .model .now))
 
 same-length : tie.Need-same-length
 same-length c = search needs
@@ -86,7 +97,8 @@ returns-4 c =
     let s = b .before .before .before .before in
     let a = s .args in
     let r = readable (a .input .now) _ _ _ (sym (d .read .ensures) ∙ m .s2 .given .1) in
-    rw (lent-sound (a .limits) (a .input .now) (a .proof .now) (a .model .now) (rw (b .proof-bytes .ensures) at (l .before .if1 .left)) (l .if2 .left) _ (r .is-read)) (k .decide .ensures)
+    rw (lent-sound (a .limits) (a .input .now) (a .proof .now) (a .model .now) (rw (b .proof-bytes .ensures) at (l .before .if1 .left))
+    (l .if2 .left) _ (r .is-read)) (k .decide .ensures)
 
 pub solve-within-spec : {M : Type 1} → statement M
 solve-within-spec =

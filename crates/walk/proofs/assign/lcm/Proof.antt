@@ -4,9 +4,9 @@ use Prim.Native.Nat.{ℕ, _*_, _/_, _≤_}
 use native.Mathlib.Nat.{div-le-self, mul-le-mul}
 use native.Mathlib.Omega.{arith}
 use borrow.Author.Needs.{needs}
-use Rattle.types.specs.Limits.{amount}
+use Rattle.rules_types.specs.Limits.{amount}
 use Rattle.rules.specs.Arithmetic.{lcm}
-use Rattle.vectors.specs.Gcd.{gcd-positiveˡ}
+use Rattle.theory_vectors.specs.Gcd.{gcd-positiveˡ}
 use Rattle.walk.proofs.assign.lcm.Statement.{statement}
 use Rattle.walk.proofs.assign.lcm.Tie as tie
 

@@ -8,10 +8,10 @@ use lib.ListN.{length, replicate}
 use mir.Syntax.{w64}
 use mir.Val.{toZ}
 use mir.Facts.{toZ-pos}
-use Rattle.types.specs.Limits.{amount}
-use Rattle.vectors.specs.Amounts.{zeros-amounts, amounts-set}
+use Rattle.rules_types.specs.Limits.{amount}
+use Rattle.theory_vectors.specs.Amounts.{zeros-amounts, amounts-set}
 use Rattle.rows.specs.Products.{amount-bits}
-use Rattle.evaluation.specs.Model.{value}
+use Rattle.models.specs.Model.{value}
 use Rattle.walk.specs.Words.{scaled-value}
 use Rattle.walk.proofs.assign.over.Statement.{statement}
 use Rattle.walk.proofs.assign.over.Tie as tie
@@ -45,7 +45,11 @@ combine-rows-requires c κs =
       rw (as-signed (a .k) (p .1 .0)) (p .1 .0),
       (
         rw (amount-bits (a .a) (p .1 .1 .1 .0)) (p .1 .1 .1 .0),
-        (amounts-set (a .numerators) (a .f) (pos 0) (p .0) (omega arith), rw (as-signed (a .m) (p .1 .1 .1 .1)) (amounts-set (replicate 8 (pos 0)) (a .f) (pos (a .m)) (zeros-amounts 8) (p .1 .1 .1 .1))),
+        (
+          amounts-set (a .numerators) (a .f) (pos 0) (p .0) (omega arith),
+          rw (as-signed (a .m) (p .1 .1 .1 .1))
+              (amounts-set (replicate 8 (pos 0)) (a .f) (pos (a .m)) (zeros-amounts 8) (p .1 .1 .1 .1)),
+        ),
       ),
     )
 
@@ -57,7 +61,8 @@ returns c =
     let s = c .before in
     let a = s .args in
     let p = s .pre in
-    let e = rw (as-signed (a .k) (p .1 .0), amount-bits (a .a) (p .1 .1 .1 .0), as-signed (a .m) (p .1 .1 .1 .1)) at (c .combine-rows .ensures) in
+    let e = rw (as-signed (a .k) (p .1 .0), amount-bits (a .a) (p .1 .1 .1 .0), as-signed (a .m) (p .1 .1 .1 .1))
+    at (c .combine-rows .ensures) in
     ap value e ∙ scaled-value (a .a) (pos (a .k)) (pos (a .m)) (a .numerators) (eight s) (a .f) (p .1 .1 .0)
 
 pub over-spec : {M : Type 1} → statement M

@@ -6,12 +6,12 @@ use native.Mathlib.Omega.{arith}
 use borrow.Author.Needs.{needs}
 use lib.IntN.{pos, _*ℤ_}
 use lib.ListN.{length}
-use Rattle.types.specs.Limits.{amount}
+use Rattle.rules_types.specs.Limits.{amount}
 use Rattle.rules.specs.Lists.{put}
-use Rattle.vectors.specs.Lcm.{lcm-positive}
+use Rattle.theory_vectors.specs.Lcm.{lcm-positive}
 use Rattle.fractions.specs.Meaning.{meaning}
 use Rattle.rows.specs.Products.{amount-bits}
-use Rattle.evaluation.specs.Model.{value}
+use Rattle.models.specs.Model.{value}
 use Rattle.walk.specs.Words.{denominator-large, numerators-large, rational-words}
 use Rattle.walk.proofs.assign.with_rational.Statement.{statement}
 use Rattle.walk.proofs.assign.with_rational.Tie as tie
@@ -41,13 +41,18 @@ over-requires c κs =
     let x = s .args .x in
     let h : D ≤ amount = omega (arith, n .if1 .left) in
     let k = div-le-self D (s .args .model .denominator) in
-    let m = div-le-self D (x .denominator) in
-    (s .pre .1 .1 .amounts, (omega arith, (s .pre .0, (rw (amount-bits (x .numerator) (s .pre .1 .0 .numerator)) (s .pre .1 .0 .numerator), omega arith))))
+    let m = div-le-self D (x .denominator) in (
+      s .pre .1 .1 .amounts,
+      (omega arith, (s .pre .0, (rw (amount-bits (x .numerator) (s .pre .1 .0 .numerator)) (s .pre .1 .0 .numerator), omega arith))),
+    )
 
 -- the row that was computed
-scaled : (c : tie.After-over) → let a = c .before .before .before .before .before .before .args in let D = c .before .before .before .before .lcm .result in
-    value (c .over .result) ≡ put (a .f) (a .x .numerator *ℤ pos (D / a .x .denominator)) (λ j. value (a .model .numerators) j *ℤ pos (D / a .model .denominator))
-scaled c = let s = c .before .before .before .before .before .before in rw (amount-bits (s .args .x .numerator) (s .pre .1 .0 .numerator)) at (c .over .ensures)
+scaled : (c : tie.After-over) → let a = c .before .before .before .before .before .before .args in let D =
+    c .before .before .before .before .lcm .result in
+    value (c .over .result) ≡ put (a .f) (a .x .numerator *ℤ pos (D / a .x .denominator))
+    (λ j. value (a .model .numerators) j *ℤ pos (D / a .model .denominator))
+scaled c = let s = c .before .before .before .before .before .before in
+    rw (amount-bits (s .args .x .numerator) (s .pre .1 .0 .numerator)) at (c .over .ensures)
 
 eight : (c : tie.After-over) → length (c .over .result) ≡ 8
 eight c = search (needs, c)
@@ -60,7 +65,8 @@ returns-2 c =
     let o = c .before .before in
     let l = o .before .before .before .before in
     let a = l .before .before .args in
-    numerators-large (a .model) (a .f) (meaning (a .x)) (l .lcm .result) (l .lcm .ensures) (o .over .result) (eight o) (scaled o) (sym (c .before .overflowing-row .ensures) ∙ c .if2 .taken)
+    numerators-large (a .model) (a .f) (meaning (a .x)) (l .lcm .result) (l .lcm .ensures) (o .over .result) (eight o) (scaled o)
+    (sym (c .before .overflowing-row .ensures) ∙ c .if2 .taken)
 
 cast-t13 : tie.Need-cast-t13
 cast-t13 c = search needs
@@ -72,8 +78,10 @@ returns-3 c =
     let l = n .before in
     let s = l .before .before in
     let a = s .args in
-    rational-words (a .model) (a .f) (meaning (a .x)) (l .lcm .result) (l .lcm .ensures) (o .over .result) (eight o) (scaled o) (sym (c .before .overflowing-row .ensures) ∙ c .if2 .left)
-    (rw (l .lcm .ensures) (lcm-positive (a .model .denominator) (a .x .denominator) (s .pre .1 .1 .positive) (s .pre .1 .0 .positive))) (omega (arith, n .if1 .left))
+    rational-words (a .model) (a .f) (meaning (a .x)) (l .lcm .result) (l .lcm .ensures) (o .over .result) (eight o) (scaled o)
+    (sym (c .before .overflowing-row .ensures) ∙ c .if2 .left)
+    (rw (l .lcm .ensures) (lcm-positive (a .model .denominator) (a .x .denominator) (s .pre .1 .1 .positive) (s .pre .1 .0 .positive)))
+    (omega (arith, n .if1 .left))
 
 pub with-rational-spec : {M : Type 1} → statement M
 with-rational-spec =

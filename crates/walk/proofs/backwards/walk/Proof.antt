@@ -5,7 +5,7 @@ use Prim.Native.Nat.{ℕ, suc, _-_, _≤_, _<_}
 use native.Mathlib.Omega.{arith}
 use borrow.Author.Needs.{needs}
 use borrow.Author.Tests.{not-true, not-false}
-use Rattle.proof_lines.specs.Held.{linesIn}
+use Rattle.steps.specs.Lines.{linesIn}
 use Rattle.walk.specs.Narrow.{narrow-lines}
 use Rattle.walk.specs.Backwards.{Walking, walking-start, walking-next, walking-stop, walking-end}
 use Rattle.walk.proofs.backwards.walk.Statement.{statement}
@@ -30,7 +30,8 @@ assign-requires c κs =
     (s .pre .0, (s .pre .1 .0, (omega (arith, l .inv .0, c .loop-test .taken), l .inv .1 .range)))
 
 -- before the round that is walked
-walking : (c : tie.In-loop Inv-loop μ-loop) → let l = c .before .loop in let s = c .before .before .before in Walking (linesIn (s .args .proof .now) (s .args .n)) (suc (l .t - 1)) (l .model)
+walking : (c : tie.In-loop Inv-loop μ-loop) → let l = c .before .loop in let s = c .before .before .before in
+    Walking (linesIn (s .args .proof .now) (s .args .n)) (suc (l .t - 1)) (l .model)
 walking c =
     let l = c .before .loop in
     let s = c .before .before .before in
@@ -61,8 +62,10 @@ loop-again c =
     let s = i .before .before .before in
     let t : a .assign .result .written ≡ true = search (needs, not-true, not-false) in
     let e = rw t at (a .assign .ensures) in
-    let h : l .t - 1 < 40 = omega (arith, l .inv .0, i .loop-test .taken) in
-    (omega (arith, h), walking-next (linesIn (s .args .proof .now) (s .args .n)) (l .t - 1) h (l .model) (walking i) (a .assign .result .model) e)
+    let h : l .t - 1 < 40 = omega (arith, l .inv .0, i .loop-test .taken) in (
+      omega (arith, h),
+      walking-next (linesIn (s .args .proof .now) (s .args .n)) (l .t - 1) h (l .model) (walking i) (a .assign .result .model) e,
+    )
 
 returns-2 : tie.Need-returns-2 Inv-loop μ-loop
 returns-2 c =

@@ -3,10 +3,10 @@ use mathlib.Core.Path.{_≡_, subst}
 use Prim.Native.Nat.{ℕ, _+_, _-_}
 use native.Mathlib.Omega.{arith}
 use borrow.Author.Needs.{needs}
-use Rattle.saturation.specs.Order.{variableAt, rational-at, boolean-at}
-use Rattle.proof_lines.specs.Held.{linesIn}
-use Rattle.evaluation.specs.Model.{assignment}
-use Rattle.gathering.specs.Round.{own}
+use Rattle.theory_saturation.specs.Order.{variableAt, rational-at, boolean-at}
+use Rattle.steps.specs.Lines.{linesIn}
+use Rattle.models.specs.Model.{assignment}
+use Rattle.values.specs.Round.{own}
 use Rattle.walk.specs.Outcome.{Assigned}
 use Rattle.walk.proofs.round.assign.Statement.{statement}
 use Rattle.walk.proofs.round.assign.Tie as tie
@@ -30,7 +30,8 @@ returns-2 c =
     let r = c .assign-boolean .result in
     let i = s .args .t - 8 in
     let e : 8 + i ≡ s .args .t = omega (arith, c .before .if2 .taken) in
-    subst (λ (t : ℕ). Assigned (r .written) (r .model) (variableAt t) (own t (linesIn (s .args .proof .now) (s .args .n))) (assignment (s .args .model))) e
+    subst (λ (t : ℕ). Assigned (r .written) (r .model) (variableAt t) (own t (linesIn (s .args .proof .now) (s .args .n)))
+    (assignment (s .args .model))) e
     (rw (boolean-at i (omega (arith, s .pre .1 .1 .0, c .before .if2 .taken))) (c .assign-boolean .ensures))
 
 returns-3 : tie.Need-returns-3

@@ -1,10 +1,10 @@
 -- `round::assign_rational` meets its contract. Assumes nothing.
 use borrow.Author.Needs.{needs}
 use Rattle.fractions.specs.Meaning.{meaning}
-use Rattle.proof_lines.specs.Held.{linesIn}
-use Rattle.evaluation.specs.Model.{assignment}
-use Rattle.gathering.specs.Round.{own}
-use Rattle.gathering.specs.Chosen.{Value}
+use Rattle.steps.specs.Lines.{linesIn}
+use Rattle.models.specs.Model.{assignment}
+use Rattle.values.specs.Round.{own}
+use Rattle.values.specs.Chosen.{Value}
 use Rattle.walk.specs.Outcome.{assigned-by}
 use Rattle.walk.proofs.round.assign_rational.Statement.{statement}
 use Rattle.walk.proofs.round.assign_rational.Tie as tie
@@ -15,7 +15,8 @@ rational-value-requires c κs = search needs
 returns : tie.Need-returns
 returns c = rw (rw (c .if1 .taken) at (c .before .rational-value .ensures))
 
-chosen : (c : tie.Else1) → let s = c .before .before .before in Value (assignment (s .args .model)) (s .args .f) (linesIn (s .args .proof .now) (s .args .n)) (meaning (c .before .rational-value .result .value))
+chosen : (c : tie.Else1) → let s = c .before .before .before in Value (assignment (s .args .model)) (s .args .f)
+    (linesIn (s .args .proof .now) (s .args .n)) (meaning (c .before .rational-value .result .value))
 chosen c = rw (c .if1 .left) at (c .before .rational-value .ensures)
 
 with-rational-requires : tie.Need-with-rational-requires
@@ -25,7 +26,9 @@ returns-2 : tie.Need-returns-2
 returns-2 c =
     let v = chosen (c .before .before) in
     let s = c .before .before .before .before .before in
-    assigned-by (assignment (s .args .model)) (s .args .f) (own (s .args .f) (linesIn (s .args .proof .now) (s .args .n))) (meaning (c .before .before .before .rational-value .result .value)) (v .same) (v .none) (c .with-rational .result .written) (c .with-rational .result .model)
+    assigned-by (assignment (s .args .model)) (s .args .f) (own (s .args .f) (linesIn (s .args .proof .now) (s .args .n)))
+    (meaning (c .before .before .before .rational-value .result .value)) (v .same) (v .none) (c .with-rational .result .written)
+    (c .with-rational .result .model)
     (c .with-rational .ensures)
 
 pub assign-rational-spec : {M : Type 1} → statement M

@@ -3,7 +3,7 @@ use borrow.Author.Needs.{needs}
 use borrow.Author.Tests.{lt-ltb, le-ltb}
 use mathlib.Core.Path.{_≡_}
 use lib.IntN.{natAbs}
-use Rattle.types.specs.Limits.{amount}
+use Rattle.rules_types.specs.Limits.{amount}
 use Rattle.rules.specs.Values.{beyond}
 use Rattle.fractions.proofs.Signed.{returned}
 use Rattle.fractions.proofs.fraction.Fraction.beyond.Statement.{statement}

@@ -19,8 +19,10 @@ returns c =
     let s = c .before .before .before .before in
     let x = s .args .self in
     let y = s .args .other in
-    rw
-    (crossed (l .result) (x .numerator) (y .denominator) (l .ok) (s .pre .0 .numerator) (l .ensures), crossed (r .result) (y .numerator) (x .denominator) (r .ok) (s .pre .1 .numerator) (r .ensures))
+    rw (
+      crossed (l .result) (x .numerator) (y .denominator) (l .ok) (s .pre .0 .numerator) (l .ensures),
+      crossed (r .result) (y .numerator) (x .denominator) (r .ok) (s .pre .1 .numerator) (r .ensures),
+    )
 
 pub less-spec : {M : Type 1} → statement M
 less-spec = tie.close (tie.spec cross-requires cross-requires-2 returns)

@@ -17,29 +17,36 @@ cross-requires c κs = search needs
 cross-requires-2 : tie.Need-cross-requires-2
 cross-requires-2 c κs = search needs
 
-left : (c : tie.After-cross) → toZ w64 (ofZ w64 (c .cross .result)) ≡ c .before .before .args .self .numerator *ℤ pos (c .before .before .args .other .denominator)
+left : (c : tie.After-cross)
+    → toZ w64 (ofZ w64 (c .cross .result)) ≡ c .before .before .args .self .numerator *ℤ pos (c .before .before .args .other .denominator)
 left c =
     let s = c .before .before in
-    crossed (c .cross .result) (s .args .self .numerator) (s .args .other .denominator) (c .cross .ok) (s .pre .0 .numerator) (c .cross .ensures)
+    crossed (c .cross .result) (s .args .self .numerator) (s .args .other .denominator) (c .cross .ok)
+    (s .pre .0 .numerator) (c .cross .ensures)
 
-right : (c : tie.After-cross2) → toZ w64 (ofZ w64 (c .cross2 .result)) ≡ c .before .before .before .before .args .other .numerator *ℤ pos (c .before .before .before .before .args .self .denominator)
+right : (c : tie.After-cross2) → toZ w64 (ofZ w64 (c .cross2 .result))
+    ≡ c .before .before .before .before .args .other .numerator *ℤ pos (c .before .before .before .before .args .self .denominator)
 right c =
     let s = c .before .before .before .before in
-    crossed (c .cross2 .result) (s .args .other .numerator) (s .args .self .denominator) (c .cross2 .ok) (s .pre .1 .numerator) (c .cross2 .ensures)
+    crossed (c .cross2 .result) (s .args .other .numerator) (s .args .self .denominator) (c .cross2 .ok)
+    (s .pre .1 .numerator) (c .cross2 .ensures)
 
 sum-requires : tie.Need-sum-requires
 sum-requires c κs =
     let s = c .before .before .before .before in
     let x = s .args .self in
     let y = s .args .other in
-    rw (left (c .before .before), right c)
-    (cross-≤ (x .numerator) (y .denominator) (s .pre .0 .numerator) (s .pre .1 .denominator), cross-≤ (y .numerator) (x .denominator) (s .pre .1 .numerator) (s .pre .0 .denominator))
+    rw (left (c .before .before), right c) (
+      cross-≤ (x .numerator) (y .denominator) (s .pre .0 .numerator) (s .pre .1 .denominator),
+      cross-≤ (y .numerator) (x .denominator) (s .pre .1 .numerator) (s .pre .0 .denominator),
+    )
 
 twice-requires : tie.Need-twice-requires
 twice-requires c κs = search needs
 
 -- the numerator
-total : (c : tie.After-sum) → toZ w64 (ofZ w64 (c .sum .result)) ≡ toZ w64 (ofZ w64 (c .before .before .before .cross .result)) +ℤ toZ w64 (ofZ w64 (c .before .cross2 .result))
+total : (c : tie.After-sum) → toZ w64 (ofZ w64 (c .sum .result))
+    ≡ toZ w64 (ofZ w64 (c .before .before .before .cross .result)) +ℤ toZ w64 (ofZ w64 (c .before .cross2 .result))
 total c = returned (c .sum .result) (c .sum .ok) ∙ c .sum .ensures
 
 reduced-requires : tie.Need-reduced-requires
@@ -51,7 +58,12 @@ reduced-requires c κs =
 returns : tie.Need-returns
 unfolding midpoint
 returns c =
-    rw (total (c .before .before), left (c .before .before .before .before .before), right (c .before .before .before), c .before .twice .ensures) at (c .reduced .ensures)
+    rw (
+      total (c .before .before),
+      left (c .before .before .before .before .before),
+      right (c .before .before .before),
+      c .before .twice .ensures,
+    ) at (c .reduced .ensures)
 
 pub midpoint-spec : {M : Type 1} → statement M
 midpoint-spec =

@@ -15,18 +15,22 @@ cross-requires : tie.Need-cross-requires
 cross-requires c κs = rw (same (c .args .z) (omega arith)) (omega arith)
 
 added : (c : tie.After-cross) → toZ w64 (ofZ w64 (c .cross .result)) ≡ c .before .args .z *ℤ pos (c .before .args .self .denominator)
-added c = crossed (c .cross .result) (c .before .args .z) (c .before .args .self .denominator) (c .cross .ok) (omega arith) (c .cross .ensures)
+added c = crossed (c .cross .result) (c .before .args .z) (c .before .args .self .denominator) (c .cross .ok)
+    (omega arith) (c .cross .ensures)
 
 sum-requires : tie.Need-sum-requires
 sum-requires c κs =
     let s = c .before .before in
     let x = s .args .self in
-    rw (same (x .numerator) (omega arith), added (c .before)) (omega arith, cross-≤ (s .args .z) (x .denominator) (omega arith) (omega arith))
+    rw (same (x .numerator) (omega arith), added (c .before))
+    (omega arith, cross-≤ (s .args .z) (x .denominator) (omega arith) (omega arith))
 
-total : (c : tie.After-sum) → toZ w64 (ofZ w64 (c .sum .result)) ≡ c .before .before .before .args .self .numerator +ℤ c .before .before .before .args .z *ℤ pos (c .before .before .before .args .self .denominator)
+total : (c : tie.After-sum) → toZ w64 (ofZ w64 (c .sum .result)) ≡ c .before .before .before .args .self .numerator +ℤ
+    c .before .before .before .args .z *ℤ pos (c .before .before .before .args .self .denominator)
 total c =
     let s = c .before .before .before in
-    returned (c .sum .result) (c .sum .ok) ∙ (rw (same (s .args .self .numerator) (omega arith), added (c .before .before)) at (c .sum .ensures))
+    returned (c .sum .result) (c .sum .ok)
+    ∙ (rw (same (s .args .self .numerator) (omega arith), added (c .before .before)) at (c .sum .ensures))
 
 reduced-requires : tie.Need-reduced-requires
 reduced-requires c κs =

@@ -32,13 +32,15 @@ sized : (c : tie.After-size) → c .size .result ≡ natAbs (c .before .args .a)
 sized c = rw (same (c .before .args .a) (omega arith)) at (c .size .ensures)
 
 mul-e : tie.Need-mul-e
-mul-e c = let s = c .before in rw (sized c) (denominators-fit (natAbs (s .args .a)) (s .args .d) (s .pre .coefficient) (s .pre .denominator))
+mul-e c = let s = c .before in
+    rw (sized c) (denominators-fit (natAbs (s .args .a)) (s .args .d) (s .pre .coefficient) (s .pre .denominator))
 
 negated-requires : tie.Need-negated-requires
 negated-requires c κs = rw (same (c .before .before .args .n) (omega arith)) (omega arith)
 
 negative : (c : tie.After-negated) → toZ w64 (ofZ w64 (c .negated .result)) ≡ negℤ (c .before .before .before .args .n)
-negative c = returned (c .negated .result) (c .negated .ok) ∙ (rw (same (c .before .before .before .args .n) (omega arith)) at (c .negated .ensures))
+negative c = returned (c .negated .result) (c .negated .ok)
+    ∙ (rw (same (c .before .before .before .args .n) (omega arith)) at (c .negated .ensures))
 
 reduced-requires : tie.Need-reduced-requires
 reduced-requires c κs =
@@ -51,7 +53,8 @@ returns : tie.Need-returns
 returns c =
     let s = c .before .before .before .before in
     let t = rw (same (s .args .a) (omega arith)) at (c .before .before .if1 .taken) in
-    (rw (negative (c .before), sized (c .before .before .before)) at (c .reduced .ensures)) ∙ sym (by-negative (s .args .n) (s .args .a) (s .args .d) t)
+    (rw (negative (c .before), sized (c .before .before .before)) at (c .reduced .ensures))
+    ∙ sym (by-negative (s .args .n) (s .args .a) (s .args .d) t)
 
 reduced-requires-2 : tie.Need-reduced-requires-2
 reduced-requires-2 c κs =
@@ -62,7 +65,8 @@ returns-2 : tie.Need-returns-2
 returns-2 c =
     let s = c .before .before .before in
     let t = rw (same (s .args .a) (omega arith)) at (c .before .if1 .left) in
-    (rw (same (s .args .n) (omega arith), sized (c .before .before)) at (c .reduced2 .ensures)) ∙ sym (by-positive (s .args .n) (s .args .a) (s .args .d) t)
+    (rw (same (s .args .n) (omega arith), sized (c .before .before)) at (c .reduced2 .ensures))
+    ∙ sym (by-positive (s .args .n) (s .args .a) (s .args .d) t)
 
 pub quotient-spec : {M : Type 1} → statement M
 quotient-spec =

@@ -17,7 +17,8 @@ is-negative-requires c κs = search needs
 
 returns : tie.Need-returns
 unfolding negatively
-returns c = let s = c .before .before in coefficient-test isNegative (s .args .t1) (s .args .f) (s .pre .1) (search (needs, c .before)) (c .is-negative .ensures)
+returns c = let s = c .before .before in
+    coefficient-test isNegative (s .args .t1) (s .args .f) (s .pre .1) (search (needs, c .before)) (c .is-negative .ensures)
 
 pub has-negative-rational-spec : {M : Type 1} → statement M
 has-negative-rational-spec =

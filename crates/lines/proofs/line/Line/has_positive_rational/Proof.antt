@@ -17,7 +17,8 @@ is-positive-requires c κs = search needs
 
 returns : tie.Need-returns
 unfolding positively
-returns c = let s = c .before .before in coefficient-test isPositive (s .args .t1) (s .args .f) (s .pre .1) (search (needs, c .before)) (c .is-positive .ensures)
+returns c = let s = c .before .before in
+    coefficient-test isPositive (s .args .t1) (s .args .f) (s .pre .1) (search (needs, c .before)) (c .is-positive .ensures)
 
 pub has-positive-rational-spec : {M : Type 1} → statement M
 has-positive-rational-spec =

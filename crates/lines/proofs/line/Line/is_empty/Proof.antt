@@ -12,7 +12,8 @@ use Rattle.lines.proofs.line.Line.is_empty.Statement.{statement}
 use Rattle.lines.proofs.line.Line.is_empty.Tie as tie
 
 -- what is to be told, at the function's entry
-law : (s : tie.Start) → isEmpty (meaning (s .args .self)) ≡ eqb (s .args .self .positive) 0 && eqb (s .args .self .negative) 0 && eqb (s .args .self .relation) 0
+law : (s : tie.Start) → isEmpty (meaning (s .args .self)) ≡ eqb (s .args .self .positive) 0 && eqb (s .args .self .negative) 0
+    && eqb (s .args .self .relation) 0
 law s =
     let h : s .args .self .positive < 2 ^ 32 = search (needs, s .good) in
     let k : s .args .self .negative < 2 ^ 32 = search (needs, s .good) in
@@ -29,7 +30,10 @@ returns-2 c =
 returns-3 : tie.Need-returns-3
 returns-3 c =
     let s = c .before .before .before .before .before in
-    sym (law s ∙ rw (eq-eqb (s .args .self .positive) 0 (c .before .before .before .if1 .left), eq-eqb (s .args .self .negative) 0 (c .before .if2 .left)))
+    sym (law s ∙ rw (
+      eq-eqb (s .args .self .positive) 0 (c .before .before .before .if1 .left),
+      eq-eqb (s .args .self .negative) 0 (c .before .if2 .left),
+    ))
 
 pub is-empty-spec : {M : Type 1} → statement M
 is-empty-spec = tie.close (tie.spec returns returns-2 returns-3)

@@ -29,7 +29,8 @@ returns-2 c =
     let s = c .before .before .before .before .before in
     let l = s .args .self in
     let f : SFits w64 (l .bound) = search (needs, c .before) in
-    let e : any (λ z. not (inRange z)) (l .coefficients) ≡ false = sym (c .before .before .before .overflowing-row .ensures) ∙ c .before .before .if1 .left in
+    let e : any (λ z. not (inRange z)) (l .coefficients) ≡ false = sym (c .before .before .before .overflowing-row .ensures)
+    ∙ c .before .before .if1 .left in
     ap not (rw (toZ-ofZ f) at (c .in-range .ensures)) ∙ sym (overflows-is l (s .pre) ∙ rw e)
 
 pub overflows-spec : {M : Type 1} → statement M

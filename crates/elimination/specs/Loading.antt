@@ -1,0 +1,133 @@
+-- The parts of all clauses put behind one another.
+use mathlib.Core.Path.{_≡_, refl, sym, ap, _∙_}
+use mathlib.Core.Bool.{true, false}
+use mathlib.Core.List.{List, [], _∷_, _++_}
+use Prim.Native.Nat.{ℕ, suc, _+_, _*_, _-_, _≤_, _<_}
+use native.Mathlib.Numerals.{add-one}
+use native.Mathlib.Omega.{arith}
+use lib.ListN.{length}
+use Rattle.rules_types.specs.declared.limits.Limits.{Limits}
+use Rattle.rules.specs.Lists.{tabulate}
+use Rattle.rules.specs.Problem.{Clause}
+use Rattle.rules.specs.Split.{partsOf, splitsOf}
+use Rattle.rules.specs.Steps.{Step}
+use Rattle.rules.specs.Needs.{pairsOf}
+use Rattle.rules.specs.Elimination.{Stops, State, running, ended, limited, partSteps, loadable, loadableOf, add, load}
+use Rattle.theory_elimination.specs.PairBound.{load-pairs}
+use Rattle.problem_scan.specs.Values.{clauseAt, clauseEnd}
+use Rattle.problem_scan.specs.Sound.{SoundClause}
+use Rattle.problem_read.specs.Clauses.{clausesAt, clauses-next}
+use Rattle.problem_read.specs.Parsed.{problemAt}
+use Rattle.problem_read.specs.Readable.{Readable, Ahead, ahead-start, ahead-sound, ahead-few, ahead-next}
+use Rattle.placing.specs.declared.place.Progress.the-variants.{Running}
+use Rattle.placing.specs.declared.place.Point.{Point}
+use Rattle.steps.specs.Held.{stepsIn}
+use Rattle.placing.specs.Point.{stateOf, stateAt, Standing, Leads, leads-none, leads-trans, pairs-at, isRunning, running-yes, Reaches}
+use Rattle.elimination.specs.LoadedParts.{load-stays}
+
+-- before the first
+abbrev pub origin : Point
+origin = record { progress = Running; steps = 0; pairs = 0 }
+
+pub standing-origin : (limits : Limits) (proof : List ℕ) → 64 * limits .steps ≤ length proof → Standing limits proof 0
+standing-origin limits proof h = record {
+  held = record { room = omega arith; steps = λ i k. absurd (omega arith) };
+  few = omega arith;
+  room = h;
+}
+
+-- ---- loading part by part, and its count of pairs
+load-append : (stops : Stops) (xs ys : List Step) (state : State) → load stops (xs ++ ys) state ≡ load stops ys (load stops xs state)
+unfolding load
+load-append stops [] ys state = refl
+load-append stops (x ∷ xs) [] (ended e steps n) = refl
+load-append stops (x ∷ xs) (y ∷ ys) (ended e steps n) = refl
+load-append stops (x ∷ xs) ys (running steps n) = load-append stops xs ys (add stops false x steps n)
+
+pub no-pairs : {limits : Limits} {start : List ℕ} {from : Point} {proof : List ℕ} {p : Point} (xs : List Step)
+    → Reaches limits start from proof p (load (limited limits) xs (running [] 0)) → p .pairs ≡ 0
+unfolding pairsOf
+no-pairs {limits} {proof = proof} {p = p} xs r = sym (pairs-at proof p) ∙ ap pairsOf (r .is) ∙ load-pairs (limited limits) xs (running [] 0)
+
+-- ---- at the loop's test
+-- the clauses from `clause` on, at their place, come to what all of them come to
+pub record AtClause (limits : Limits) (q : List ℕ) (b r n : ℕ) (start proof : List ℕ) (p : Point) (at split clause : ℕ) : Type 0 where
+  pub going : p .progress ≡ Running
+  pub few : clause ≤ n
+  pub low : b ≤ split
+  pub ahead : Ahead q r (n - clause) at (split - b)
+  pub leads : Leads limits start 0 proof (p .steps)
+  pub same : load (limited limits) (loadable clause split (clausesAt q r (n - clause) at)) (stateAt proof p)
+      ≡ load (limited limits) (loadableOf (problemAt q b r n)) (running [] 0)
+
+module _ {limits : Limits} {q : List ℕ} {b r n : ℕ} {start : List ℕ} where
+  pub clauses-start : Readable q b r n → 64 * limits .steps ≤ length start → AtClause limits q b r n start start origin 4 b 0
+  unfolding stateAt stateOf stepsIn tabulate loadableOf
+  clauses-start h l =
+      let e : n - 0 ≡ n = omega arith in
+      let f : b - b ≡ 0 = omega arith in
+      record {
+        going = refl;
+        few = omega arith;
+        low = omega arith;
+        ahead = rw (e, f) (ahead-start h);
+        leads = leads-none (standing-origin limits start l);
+        same = rw e;
+      }
+
+  module _ {proof : List ℕ} {p : Point} {at split clause : ℕ} (a : AtClause limits q b r n start proof p at split clause) where
+    pub clauses-done : n ≤ clause
+        → Reaches limits start origin proof p (load (limited limits) (loadableOf (problemAt q b r n)) (running [] 0))
+    unfolding loadable load clausesAt
+    clauses-done h = let e : 0 ≡ n - clause = omega arith in record {
+      is = ap (λ (k : ℕ). load (limited limits) (loadable clause split (clausesAt q r k at)) (stateAt proof p)) e ∙ a .same;
+      leads = a .leads;
+    }
+
+    module _ (more : clause < n) where
+      left : 0 < n - clause
+      left = omega arith
+
+      pub clause-sound : SoundClause q r at
+      clause-sound = ahead-sound (a .ahead) left
+
+      pub clause-splits : split - b + splitsOf (clauseAt q r at) ≤ 16
+      clause-splits = ahead-few (a .ahead) left
+
+      module _ {after : List ℕ} {x : Point} (reaches : Reaches limits proof p after x
+          (load (limited limits) (partSteps clause 0 (partsOf split (clauseAt q r at))) (stateAt proof p))) where
+        tried : load (limited limits) (loadable (suc clause) (split + splitsOf (clauseAt q r at))
+            (clausesAt q r (n - clause - 1) (clauseEnd q r at))) (stateAt after x)
+            ≡ load (limited limits) (loadableOf (problemAt q b r n)) (running [] 0)
+        unfolding loadable
+        tried =
+            let c = clauseAt q r at in
+            let rest = loadable (suc clause) (split + splitsOf c) (clausesAt q r (n - clause - 1) (clauseEnd q r at)) in
+            ap (load (limited limits) rest) (reaches .is)
+            ∙ sym (load-append (limited limits) (partSteps clause 0 (partsOf split c)) rest (stateAt proof p))
+            ∙ ap (λ (cs : List Clause). load (limited limits) (loadable clause split cs) (stateAt proof p))
+            (sym (clauses-next q r (n - clause) at left))
+            ∙ a .same
+
+        pub clause-next : isRunning (x .progress) ≡ true
+            → AtClause limits q b r n start after x (clauseEnd q r at) (split + splitsOf (clauseAt q r at)) (clause + 1)
+        clause-next g =
+            let e : n - (clause + 1) ≡ n - clause - 1 = omega arith in
+            let f : split + splitsOf (clauseAt q r at) - b ≡ split - b + splitsOf (clauseAt q r at) = omega (arith, a .low) in
+            record {
+              going = running-yes (x .progress) g;
+              few = omega arith;
+              low = omega (arith, a .low);
+              ahead = rw (e, f) (ahead-next (a .ahead) left);
+              leads = leads-trans (a .leads) (reaches .leads);
+              same = rw (e, add-one clause) tried;
+            }
+
+        pub clause-ended : isRunning (x .progress) ≡ false
+            → Reaches limits start origin after x (load (limited limits) (loadableOf (problemAt q b r n)) (running [] 0))
+        clause-ended g =
+            record {
+              is = load-stays limits (loadable (suc clause) (split + splitsOf (clauseAt q r at))
+                  (clausesAt q r (n - clause - 1) (clauseEnd q r at))) after x g ∙ tried;
+              leads = leads-trans (a .leads) (reaches .leads);
+            }

@@ -1,1 +1,0 @@
-// Laws of the encodings: specs/. There is no code here.

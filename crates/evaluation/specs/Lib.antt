@@ -1,3 +1,0 @@
-pub mod Model
-pub mod Sum
-pub mod Scan

@@ -1,0 +1,58 @@
+-- `printing::steps::print_steps` meets its contract. The measure is the number of steps left. Assumes nothing.
+use Prim.Native.Nat.{_≤_, _-_}
+use borrow.Author.Needs.{needs}
+use Rattle.jemuling_solve.proofs.proof.print_steps.Statement.{statement}
+use Rattle.jemuling_solve.proofs.proof.print_steps.Tie as tie
+
+abbrev Inv-loop : tie.InvT-loop
+Inv-loop proof n count i₀ i = i ≤ count
+
+abbrev μ-loop : tie.MeasureT-loop
+μ-loop proof n count i₀ i = count - i
+
+slice-aggregate-print-count : tie.Need-slice-aggregate-print-count Inv-loop μ-loop
+slice-aggregate-print-count c = search needs
+
+print-count-requires : tie.Need-print-count-requires Inv-loop μ-loop
+print-count-requires c κs = search needs
+
+held-requires : tie.Need-held-requires Inv-loop μ-loop
+held-requires c κs = search needs
+
+loop-holds : tie.Need-loop-holds Inv-loop μ-loop
+loop-holds c = search needs
+
+mul-print-step : tie.Need-mul-print-step Inv-loop μ-loop
+mul-print-step c = search needs
+
+print-step-requires : tie.Need-print-step-requires Inv-loop μ-loop
+print-step-requires c κs = search needs
+
+add-i : tie.Need-add-i Inv-loop μ-loop
+add-i c = search needs
+
+loop-less : tie.Need-loop-less Inv-loop μ-loop
+loop-less c = search needs
+
+loop-again : tie.Need-loop-again Inv-loop μ-loop
+loop-again c = search needs
+
+returns : tie.Need-returns Inv-loop μ-loop
+returns c = search needs
+
+pub print-steps-spec : {M : Type 1} → statement M
+print-steps-spec =
+    tie.close
+    (tie.spec
+    Inv-loop
+    μ-loop
+    slice-aggregate-print-count
+    print-count-requires
+    held-requires
+    loop-holds
+    mul-print-step
+    print-step-requires
+    add-i
+    loop-less
+    loop-again
+    returns)

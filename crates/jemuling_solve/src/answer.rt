@@ -1,0 +1,60 @@
+// The answer's first line, and what follows it.
+use crate::model::print_model;
+use crate::proof::print_steps;
+use crate::text::Text;
+use rules_types::answers::Answer;
+use rules_types::answers::Solved;
+use rules_types::answers::Verdict;
+ghost use Prim.Native.Nat.{_≤_};
+
+// "refused with number, place, pairs"
+pub fn print_refusal(number: u8, place: usize, pairs: u64) {
+    let start = Text::empty();
+    let head = start.word(b"refused");
+    let numbered = head.then(number as u64);
+    let placed = numbered.then(place as u64);
+    let line = placed.then(pairs);
+    line.print();
+}
+
+// The verdict's word, steps and pairs.
+pub fn print_verdict(word: &[u8], steps: usize, pairs: u64) {
+    let start = Text::empty();
+    let head = start.word(word);
+    let counted = head.then(steps as u64);
+    let line = counted.then(pairs);
+    line.print();
+}
+
+fn print_decided(v: Verdict, n: usize, pairs: u64, proof: &[u8], model: &[u8])
+    requires { do ⌜ 64 ≤ (← ⟦model.len()⟧) ⌝ }
+{
+    match v {
+        Verdict::Satisfiable => {
+            print_verdict(b"agrees", n, pairs);
+            print_model(model);
+        }
+        Verdict::Unsatisfiable => {
+            print_verdict(b"cannot", n, pairs);
+            print_steps(proof, n);
+        }
+        Verdict::Unwritten => {
+            print_verdict(b"unwritten", n, pairs);
+        }
+    }
+}
+
+pub fn print_solved(solved: Solved, proof: &[u8], model: &[u8])
+    requires { do ⌜ 64 ≤ (← ⟦model.len()⟧) ⌝ }
+{
+    let answer = solved.answer;
+    let pairs = solved.pairs;
+    match answer {
+        Answer::Decided(v, n) => {
+            print_decided(v, n, pairs, proof, model);
+        }
+        Answer::Refused(f, place) => {
+            print_refusal(f.number(), place, pairs);
+        }
+    }
+}

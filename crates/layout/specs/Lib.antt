@@ -1,4 +1,0 @@
-pub mod Bytes
-pub mod Amounts
-pub mod Fields
-pub mod Headers

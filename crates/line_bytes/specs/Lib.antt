@@ -1,4 +1,0 @@
-pub mod Encoding
-pub mod Parts
-pub mod Decoding
-pub mod Places

@@ -1,0 +1,65 @@
+// "A clause holds if one literal or condition holds".
+use crate::constraint::constraint_holds;
+use crate::literal::literal_holds;
+use models::model::Model;
+use problem_clauses::places::count_place;
+ghost use mathlib.Core.Path.{_≡_};
+ghost use Prim.Native.Nat.{_+_, _*_, _≤_};
+ghost use lib.ListN.{length};
+ghost use Rattle.rules.specs.Lists.{any};
+ghost use Rattle.rules.specs.Meaning.{literalHolds, constraintHolds, clauseHolds};
+ghost use Rattle.theory_vectors.specs.Amounts.{Amounts};
+ghost use Rattle.problem_scan.specs.Values.{valuesAt, behind, literalAt, constraintAt, clauseAt};
+ghost use Rattle.problem_scan.specs.Sound.{Each, SoundConstraint, SoundClause};
+ghost use Rattle.models.specs.Model.{assignment};
+
+// Of so many literals.
+fn any_literal(q: &[u8], from: usize, count: u8, model: Model) -> bool
+    requires { ⌜ behind 1 count from ≤ length (now q) ⌝ }
+    ensures { λ t. ⌜ t ≡ any (literalHolds (assignment model)) (valuesAt (literalAt (now (q .entry))) 1 count from) ⌝ }
+{
+    let mut at = from;
+    let mut left = count;
+    while 0 < left {
+        if literal_holds(q[at], model) {
+            return true;
+        }
+        at += 1;
+        left -= 1;
+    }
+    false
+}
+
+// Of so many constraints.
+fn any_constraint(q: &[u8], from: usize, r: u8, count: u8, model: Model) -> bool
+    requires { ⌜ r ≤ 8 ⌝ }
+    requires { ⌜ behind (5 + r * 4) count from ≤ length (now q) ⌝ }
+    requires { ⌜ Each (SoundConstraint (now q) r) (5 + r * 4) count from ⌝ }
+    requires { ⌜ Amounts (model .numerators) ⌝ }
+    ensures { λ t. ⌜ t ≡ any (constraintHolds (assignment model)) (valuesAt (constraintAt (now (q .entry)) r) (5 + r * 4) count from) ⌝ }
+{
+    let size = 5 + (r as usize) * 4;
+    let mut at = from;
+    let mut left = count;
+    while 0 < left {
+        if constraint_holds(q, at, r, model) {
+            return true;
+        }
+        at += size;
+        left -= 1;
+    }
+    false
+}
+
+pub fn clause_holds(q: &[u8], at: usize, r: u8, model: Model) -> bool
+    requires { ⌜ r ≤ 8 ⌝ }
+    requires { ⌜ SoundClause (now q) r at ⌝ }
+    requires { ⌜ Amounts (model .numerators) ⌝ }
+    ensures { λ t. ⌜ t ≡ clauseHolds (assignment model) (clauseAt (now (q .entry)) r at) ⌝ }
+{
+    let place = count_place(q, at);
+    if any_literal(q, at + 1, q[at], model) {
+        return true;
+    }
+    any_constraint(q, place + 1, r, q[place], model)
+}

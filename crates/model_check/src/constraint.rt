@@ -1,0 +1,52 @@
+// Whether a constraint holds: "compares the sum of coefficient × numerator with bound × denominator".
+use fields::amount_at;
+use models::model::Model;
+use rows::product::plus_product;
+use rows::product::scaled;
+ghost use mathlib.Core.Path.{_≡_};
+ghost use Prim.Native.Nat.{_+_, _≤_};
+ghost use lib.ListN.{length};
+ghost use Rattle.rules.specs.Arithmetic.{sum};
+ghost use Rattle.rules.specs.Meaning.{constraintHolds};
+ghost use Rattle.theory_vectors.specs.Amounts.{Amounts};
+ghost use Rattle.problem_scan.specs.Values.{valuesAt, behind, amountAt, constraintAt};
+ghost use Rattle.problem_scan.specs.Sound.{Each, Amount, SoundConstraint};
+ghost use Rattle.models.specs.Model.{assignment, value};
+
+// Of so many coefficients.
+fn sum(q: &[u8], from: usize, count: u8, numerators: [i64; 8]) -> i64
+    requires { ⌜ count ≤ 8 ⌝ }
+    requires { ⌜ behind 4 count from ≤ length (now q) ⌝ }
+    requires { ⌜ Each (Amount (now q)) 4 count from ⌝ }
+    requires { ⌜ Amounts numerators ⌝ }
+    ensures { λ s. ⌜ s ≡ sum (valuesAt (amountAt (now (q .entry))) 4 count from) (value numerators) ⌝ }
+{
+    let mut at = from;
+    let mut left = count;
+    let mut i = 0;
+    let mut total = 0 as i64;
+    while 0 < left {
+        let z = amount_at(q, at);
+        let x = numerators[i];
+        total = plus_product(total, z, x);
+        at += 4;
+        left -= 1;
+        i += 1;
+    }
+    total
+}
+
+pub fn constraint_holds(q: &[u8], at: usize, r: u8, model: Model) -> bool
+    requires { ⌜ r ≤ 8 ⌝ }
+    requires { ⌜ SoundConstraint (now q) r at ⌝ }
+    requires { ⌜ Amounts (model .numerators) ⌝ }
+    ensures { λ t. ⌜ t ≡ constraintHolds (assignment model) (constraintAt (now (q .entry)) r at) ⌝ }
+{
+    let numerators = model.numerators;
+    let s = sum(q, at + 1, r, numerators);
+    let b = scaled(amount_at(q, at + 1 + (r as usize) * 4), model.denominator);
+    if q[at] == 2 {
+        return s < b;
+    }
+    s <= b
+}

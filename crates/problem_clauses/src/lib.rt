@@ -1,0 +1,4 @@
+// The clauses of a problem that was read without fault, read again from its bytes.
+pub mod literals;
+pub mod places;
+pub mod splits;

@@ -1,0 +1,51 @@
+// A clause's literals as two sets: the variables of its positive literals, and those of its negative ones.
+use masks::with;
+ghost use mathlib.Core.Path.{_≡_};
+ghost use mathlib.Core.Bool.{true, false};
+ghost use Prim.Native.Nat.{_≤_};
+ghost use lib.ListN.{length};
+ghost use Rattle.problem_scan.specs.Values.{valuesAt, behind, literalAt};
+ghost use Rattle.masks.specs.Mask.{bits};
+ghost use Rattle.rules.specs.Normalize.{membersOf};
+ghost use Rattle.problem_clauses.specs.Literals.{literalOf, joined};
+
+pub struct Members {
+    pub positive: u32,
+    pub negative: u32,
+}
+
+// With one literal more.
+fn including(l: Members, code: u8) -> Members
+    ensures positive { λ s. ⌜ bits 32 (s .positive) ≡ joined false (literalOf code) (bits 32 (l .positive)) ⌝ }
+    ensures negative { λ s. ⌜ bits 32 (s .negative) ≡ joined true (literalOf code) (bits 32 (l .negative)) ⌝ }
+{
+    let variable = (code % 128) as usize;
+    if code < 128 {
+        return Members {
+            positive: with(l.positive, variable),
+            negative: l.negative,
+        };
+    }
+    Members {
+        positive: l.positive,
+        negative: with(l.negative, variable),
+    }
+}
+
+// Of so many literals, from the last to the first.
+pub fn literals(q: &[u8], from: usize, count: u8) -> Members
+    requires { ⌜ behind 1 count from ≤ length (now q) ⌝ }
+    ensures positive { λ l. ⌜ bits 32 (l .positive) ≡ membersOf false (valuesAt (literalAt (now (q .entry))) 1 count from) ⌝ }
+    ensures negative { λ l. ⌜ bits 32 (l .negative) ≡ membersOf true (valuesAt (literalAt (now (q .entry))) 1 count from) ⌝ }
+{
+    let mut left = count;
+    let mut l = Members {
+        positive: 0,
+        negative: 0,
+    };
+    while 0 < left {
+        left -= 1;
+        l = including(l, q[from + left as usize]);
+    }
+    l
+}

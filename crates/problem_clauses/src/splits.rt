@@ -1,0 +1,133 @@
+// What normalizing leaves of a clause that was read without fault: how many of its constraints stay, and its split variables.
+use crate::literals::literals;
+use crate::places::count_place;
+use fields::amount_at;
+use fields::u32_at;
+use machine::sign::zero_related;
+use masks::meets;
+ghost use mathlib.Core.Path.{_≡_};
+ghost use mathlib.Core.Bool.{false};
+ghost use Prim.Native.Nat.{_≤_, _+_, _*_};
+ghost use lib.ListN.{length};
+ghost use Rattle.rules.specs.Lists.{all};
+ghost use Rattle.rules.specs.Arithmetic.{isZero};
+ghost use Rattle.rules.specs.Normalize.{settled, settledAll};
+ghost use Rattle.rules.specs.Split.{splitsOf};
+ghost use Rattle.problem_scan.specs.Values.{valuesAt, behind, amountAt, constraintAt, clauseAt, clauseEnd};
+ghost use Rattle.problem_clauses.specs.Settled.{fate};
+ghost use Rattle.problem_clauses.specs.Remaining.{isAlways, weight, counted};
+ghost use Rattle.problem_clauses.specs.Splits.{splitsBy};
+
+// "A condition with all coefficients 0 drops the clause if true; if false, the condition alone is struck out."
+pub enum Fate {
+    Always,
+    Never,
+    Kept,
+}
+
+// The clause is dropped, or so many constraints stay.
+pub enum Kept {
+    Dropped,
+    Count(u8),
+}
+
+// Whether so many amounts are all 0.
+fn zeros(q: &[u8], from: usize, count: u8) -> bool
+    requires { ⌜ behind 4 count from ≤ length (now q) ⌝ }
+    ensures { λ z. ⌜ z ≡ all isZero (valuesAt (amountAt (now (q .entry))) 4 count from) ⌝ }
+{
+    let mut at = from;
+    let mut left = count;
+    while 0 < left {
+        if u32_at(q, at) != 0 {
+            return false;
+        }
+        at += 4;
+        left -= 1;
+    }
+    true
+}
+
+pub fn settled(q: &[u8], at: usize, r: u8) -> Fate
+    requires { ⌜ at + (5 + r * 4) ≤ length (now q) ⌝ }
+    ensures { λ s. ⌜ s ≡ fate (settled (constraintAt (now (q .entry)) r at)) ⌝ }
+{
+    if !zeros(q, at + 1, r) {
+        return Fate::Kept;
+    }
+    let bound = amount_at(q, at + 1 + (r as usize) * 4);
+    if zero_related(q[at] == 2, bound) {
+        return Fate::Always;
+    }
+    Fate::Never
+}
+
+pub fn is_always(f: Fate) -> bool
+    ensures { λ t. ⌜ t ≡ isAlways f ⌝ }
+{
+    match f {
+        Fate::Always => true,
+        Fate::Never => false,
+        Fate::Kept => false,
+    }
+}
+
+// How many constraints it counts as.
+pub fn weight(f: Fate) -> u8
+    ensures { λ n. ⌜ n ≡ weight f ⌝ }
+{
+    match f {
+        Fate::Always => 0,
+        Fate::Never => 0,
+        Fate::Kept => 1,
+    }
+}
+
+// Of so many constraints.
+pub fn remaining(q: &[u8], from: usize, r: u8, count: u8) -> Kept
+    requires { ⌜ behind (5 + r * 4) count from ≤ length (now q) ⌝ }
+    ensures { λ k. ⌜ k ≡ counted 0 (settledAll (valuesAt (constraintAt (now (q .entry)) r) (5 + r * 4) count from)) ⌝ }
+{
+    let size = 5 + (r as usize) * 4;
+    let mut at = from;
+    let mut left = count;
+    let mut n: u8 = 0;
+    while 0 < left {
+        let f = settled(q, at, r);
+        if is_always(f) {
+            return Kept::Dropped;
+        }
+        n += weight(f);
+        at += size;
+        left -= 1;
+    }
+    Kept::Count(n)
+}
+
+// One less than the constraints that stay, where the clause does.
+fn between(k: Kept) -> u8
+    ensures { λ n. ⌜ n ≡ splitsBy false k ⌝ }
+{
+    match k {
+        Kept::Dropped => 0,
+        Kept::Count(n) => {
+            if n == 0 {
+                return 0;
+            }
+            n - 1
+        }
+    }
+}
+
+// The split variables of a clause.
+pub fn splits(q: &[u8], at: usize, r: u8) -> u8
+    requires { ⌜ clauseEnd (now q) r at ≤ length (now q) ⌝ }
+    ensures { λ n. ⌜ n ≡ splitsOf (clauseAt (now (q .entry)) r at) ⌝ }
+{
+    let place = count_place(q, at);
+    let l = literals(q, at + 1, q[at]);
+    if meets(l.positive, l.negative) {
+        return 0;
+    }
+    between(remaining(q, place + 1, r, q[place]))
+}

@@ -1,0 +1,162 @@
+-- `parts::begin` meets its contract: the literals clash, a constraint always holds, or those that stay are counted.
+use mathlib.Core.Path.{_≡_, refl, sym, ap, _∙_}
+use mathlib.Core.Bool.{Bool, true, false}
+use Prim.Native.Nat.{ℕ, _+_, _<_}
+use native.Mathlib.Omega.{arith}
+use borrow.Author.Needs.{needs}
+use lib.ListN.{length, getD}
+use mir.Syntax.{w64}
+use mir.Val.{Fits}
+use Rattle.theory_lists.specs.Tests.{of-true}
+use Rattle.rules.specs.Lines.{meet}
+use Rattle.masks.specs.Mask.{bits}
+use Rattle.problem_scan.specs.Values.{countOf, clauseEnd}
+use Rattle.problem_clauses.specs.Walk.{count-within, clause-within}
+use Rattle.problem_parts.specs.declared.parts.Parts.{Parts}
+use Rattle.problem_parts.specs.Parts.{Cursor, Started, begin-clash, begin-dropped, begin-kept, begin-cursor}
+use Rattle.problem_parts.proofs.parts.begin.Statement.{statement}
+use Rattle.problem_parts.proofs.parts.begin.Tie as tie
+
+-- the count of constraints and the byte behind the first are in the slice
+counted : (s : tie.Start) → countOf (s .args .q .now) (s .args .at) < length (s .args .q .now)
+counted s = count-within (s .args .q .now) (s .args .r) (s .args .at) (s .pre .0 .within)
+
+within : (s : tie.Start) → s .args .at + 1 < length (s .args .q .now)
+within s = clause-within (s .args .q .now) (s .args .r) (s .args .at) (s .pre .0 .within)
+
+count-place-requires : tie.Need-count-place-requires
+count-place-requires c κs = counted (c .before)
+
+add-literals : tie.Need-add-literals
+add-literals c = let s = c .before .before in omega (arith, within s, s .good)
+
+shared-slice-read-literals : tie.Need-shared-slice-read-literals
+shared-slice-read-literals c = omega (arith, within (c .before .before .before))
+
+literals-requires : tie.Need-literals-requires
+unfolding countOf
+literals-requires c κs = omega (arith, counted (c .before .before .before))
+
+shared-slice-read-count : tie.Need-shared-slice-read-count
+shared-slice-read-count c = let p = c .before .before .before in omega (arith, p .count-place .ensures, counted (p .before .before))
+
+-- the first constraint's place fits
+place-fits : (c : tie.After-count-place) → Fits w64 (c .count-place .result + 1)
+place-fits c = let s = c .before .before in omega (arith, c .count-place .ensures, counted s, s .good)
+
+add-remaining : tie.Need-add-remaining
+add-remaining c = place-fits (c .before .before .before)
+
+meets-requires : tie.Need-meets-requires
+meets-requires c κs = search needs
+
+-- the cursor, with either answer
+first : tie.After-shared-slice-known3 → Bool → ℕ → Parts
+first c m n =
+    let l = c .before .literals .result in
+    let p = c .before .before .before in
+    let s = p .before .before in
+    record {
+      more = m;
+      at = p .count-place .result + 1;
+      left = getD (s .args .q .now) (p .count-place .result) 0;
+      stay = n;
+      positive = l .positive;
+      negative = l .negative;
+      split = s .args .split;
+    }
+
+started : (c : tie.After-shared-slice-known3) (m : Bool) (n : ℕ) → let s = c .before .before .before .before .before in
+    Started (s .args .q .now) (s .args .r) (s .args .at) (first c m n)
+unfolding first
+started c m n =
+    let l = c .before .literals in
+    let p = c .before .before .before .count-place in
+    let s = c .before .before .before .before .before in
+    record {
+      place = ap (λ (i : ℕ). i + 1) (p .ensures);
+      count = ap (λ (i : ℕ). getD (s .args .q .now) i 0) (p .ensures);
+      positive = l .ensures .0;
+      negative = l .ensures .1;
+    }
+
+-- the cursor of a clause that is dropped
+dropped : (c : tie.After-shared-slice-known3) → let s = c .before .before .before .before .before in
+    Cursor (s .args .q .now) (s .args .r) (first c false 0)
+unfolding first
+dropped c =
+    let s = c .before .before .before .before .before in
+    begin-cursor (s .args .q .now) (s .args .r) (s .args .at) (first c false 0) (started c false 0) (s .pre .0)
+    (λ e. absurd (of-true false e)) (omega (arith, s .pre .1))
+
+returns : tie.Need-returns
+unfolding first
+returns c =
+    let k = c .before .before in
+    let s = k .before .before .before .before .before in (
+      begin-clash (s .args .q .now) (s .args .r) (s .args .at) (first k false 0) (started k false 0) refl
+          (sym (c .before .meets .ensures) ∙ c .if1 .taken),
+      dropped k,
+    )
+
+-- no variable has both signs
+apart : (c : tie.Else1) → let l = c .before .before .before .literals .result in
+    meet (bits 32 (l .positive)) (bits 32 (l .negative)) ≡ false
+apart c = sym (c .before .meets .ensures) ∙ c .if1 .left
+
+add-remaining-2 : tie.Need-add-remaining-2
+add-remaining-2 c = place-fits (c .before .before .before .before .before)
+
+remaining-requires : tie.Need-remaining-requires
+unfolding clauseEnd
+remaining-requires c κs = let p = c .before .before .before .before .before in
+    rw (p .count-place .ensures) (p .before .before .pre .0 .within)
+
+enum-known-k : tie.Need-enum-known-k
+enum-known-k c = search needs
+
+enum-told : tie.Need-enum-told
+enum-told c = search needs
+
+returns-2 : tie.Need-returns-2
+unfolding first
+returns-2 c =
+    let a = c .before .before in
+    let k = a .before .before .before in
+    let s = k .before .before .before .before .before in (
+      begin-dropped (s .args .q .now) (s .args .r) (s .args .at) (first k false 0) (started k false 0) (apart (a .before)) refl
+          (sym (a .remaining .ensures) ∙ c .enum-told .given .1),
+      dropped k,
+    )
+
+returns-3 : tie.Need-returns-3
+unfolding first
+returns-3 c =
+    let n = c .before .k .given .0 .0 in
+    let a = c .before .before .before in
+    let k = a .before .before .before in
+    let s = k .before .before .before .before .before in
+    let f : n < 256 = search (needs, c .known-told, c .before .k) in (
+      begin-kept (s .args .q .now) (s .args .r) (s .args .at) (first k true n) (started k true n) (apart (a .before)) refl,
+      begin-cursor (s .args .q .now) (s .args .r) (s .args .at) (first k true n) (started k true n) (s .pre .0)
+          (λ e. sym (a .remaining .ensures) ∙ c .before .k .given .1) (omega (arith, s .pre .1, f)),
+    )
+
+pub begin-spec : {M : Type 1} → statement M
+begin-spec =
+    tie.close
+    (tie.spec
+    count-place-requires
+    add-literals
+    shared-slice-read-literals
+    literals-requires
+    shared-slice-read-count
+    add-remaining
+    meets-requires
+    returns
+    add-remaining-2
+    remaining-requires
+    enum-known-k
+    enum-told
+    returns-2
+    returns-3)

@@ -1,0 +1,90 @@
+-- `parts::next` meets its contract. Assumes nothing.
+use mathlib.Core.Path.{_≡_, sym, ap, _∙_}
+use mathlib.Core.List.{[], _∷_}
+use native.Mathlib.Omega.{arith}
+use borrow.Author.Needs.{needs}
+use Prim.Native.Nat.{_+_, _*_, _<_}
+use mathlib.Core.Bool.{false}
+use mathlib.Core.Option.{some}
+use lib.Dec.{ltb}
+use Rattle.theory_lists.specs.Tests.{of-true}
+use Rattle.rules.specs.Lines as rules
+use Rattle.rules.specs.Normalize.{reduced}
+use Rattle.masks.specs.Mask.{bits}
+use Rattle.problem_scan.specs.Values.{constraintAt}
+use Rattle.problem_scan.specs.Sound.{SoundConstraint, each-first}
+use Rattle.lines.specs.Line.{meaning}
+use Rattle.problem_parts.specs.Parts.{partsFrom, partsIf, withSplit, from-bare, from-kept}
+use Rattle.problem_parts.proofs.parts.next.Statement.{statement}
+use Rattle.problem_parts.proofs.parts.next.Tie as tie
+
+bare-requires : tie.Need-bare-requires
+bare-requires c κs = search needs
+
+returns : tie.Need-returns
+unfolding partsFrom partsIf
+returns c =
+    let s = c .before .before .before .before in
+    let k = s .pre .1 .0 in (
+      from-bare (s .args .q .now) (s .args .r) (s .args .parts) k (s .pre .1 .1) (c .before .if1 .taken)
+          ∙ ap (λ (l : rules.Line). l ∷ []) (sym (c .bare .ensures .0)),
+      (c .bare .ensures .1, record { each = k .each; stays = λ e. absurd (of-true false e); few = k .few }),
+    )
+
+some-stay : (c : tie.Else1) → 0 < c .before .before .before .args .parts .stay
+some-stay c = omega (arith, c .if1 .left)
+
+skip-requires : tie.Need-skip-requires
+skip-requires c κs = let s = c .before .before .before in (s .pre .1 .0 .each, (s .pre .1 .0 .stays (s .pre .1 .1), some-stay c))
+
+own-requires : tie.Need-own-requires
+own-requires c κs = search needs
+
+kept-requires : tie.Need-kept-requires
+kept-requires c κs =
+    let s = c .before .before .before .before .before in
+    let p = c .before .skip in (
+      s .pre .0,
+      (
+        each-first (SoundConstraint (s .args .q .now) (s .args .r)) (5 + s .args .r * 4) (p .result .left) (p .result .at)
+            (p .ensures .more) (p .ensures .each),
+        p .ensures .stays,
+      ),
+    )
+
+rest-requires : tie.Need-rest-requires
+rest-requires c κs =
+    let p = c .before .before in
+    let s = p .before .before .before .before in
+    (s .pre .1 .0, (p .skip .ensures, (s .pre .1 .1, some-stay (p .before))))
+
+returns-2 : tie.Need-returns-2
+returns-2 c =
+    let k = c .before in
+    let p = k .before .before in
+    let s = p .before .before .before .before in
+    let parts = s .args .parts in
+    let line : record {
+      positive = withSplit (ltb 1 (parts .stay)) (parts .split) (bits 32 (parts .positive));
+      negative =
+          bits 32 (parts .negative);
+      constraint = some (reduced (constraintAt (s .args .q .now) (s .args .r) (p .skip .result .at)));
+    }
+    ≡ meaning (k .kept .result) =
+    rw (← k .before .own .ensures) (sym (k .kept .ensures .0)) in (
+      from-kept (s .args .q .now) (s .args .r) parts (s .pre .1 .0) (s .pre .1 .1) (p .skip .result) (p .skip .ensures)
+          ∙ (λ i. line i ∷ sym (c .rest .ensures .0) i),
+      (k .kept .ensures .1, c .rest .ensures .1),
+    )
+
+pub next-spec : {M : Type 1} → statement M
+next-spec =
+    tie.close
+    (tie.spec
+    bare-requires
+    returns
+    skip-requires
+    own-requires
+    kept-requires
+    rest-requires
+    returns-2)

@@ -1,0 +1,105 @@
+-- A row read from bytes, from the front; and the constraint at a place by its words.
+use mathlib.Core.Path.{_≡_, refl, sym, ap, _∙_}
+use mathlib.Core.List.{List, [], _∷_, _++_}
+use mathlib.Core.Option.{Option, none, some}
+use Prim.Native.Nat.{ℕ, zero, suc, _+_, _*_, _-_, _≤_, _<_}
+use native.Mathlib.Nat.{suc-mul}
+use native.Mathlib.Numerals.{add-one}
+use native.Mathlib.Omega.{arith}
+use lib.IntN.{ℤ, pos}
+use lib.Dec.{eqb}
+use lib.ListN.{length, getD, replicate, set}
+use Rattle.rules.specs.Problem.{Constraint}
+use Rattle.rules.specs.Lines as rules
+use Rattle.masks.specs.Mask.{bits}
+use Rattle.problem_scan.specs.Values.{valuesAt, behind, behind-is, amountAt, boundOf, constraintAt}
+use Rattle.lines.specs.declared.line.Line.{Line}
+use Rattle.lines.specs.Line.{constraintOf, meaning}
+use Rattle.lines.specs.Forms.{constraint-at}
+
+abbrev pub lineOf : ℕ → ℕ → Option Constraint → rules.Line
+lineOf positive negative constraint = record { positive = bits 32 positive; negative = bits 32 negative; constraint = constraint }
+
+-- ---- a row, one amount more: the first 0 behind those that are read is written over
+module _ (q : List ℕ) (from : ℕ) where
+  abbrev pub readRow : ℕ → List ℤ
+  readRow i = valuesAt (amountAt q) 4 i from ++ replicate (8 - i) (pos 0)
+
+-- the first i of them are read, and `at` is the place of the next
+pub record RowRead (q : List ℕ) (from count : ℕ) (out : List ℤ) (at i : ℕ) : Type 0 where
+  pub few : i ≤ count
+  pub place : at ≡ from + i * 4
+  pub same : out ≡ readRow q from i
+
+values-last : {A : Type 0} (one : ℕ → A) (size k at : ℕ)
+    → valuesAt one size (suc k) at ≡ valuesAt one size k at ++ (one (at + k * size) ∷ [])
+unfolding valuesAt
+values-last one size zero at = let e : at + 0 * size ≡ at = omega arith in rw e
+values-last one size (suc k) at =
+    let e : at + size + k * size ≡ at + suc k * size = omega (arith, suc-mul k size) in
+    ap (λ (xs : List _). one at ∷ xs)
+    (values-last one size k (at + size) ∙ ap (λ (i : ℕ). valuesAt one size k (at + size) ++ (one i ∷ [])) e)
+
+set-first : (xs : List ℤ) (n : ℕ) (z : ℤ) → set (xs ++ replicate (suc n) (pos 0)) (length xs) z ≡ (xs ++ (z ∷ [])) ++ replicate n (pos 0)
+set-first [] n z = refl
+set-first (x ∷ xs) n z = ap (λ (ys : List ℤ). x ∷ ys) (set-first xs n z)
+
+length-values : {A : Type 0} (one : ℕ → A) (size k at : ℕ) → length (valuesAt one size k at) ≡ k
+unfolding valuesAt
+length-values one size zero at = refl
+length-values one size (suc k) at = ap suc (length-values one size k (at + size))
+
+row-next : (q : List ℕ) (from i at : ℕ) (z : ℤ) → i < 8 → at ≡ from + i * 4 → z ≡ amountAt q at
+    → set (readRow q from i) i z ≡ readRow q from (i + 1)
+row-next q from i at z h e v =
+    let vs = valuesAt (amountAt q) 4 i from in
+    let n : 8 - i ≡ suc (8 - (i + 1)) = omega arith in
+    ap (λ (k : ℕ). set (vs ++ replicate k (pos 0)) i z) n
+    ∙ ap (λ (k : ℕ). set (vs ++ replicate (suc (8 - (i + 1))) (pos 0)) k z) (sym (length-values (amountAt q) 4 i from))
+    ∙ set-first vs (8 - (i + 1)) z
+    ∙ ap (λ (y : ℤ). (vs ++ (y ∷ [])) ++ replicate (8 - (i + 1)) (pos 0)) (v ∙ ap (amountAt q) e)
+    ∙ ap (λ (xs : List ℤ). xs ++ replicate (8 - (i + 1)) (pos 0)) (sym (values-last (amountAt q) 4 i from))
+    ∙ ap (λ (k : ℕ). valuesAt (amountAt q) 4 k from ++ replicate (8 - (i + 1)) (pos 0)) (sym (add-one i))
+
+module _ (q : List ℕ) (from count : ℕ) (out : List ℤ) (at i : ℕ) (run : RowRead q from count out at i) where
+  pub row-within : i < count → at + 4 ≤ behind 4 count from
+  row-within h = omega (arith, run .place, behind-is 4 count from)
+
+  pub row-more : (z : ℤ) → i < count → count ≤ 8 → z ≡ amountAt q at → RowRead q from count (set out i z) (at + 4) (i + 1)
+  row-more z h k v =
+      record {
+        few = omega arith;
+        place = omega (arith, run .place);
+        same = ap (λ (zs : List ℤ). set zs i z) (run .same) ∙ row-next q from i at z (omega arith) (run .place) v;
+      }
+
+  pub row-done : count ≤ i → out ≡ readRow q from count
+  row-done h = let e : i ≡ count = omega (arith, run .few) in run .same ∙ ap (readRow q from) e
+
+-- ---- a constraint by its words
+module _ (q : List ℕ) (r at : ℕ) (cs : List ℤ) (b : ℤ) (row-is : cs ≡ readRow q (at + 1) r)
+    (bound-is : b ≡ amountAt q (at + 1 + r * 4)) where
+  pub bound-at : b ≡ amountAt q (boundOf q r at)
+  unfolding boundOf
+  bound-at = bound-is ∙ ap (amountAt q) (sym (behind-is 4 r (at + 1)))
+
+  pub constraint-words : 0 < getD q at 0 → constraintOf (getD q at 0) cs b ≡ some (constraintAt q r at)
+  unfolding constraintAt
+  constraint-words h = constraint-at (getD q at 0) cs b h ∙ (λ i. some (record {
+    strict = eqb (getD q at 0) 2;
+    coefficients = row-is i;
+    bound = bound-at i;
+  }))
+
+-- the coefficients of a line that has a constraint
+rowOf : Option Constraint → List ℤ
+rowOf none = []
+rowOf (some c) = c .coefficients
+
+pub coefficients-of : (l : Line) (c : Constraint) → meaning l .constraint ≡ some c → l .coefficients ≡ c .coefficients
+unfolding meaning constraintOf rowOf
+coefficients-of l c = by (l .relation)
+  where
+    by : (r : ℕ) → constraintOf r (l .coefficients) (l .bound) ≡ some c → l .coefficients ≡ c .coefficients
+    by zero e = let z : _≡_ {A = ℕ} 0 1 = cc in absurd (omega arith)
+    by (suc r) e = ap rowOf e

@@ -1,0 +1,32 @@
+-- How many parts a clause has: at most one more than split variables.
+use mathlib.Core.Path.{_≡_, refl, ap}
+use mathlib.Core.List.{List, [], _∷_}
+use mathlib.Core.Option.{Option, none, some}
+use Prim.Native.Nat.{ℕ, suc, _-_, _≤_}
+use native.Mathlib.Omega.{arith}
+use lib.ListN.{length}
+use Rattle.rules.specs.Problem.{Constraint, Clause}
+use Rattle.rules.specs.Lines as rules
+use Rattle.rules.specs.Lines.{Booleans, noBooleans, including}
+use Rattle.rules.specs.Normalize.{Normal, normalClause}
+use Rattle.rules.specs.Split.{chain, parts, partsOf, splitsOf}
+
+chain-length : (k : ℕ) (p n : Booleans) (c : Constraint) (cs : List Constraint) → length (chain k p n c cs) ≡ suc (length cs)
+unfolding chain
+chain-length k p n c [] = refl
+chain-length k p n c (d ∷ ds) = ap suc (chain-length (suc k) noBooleans (including k noBooleans) d ds)
+
+parts-few : (k : ℕ) (p n : Booleans) (cs : List Constraint)
+    → length (parts k (record { positive = p; negative = n; constraints = cs })) ≤ suc (length cs - 1)
+unfolding parts
+parts-few k p n [] = omega arith
+parts-few k p n (c ∷ cs) = omega (arith, chain-length k p n c cs)
+
+pub parts-length : (k : ℕ) (c : Clause) → length (partsOf k c) ≤ suc (splitsOf c)
+unfolding partsOf splitsOf
+parts-length k c = by (normalClause c)
+  where
+    by : (o : Option Normal) → length {A = rules.Line} (elim o [ none ↦ [] | some n ↦ parts k n ])
+        ≤ suc (elim o [ none ↦ 0 | some n ↦ length (n .constraints) - 1 ])
+    by none = omega arith
+    by (some n) = parts-few k (n .positive) (n .negative) (n .constraints)

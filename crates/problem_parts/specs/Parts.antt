@@ -1,0 +1,187 @@
+-- The parts of a clause from a cursor on, and what a cursor keeps.
+use mathlib.Core.Path.{_≡_, refl, sym, ap, _∙_}
+use mathlib.Core.Bool.{Bool, true, false}
+use mathlib.Core.List.{List, [], _∷_}
+use mathlib.Core.Option.{Option, none, some}
+use Prim.Native.Nat.{ℕ, suc, _+_, _*_, _-_, _≤_}
+use native.Mathlib.Numerals.{add-one}
+use native.Mathlib.Omega.{arith}
+use borrow.Author.Tests.{lt-ltb, le-ltb}
+use lib.Dec.{ltb}
+use lib.ListN.{length, getD}
+use Rattle.rules.specs.Problem.{Constraint, Clause}
+use Rattle.rules.specs.Lines.{Booleans, noBooleans, including, meet}
+use Rattle.rules.specs.Lines as rules
+use Rattle.rules.specs.Normalize.{reduced, settledAll, membersOf, normalClause}
+use Rattle.rules.specs.Split.{chain, parts, partsOf}
+use Rattle.masks.specs.Mask.{bits}
+use Rattle.problem_clauses.specs.declared.splits.Kept.the-variants.{Dropped, Count}
+use Rattle.problem_clauses.specs.Passes.{values-next}
+use Rattle.problem_clauses.specs.Remaining.{counted}
+use Rattle.problem_scan.specs.Values.{valuesAt, literalAt, constraintAt, countOf, clauseAt}
+use Rattle.problem_scan.specs.Sound.{Each, SoundConstraint, SoundClause}
+use Rattle.problem_parts.specs.declared.parts.Parts.{Parts}
+use Rattle.problem_parts.specs.declared.skip.Place.{Place}
+use Rattle.problem_parts.specs.Skip.{constraintsAt, Skipped, kept-first}
+use Rattle.problem_parts.specs.Constraint.{lineOf}
+
+-- the parts with the first part's literals p and n and the constraints that stay; none where the clause is dropped
+unfoldable pub partsBy : ℕ → Booleans → Booleans → Option (List Constraint) → List rules.Line
+partsBy k p n none = []
+partsBy k p n (some cs) = parts k (record { positive = p; negative = n; constraints = cs })
+
+unfoldable pub partsIf : Bool → ℕ → Booleans → Booleans → Option (List Constraint) → List rules.Line
+partsIf false k p n o = []
+partsIf true k p n o = partsBy k p n o
+
+unfoldable pub partsFrom : List ℕ → ℕ → Parts → List rules.Line
+partsFrom q r c = partsIf (c .more) (c .split) (bits 32 (c .positive)) (bits 32 (c .negative))
+    (settledAll (constraintsAt q r (c .left) (c .at)))
+
+-- the constraints are sound, and those that stay are counted
+pub record Cursor (q : List ℕ) (r : ℕ) (c : Parts) : Type 0 where
+  pub each : Each (SoundConstraint q r) (5 + r * 4) (c .left) (c .at)
+  pub stays : c .more ≡ true → counted 0 (settledAll (constraintsAt q r (c .left) (c .at))) ≡ Count (c .stay)
+  pub few : c .split + c .stay ≤ 1000
+
+-- ---- from the first part on
+module _ (k : ℕ) (c : Clause) where
+  abbrev positives : Booleans
+  positives = membersOf false (c .literals)
+
+  abbrev negatives : Booleans
+  negatives = membersOf true (c .literals)
+
+  clash-parts : meet positives negatives ≡ true → partsOf k c ≡ []
+  unfolding partsOf normalClause
+  clash-parts e = rw (e, normalClause, partsOf)
+
+  normal-parts : (o : Option (List Constraint)) → meet positives negatives ≡ false → settledAll (c .constraints) ≡ o
+      → partsOf k c ≡ partsBy k positives negatives o
+  unfolding partsOf normalClause partsBy
+  normal-parts none e f = rw (e, f, normalClause, partsOf)
+  normal-parts (some cs) e f = rw (e, f, normalClause, partsOf)
+
+-- a cursor at a clause's constraints, with its literals
+pub record Started (q : List ℕ) (r at : ℕ) (c : Parts) : Type 0 where
+  pub place : c .at ≡ countOf q at + 1
+  pub count : c .left ≡ getD q (countOf q at) 0
+  pub positive : bits 32 (c .positive) ≡ membersOf false (valuesAt (literalAt q) 1 (getD q at 0) (at + 1))
+  pub negative : bits 32 (c .negative) ≡ membersOf true (valuesAt (literalAt q) 1 (getD q at 0) (at + 1))
+
+module _ (q : List ℕ) (r at : ℕ) (c : Parts) (start : Started q r at c) where
+  pub begin-clash : c .more ≡ false → meet (bits 32 (c .positive)) (bits 32 (c .negative)) ≡ true
+      → partsFrom q r c ≡ partsOf (c .split) (clauseAt q r at)
+  unfolding partsFrom partsIf clauseAt
+  begin-clash m e = rw m (sym (clash-parts (c .split) (clauseAt q r at) (rw (start .positive, start .negative) at e)))
+
+  module _ (e : meet (bits 32 (c .positive)) (bits 32 (c .negative)) ≡ false) where
+    normal-here : partsBy (c .split) (bits 32 (c .positive)) (bits 32 (c .negative)) (settledAll (constraintsAt q r (c .left) (c .at)))
+        ≡ partsOf (c .split) (clauseAt q r at)
+    unfolding clauseAt
+    normal-here = rw (start .place, start .count, start .positive, start .negative)
+        (sym (normal-parts (c .split) (clauseAt q r at) _ (rw (start .positive, start .negative) at e) refl))
+
+    pub begin-kept : c .more ≡ true → partsFrom q r c ≡ partsOf (c .split) (clauseAt q r at)
+    unfolding partsFrom partsIf
+    begin-kept m = rw m normal-here
+
+    pub begin-dropped : c .more ≡ false → counted 0 (settledAll (constraintsAt q r (c .left) (c .at))) ≡ Dropped
+        → partsFrom q r c ≡ partsOf (c .split) (clauseAt q r at)
+    unfolding partsFrom partsIf partsBy counted
+    begin-dropped m d = rw m (by (settledAll (constraintsAt q r (c .left) (c .at))) d normal-here)
+      where
+        by : (o : Option (List Constraint)) → counted 0 o ≡ Dropped → partsBy (c .split) (bits 32 (c .positive)) (bits 32 (c .negative)) o
+            ≡ partsOf (c .split) (clauseAt q r at) → [] ≡ partsOf (c .split) (clauseAt q r at)
+        by none i h = h
+        by (some cs) i h = let z : _≡_ {A = ℕ} 0 1 = cc in absurd (omega arith)
+
+  pub begin-cursor : SoundClause q r at → (c .more ≡ true → counted 0 (settledAll (constraintsAt q r (c .left) (c .at))) ≡ Count (c .stay))
+      → c .split + c .stay ≤ 1000 → Cursor q r c
+  begin-cursor sound k h = record { each = rw (start .place, start .count) (sound .constraints); stays = k; few = h }
+
+-- ---- one part more
+-- the part's own split variable, except the last's
+unfoldable pub withSplit : Bool → ℕ → Booleans → Booleans
+withSplit true k p = including k p
+withSplit false k p = p
+
+module _ (k : ℕ) (p n : Booleans) (d : Constraint) (stay : ℕ) where
+  abbrev withFirst : Option (List Constraint) → Option (List Constraint)
+  withFirst o = elim o [ none ↦ none | some ds ↦ some (d ∷ ds) ]
+
+  pub next-part : (o : Option (List Constraint)) → counted 0 (withFirst o) ≡ Count stay
+      → partsBy k p n (withFirst o) ≡ record { positive = withSplit (ltb 1 stay) k p; negative = n; constraint = some d } ∷ partsIf
+      (ltb 1 stay) (k + 1) noBooleans (including k noBooleans) o
+  unfolding partsBy partsIf withSplit counted parts chain
+  next-part none e = let z : _≡_ {A = ℕ} 0 1 = cc in absurd (omega arith)
+  next-part (some []) e =
+      let s : 0 + 1 ≡ stay = cc in
+      rw (le-ltb 1 stay (omega arith))
+  next-part (some (x ∷ xs)) e =
+      let s : 0 + suc (suc (length xs)) ≡ stay = cc in
+      rw (lt-ltb 1 stay (omega arith), add-one k)
+
+  pub next-count : (o : Option (List Constraint)) → counted 0 (withFirst o) ≡ Count stay → counted 0 o ≡ Count (stay - 1)
+  unfolding counted
+  next-count none e = let z : _≡_ {A = ℕ} 0 1 = cc in absurd (omega arith)
+  next-count (some xs) e =
+      let s : 0 + suc (length xs) ≡ stay = cc in
+      let t : 0 + length xs ≡ stay - 1 = omega arith in
+      ap Count t
+
+-- the parts behind the one whose constraint stands at a place
+unfoldable pub partsBehind : List ℕ → ℕ → Parts → Place → List rules.Line
+partsBehind q r c p = partsIf (ltb 1 (c .stay)) (c .split + 1) noBooleans (including (c .split) noBooleans)
+    (settledAll (constraintsAt q r (p .left - 1) (p .at + (5 + r * 4))))
+
+-- the only part, without a constraint
+pub bare-part : (k : ℕ) (p n : Booleans) (o : Option (List Constraint)) → counted 0 o ≡ Count 0 → partsBy k p n o ≡ record {
+  positive = p;
+  negative = n;
+  constraint = none;
+} ∷ []
+unfolding partsBy counted parts
+bare-part k p n none e = let z : _≡_ {A = ℕ} 0 1 = cc in absurd (omega arith)
+bare-part k p n (some []) e = refl
+bare-part k p n (some (x ∷ xs)) e = let s : 0 + suc (length xs) ≡ 0 = cc in absurd (omega arith)
+
+-- ---- from a cursor: the part without a constraint, or the one whose constraint is the first that stays
+pub zero-bits : bits 32 0 ≡ noBooleans
+unfolding bits noBooleans
+zero-bits = refl
+
+module _ (q : List ℕ) (r : ℕ) (c : Parts) (cursor : Cursor q r c) (more : c .more ≡ true) where
+  pub from-bare : c .stay ≡ 0 → partsFrom q r c ≡ lineOf (c .positive) (c .negative) none ∷ []
+  unfolding partsFrom partsIf
+  from-bare e = rw more (bare-part (c .split) (bits 32 (c .positive)) (bits 32 (c .negative)) _ (cursor .stays more ∙ ap Count e))
+
+  module _ (p : Place) (skipped : Skipped q r (c .at) (c .left) p) where
+    abbrev here : Constraint
+    here = constraintAt q r (p .at)
+
+    abbrev behind : Option (List Constraint)
+    behind = settledAll (constraintsAt q r (p .left - 1) (p .at + (5 + r * 4)))
+
+    first-kept : settledAll (constraintsAt q r (c .left) (c .at)) ≡ elim behind [ none ↦ none | some ds ↦ some (reduced here ∷ ds) ]
+    first-kept =
+        sym (skipped .same)
+        ∙ ap settledAll (values-next (constraintAt q r) (5 + r * 4) (p .at) (p .left) (skipped .more))
+        ∙ kept-first here (constraintsAt q r (p .left - 1) (p .at + (5 + r * 4))) (skipped .stays)
+
+    count-kept : counted 0 (elim behind [ none ↦ none | some ds ↦ some (reduced here ∷ ds) ]) ≡ Count (c .stay)
+    count-kept = sym (ap (counted 0) first-kept) ∙ cursor .stays more
+
+    pub behind-count : counted 0 behind ≡ Count (c .stay - 1)
+    behind-count = next-count (c .split) (bits 32 (c .positive)) (bits 32 (c .negative)) (reduced here) (c .stay) behind count-kept
+
+    pub from-kept : partsFrom q r c
+        ≡ record {
+          positive = withSplit (ltb 1 (c .stay)) (c .split) (bits 32 (c .positive));
+          negative =
+              bits 32 (c .negative);
+          constraint = some (reduced here);
+        } ∷ partsBehind q r c p
+    unfolding partsFrom partsIf partsBehind
+    from-kept = rw (more, first-kept)
+        (next-part (c .split) (bits 32 (c .positive)) (bits 32 (c .negative)) (reduced here) (c .stay) behind count-kept)

@@ -1,0 +1,62 @@
+// One part of a clause, by its number.
+use crate::parts::Parts;
+use crate::parts::bare;
+use crate::parts::begin;
+use crate::parts::next;
+use lines::line::Line;
+ghost use mathlib.Core.Path.{_≡_};
+ghost use Prim.Native.Nat.{_≤_};
+ghost use lib.ListN.{getElem?};
+ghost use Rattle.rules.specs.Split.{partsOf};
+ghost use Rattle.problem_scan.specs.Values.{clauseAt};
+ghost use Rattle.problem_scan.specs.Sound.{SoundClause};
+ghost use Rattle.lines.specs.Line.{Ready};
+ghost use Rattle.problem_parts.specs.Parts.{partsFrom, Cursor};
+ghost use Rattle.problem_parts.specs.Part.{partOf};
+
+// The line, where there is such a part.
+pub struct Found {
+    pub found: bool,
+    pub line: Line,
+}
+
+fn first(q: &[u8], r: u8, parts: Parts) -> Found
+    requires { ⌜ r ≤ 8 ⌝ }
+    requires { ⌜ Cursor (now q) r parts ⌝ }
+    ensures { λ f. ⌜ partOf f ≡ getElem? (partsFrom (now (q .entry)) r parts) 0 ⌝ }
+    ensures { λ f. ⌜ Ready (f .line) ⌝ }
+{
+    if parts.more {
+        let p = next(q, r, parts);
+        let line = p.line;
+        return Found {
+            found: true,
+            line: line,
+        };
+    }
+    Found {
+        found: false,
+        line: bare(parts),
+    }
+}
+
+// Part j of the clause at a place; `split` is its first split variable.
+pub fn part(q: &[u8], at: usize, r: u8, split: usize, j: u64) -> Found
+    requires { ⌜ r ≤ 8 ⌝ }
+    requires { ⌜ SoundClause (now q) r at ⌝ }
+    requires { ⌜ split ≤ 32 ⌝ }
+    ensures { λ f. ⌜ partOf f ≡ getElem? (partsOf split (clauseAt (now (q .entry)) r at)) j ⌝ }
+    ensures { λ f. ⌜ Ready (f .line) ⌝ }
+{
+    let mut parts = begin(q, at, r, split);
+    let mut left = j;
+    while 0 < left {
+        if !parts.more {
+            return first(q, r, parts);
+        }
+        let p = next(q, r, parts);
+        parts = p.rest;
+        left -= 1;
+    }
+    first(q, r, parts)
+}

@@ -1,0 +1,159 @@
+// The parts of a clause one after another: "Piece 0 has the literals, condition 0 and its link; each later piece has the previous
+// link negated, its condition and, except the last, the next link."
+use crate::constraint::constraint_line;
+use crate::skip::Place;
+use crate::skip::skip;
+use lines::line::Line;
+use masks::meets;
+use masks::with;
+use normalization::reduce::reduce;
+use problem_clauses::literals::literals;
+use problem_clauses::places::count_place;
+use problem_clauses::splits::Kept;
+use problem_clauses::splits::remaining;
+ghost use mathlib.Core.Path.{_≡_};
+ghost use mathlib.Core.Bool.{true, false};
+ghost use mathlib.Core.List.{_∷_};
+ghost use mathlib.Core.Option.{none, some};
+ghost use Prim.Native.Nat.{_≤_, _<_};
+ghost use lib.Dec.{ltb};
+ghost use Rattle.rules.specs.Lists.{all};
+ghost use Rattle.rules.specs.Arithmetic.{isZero};
+ghost use Rattle.rules.specs.Normalize.{reduced};
+ghost use Rattle.rules.specs.Split.{partsOf};
+ghost use Rattle.masks.specs.Mask.{bits};
+ghost use Rattle.problem_scan.specs.Values.{constraintAt, clauseAt};
+ghost use Rattle.problem_scan.specs.Sound.{SoundConstraint, SoundClause};
+ghost use Rattle.lines.specs.Line.{meaning, Ready};
+ghost use Rattle.problem_parts.specs.Constraint.{lineOf};
+ghost use Rattle.problem_parts.specs.Parts.{partsFrom, Cursor, withSplit, partsBehind};
+ghost use Rattle.problem_parts.specs.Skip.{Skipped};
+
+pub struct Parts {
+    // Whether a part is left.
+    pub more: bool,
+    // The place of the first constraint that is left, how many are left, and how many of them stay.
+    pub at: usize,
+    pub left: u8,
+    pub stay: u8,
+    // The literals of the next part, and its split variable where it takes one.
+    pub positive: u32,
+    pub negative: u32,
+    pub split: usize,
+}
+
+// A part, and the parts behind it.
+pub struct Part {
+    pub line: Line,
+    pub rest: Parts,
+}
+
+// Before the first part of a clause; `split` is the next split variable.
+pub fn begin(q: &[u8], at: usize, r: u8, split: usize) -> Parts
+    requires { ⌜ SoundClause (now q) r at ⌝ }
+    requires { ⌜ split ≤ 32 ⌝ }
+    ensures { λ p. ⌜ partsFrom (now (q .entry)) r p ≡ partsOf split (clauseAt (now (q .entry)) r at) ⌝ }
+    ensures { λ p. ⌜ Cursor (now (q .entry)) r p ⌝ }
+{
+    let place = count_place(q, at);
+    let l = literals(q, at + 1, q[at]);
+    let count = q[place];
+    let mut first = Parts {
+        more: false,
+        at: place + 1,
+        left: count,
+        stay: 0,
+        positive: l.positive,
+        negative: l.negative,
+        split: split,
+    };
+    if meets(l.positive, l.negative) {
+        return first;
+    }
+    let k = remaining(q, place + 1, r, count);
+    let Kept::Count(n) = k else {
+        return first;
+    };
+    first.more = true;
+    first.stay = n;
+    first
+}
+
+// The positive literals of the next part: with its split variable, except the last.
+fn own(parts: Parts) -> u32
+    ensures { λ m. ⌜ bits 32 m ≡ withSplit (ltb 1 (parts .stay)) (parts .split) (bits 32 (parts .positive)) ⌝ }
+{
+    if 1 < parts.stay {
+        return with(parts.positive, parts.split);
+    }
+    parts.positive
+}
+
+// The only part, without a constraint.
+pub fn bare(parts: Parts) -> Line
+    ensures { λ l. ⌜ meaning l ≡ lineOf (parts .positive) (parts .negative) none ⌝ }
+    ensures { λ l. ⌜ Ready l ⌝ }
+{
+    Line {
+        positive: parts.positive,
+        negative: parts.negative,
+        relation: 0,
+        coefficients: [0 as i64; 8],
+        bound: 0,
+    }
+}
+
+// A constraint that stays, divided by its content.
+fn kept(q: &[u8], at: usize, r: u8, positive: u32, negative: u32) -> Line
+    requires { ⌜ r ≤ 8 ⌝ }
+    requires { ⌜ SoundConstraint (now q) r at ⌝ }
+    requires { ⌜ all isZero (constraintAt (now q) r at .coefficients) ≡ false ⌝ }
+    ensures { λ l. ⌜ meaning l ≡ lineOf positive negative (some (reduced (constraintAt (now (q .entry)) r at))) ⌝ }
+    ensures { λ l. ⌜ Ready l ⌝ }
+{
+    reduce(constraint_line(q, at, r, positive, negative))
+}
+
+// Behind the part whose constraint stands at a place.
+fn rest(q: &[u8], r: u8, parts: Parts, place: Place) -> Parts
+    requires { ⌜ Cursor (now q) r parts ⌝ }
+    requires { ⌜ Skipped (now q) r (parts .at) (parts .left) place ⌝ }
+    requires { ⌜ (parts .more ≡ true) × (0 < parts .stay) ⌝ }
+    ensures { λ p. ⌜ partsFrom (now (q .entry)) r p ≡ partsBehind (now (q .entry)) r parts place ⌝ }
+    ensures { λ p. ⌜ Cursor (now (q .entry)) r p ⌝ }
+{
+    let size = 5 + (r as usize) * 4;
+    Parts {
+        more: 1 < parts.stay,
+        at: place.at + size,
+        left: place.left - 1,
+        stay: parts.stay - 1,
+        positive: 0,
+        negative: with(0, parts.split),
+        split: parts.split + 1,
+    }
+}
+
+// The next part, and those behind it.
+pub fn next(q: &[u8], r: u8, parts: Parts) -> Part
+    requires { ⌜ r ≤ 8 ⌝ }
+    requires { ⌜ Cursor (now q) r parts ⌝ }
+    requires { ⌜ parts .more ≡ true ⌝ }
+    ensures { λ p. ⌜ partsFrom (now (q .entry)) r parts ≡ meaning (p .line) ∷ partsFrom (now (q .entry)) r (p .rest) ⌝ }
+    ensures { λ p. ⌜ Ready (p .line) ⌝ }
+    ensures { λ p. ⌜ Cursor (now (q .entry)) r (p .rest) ⌝ }
+{
+    if parts.stay == 0 {
+        let mut ended = parts;
+        ended.more = false;
+        return Part {
+            line: bare(parts),
+            rest: ended,
+        };
+    }
+    let place = skip(q, parts.at, r, parts.left, parts.stay);
+    Part {
+        line: kept(q, place.at, r, own(parts), parts.negative),
+        rest: rest(q, r, parts, place),
+    }
+}

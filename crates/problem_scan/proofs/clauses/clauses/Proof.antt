@@ -1,0 +1,71 @@
+-- `clauses::clauses` meets its contract: a run that counts down.
+use borrow.Author.Needs.{needs}
+use Rattle.rules.specs.Problem.{clause}
+use Rattle.problem_scan.specs.Run.{Run, run-start, run-done, run-stop, run-next}
+use Rattle.problem_scan.specs.Steady.{steady-clause}
+use Rattle.problem_scan.proofs.clauses.clauses.Statement.{statement}
+use Rattle.problem_scan.proofs.clauses.clauses.Tie as tie
+
+abbrev Inv-loop : tie.InvT-loop
+Inv-loop q from b r count at₀ left₀ at left = Run q (clause (b) (r)) from count at left
+
+abbrev μ-loop : tie.MeasureT-loop
+μ-loop q from b r count at₀ left₀ at left = left
+
+loop-holds : tie.Need-loop-holds Inv-loop μ-loop
+loop-holds c = let s = c .before in run-start (s .args .q .now) (clause (s .args .b) (s .args .r)) (s .args .from) (s .args .count) (s .pre)
+
+clause-requires : tie.Need-clause-requires Inv-loop μ-loop
+clause-requires c κs = search needs
+
+enum-known-one : tie.Need-enum-known-one Inv-loop μ-loop
+enum-known-one c = search needs
+
+enum-told : tie.Need-enum-told Inv-loop μ-loop
+enum-told c = search needs
+
+returns : tie.Need-returns Inv-loop μ-loop
+returns c =
+    let a = c .before .before in
+    let l = a .before .before .loop in
+    let s = a .before .before .before .before in
+    run-stop (s .args .q .now) (clause (s .args .b) (s .args .r)) (s .args .from) (s .args .count) (l .at) (l .left) (l .inv)
+    (a .clause .result) (a .before .loop-test .taken) (a .clause .ensures) _ _ (c .enum-told .given .1)
+
+sub-left : tie.Need-sub-left Inv-loop μ-loop
+sub-left c = search needs
+
+loop-less : tie.Need-loop-less Inv-loop μ-loop
+loop-less c = search needs
+
+loop-again : tie.Need-loop-again Inv-loop μ-loop
+loop-again c =
+    let a = c .before .before .before in
+    let l = a .before .before .loop in
+    let s = a .before .before .before .before in
+    run-next (s .args .q .now) (clause (s .args .b) (s .args .r)) (s .args .from) (s .args .count) (l .at) (l .left) (l .inv)
+    (a .clause .result) (a .before .loop-test .taken) (a .clause .ensures) (steady-clause (s .args .q .now) (s .args .b) (s .args .r)) _
+    (c .before .one .given .1)
+
+returns-2 : tie.Need-returns-2 Inv-loop μ-loop
+returns-2 c =
+    let l = c .before .loop in
+    let s = c .before .before .before in
+    run-done (s .args .q .now) (clause (s .args .b) (s .args .r)) (s .args .from) (s .args .count) (l .at) (l .left)
+    (l .inv) (c .loop-test .left)
+
+pub clauses-spec : {M : Type 1} → statement M
+clauses-spec =
+    tie.close
+    (tie.spec
+    Inv-loop
+    μ-loop
+    loop-holds
+    clause-requires
+    enum-known-one
+    enum-told
+    returns
+    sub-left
+    loop-less
+    loop-again
+    returns-2)

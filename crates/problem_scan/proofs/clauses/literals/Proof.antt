@@ -1,0 +1,79 @@
+-- `clauses::literals` meets its contract: a run that counts down.
+use mathlib.Core.Path.{refl, sym}
+use borrow.Author.Needs.{needs}
+use Rattle.rules.specs.Problem.{literal}
+use Rattle.problem_scan.specs.Run.{Run, run-start, run-done, run-stop, run-next}
+use Rattle.problem_scan.specs.Steady.{steady-literal}
+use Rattle.problem_scan.specs.Parts.{literal-short, literal-bad, literal-good}
+use Rattle.problem_scan.proofs.clauses.literals.Statement.{statement}
+use Rattle.problem_scan.proofs.clauses.literals.Tie as tie
+
+abbrev Inv-loop : tie.InvT-loop
+Inv-loop q from b count at₀ left₀ at left = Run q (literal b) from count at left
+
+abbrev μ-loop : tie.MeasureT-loop
+μ-loop q from b count at₀ left₀ at left = left
+
+loop-holds : tie.Need-loop-holds Inv-loop μ-loop
+loop-holds c = run-start (c .args .q .now) (literal (c .args .b)) (c .args .from) (c .args .count) (c .pre)
+
+returns : tie.Need-returns Inv-loop μ-loop
+returns c =
+    let t = c .before in
+    let l = t .before .loop in
+    let s = t .before .before in
+    let q = s .args .q .now in
+    run-stop q (literal (s .args .b)) (s .args .from) (s .args .count) (l .at) (l .left) (l .inv) _ (t .loop-test .taken)
+    (sym (literal-short q (l .at) (s .args .b) (l .inv .within) (c .if1 .taken))) _ _ refl
+
+shared-slice-read-if2 : tie.Need-shared-slice-read-if2 Inv-loop μ-loop
+shared-slice-read-if2 c = search needs
+
+returns-2 : tie.Need-returns-2 Inv-loop μ-loop
+returns-2 c =
+    let e = c .before .before in
+    let l = e .before .before .loop in
+    let s = e .before .before .before in
+    let q = s .args .q .now in
+    run-stop q (literal (s .args .b)) (s .args .from) (s .args .count) (l .at) (l .left) (l .inv) _ (e .before .loop-test .taken)
+    (sym (literal-bad q (l .at) (s .args .b) (e .if1 .left) (c .if2 .taken))) _ _ refl
+
+add-at : tie.Need-add-at Inv-loop μ-loop
+add-at c = search needs
+
+sub-left : tie.Need-sub-left Inv-loop μ-loop
+sub-left c = search needs
+
+loop-less : tie.Need-loop-less Inv-loop μ-loop
+loop-less c = search needs
+
+loop-again : tie.Need-loop-again Inv-loop μ-loop
+loop-again c =
+    let e = c .before .before in
+    let l = e .before .before .loop in
+    let s = e .before .before .before in
+    let q = s .args .q .now in
+    run-next q (literal (s .args .b)) (s .args .from) (s .args .count) (l .at) (l .left) (l .inv) _ (e .before .loop-test .taken)
+    (sym (literal-good q (l .at) (s .args .b) (e .if1 .left) (c .if2 .left))) (steady-literal q (s .args .b)) _ refl
+
+returns-3 : tie.Need-returns-3 Inv-loop μ-loop
+returns-3 c =
+    let l = c .before .loop in
+    let s = c .before .before in
+    run-done (s .args .q .now) (literal (s .args .b)) (s .args .from) (s .args .count) (l .at) (l .left) (l .inv) (c .loop-test .left)
+
+pub literals-spec : {M : Type 1} → statement M
+literals-spec =
+    tie.close
+    (tie.spec
+    Inv-loop
+    μ-loop
+    loop-holds
+    returns
+    shared-slice-read-if2
+    returns-2
+    add-at
+    sub-left
+    loop-less
+    loop-again
+    returns-3)

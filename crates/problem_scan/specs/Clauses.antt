@@ -1,0 +1,73 @@
+-- What is seen of a clause at a place of a slice: its literals, then its list of conditions.
+use mathlib.Core.Path.{_≡_, sym, _∙_}
+use mathlib.Core.List.{List}
+use Prim.Native.Nat.{ℕ, _+_, _≤_, _<_}
+use native.Mathlib.Omega.{arith}
+use borrow.Author.Tests.{le-leb, lt-leb}
+use lib.Dec.{leb}
+use lib.ListN.{length, drop, getD}
+use Rattle.rules_types.specs.declared.answers.Refusal.{Refusal}
+use Rattle.rules_types.specs.declared.answers.Refusal.the-variants as refusal
+use Rattle.rules_types.specs.Limits as limit
+use Rattle.rules.specs.Problem.{Literal, Constraint, Read, Reader, _>>=_, repeat, field, literal, constraint, clause}
+use Rattle.problem_scan.specs.declared.cursor.Cursor.{Cursor}
+use Rattle.problem_scan.specs.declared.cursor.Cursor.the-variants.{Next, Fault}
+use Rattle.problem_scan.specs.Seen.{seen, next-within, seen-fault, seen-next, seen-then-map}
+use Rattle.problem_scan.specs.Steady.{steady-repeat, steady-literal}
+use Rattle.problem_scan.specs.Parts.{byte-short, byte-bad, byte-good}
+
+-- "a byte t, 0 to 8, then t conditions"
+unfoldable pub constraintList : ℕ → Reader (List Constraint)
+constraintList r = do
+  t ← field 1 (λ t. leb t limit.constraints) refusal.Constraints
+  repeat t (constraint r)
+
+module _ (q : List ℕ) (at r : ℕ) where
+  pub list-short : at ≤ length q → length q ≤ at → seen (constraintList r (drop at q) at) ≡ Fault refusal.Truncated (length q)
+  unfolding constraintList
+  list-short h l = byte-short q _ _ at _ h l
+
+  pub list-bad : at < length q → limit.constraints < getD q at 0 → seen (constraintList r (drop at q) at) ≡ Fault refusal.Constraints at
+  unfolding constraintList
+  list-bad h l = byte-bad q (λ t. leb t limit.constraints) _ at _ h (lt-leb (getD q at 0) limit.constraints l)
+
+  pub list-good : at < length q → getD q at 0 ≤ limit.constraints
+      → seen (constraintList r (drop at q) at) ≡ seen (repeat (getD q at 0) (constraint r) (drop (at + 1) q) (at + 1))
+  unfolding constraintList
+  list-good h l = byte-good q (λ t. leb t limit.constraints) _ at _ h (le-leb (getD q at 0) limit.constraints l)
+
+module _ (q : List ℕ) (at b r : ℕ) where
+  abbrev literals : Read (List Literal)
+  literals = repeat (getD q at 0) (literal b) (drop (at + 1) q) (at + 1)
+
+  pub clause-short : at ≤ length q → length q ≤ at → seen (clause b r (drop at q) at) ≡ Fault refusal.Truncated (length q)
+  unfolding clause
+  clause-short h l = byte-short q _ _ at _ h l
+
+  pub clause-bad : at < length q → limit.literals < getD q at 0 → seen (clause b r (drop at q) at) ≡ Fault refusal.Literal at
+  unfolding clause
+  clause-bad h l = byte-bad q (λ m. leb m limit.literals) _ at _ h (lt-leb (getD q at 0) limit.literals l)
+
+  module _ (h : at < length q) (l : getD q at 0 ≤ limit.literals) (w : Cursor) (given : w ≡ seen literals) where
+    pub clause-fault : (f : Refusal) (p : ℕ) → w ≡ Fault f p → w ≡ seen (clause b r (drop at q) at)
+    unfolding clause
+    clause-fault f p i =
+        i ∙ sym (byte-good q (λ m. leb m limit.literals) _ at _ h (le-leb (getD q at 0) limit.literals l)
+        ∙ seen-fault literals _ f p (sym given ∙ i))
+
+    pub clause-within : (n : ℕ) → w ≡ Next n → n ≤ length q
+    clause-within n i =
+        next-within q literals n (steady-repeat q (literal b) (steady-literal q b) (getD q at 0) (at + 1) (omega arith)) (sym given ∙ i)
+
+    pub clause-rest : (n : ℕ) → w ≡ Next n → seen (clause b r (drop at q) at) ≡ seen (constraintList r (drop n q) n)
+    unfolding clause constraintList
+    clause-rest n i =
+        byte-good q (λ m. leb m limit.literals) _ at _ h (le-leb (getD q at 0) limit.literals l)
+        ∙ seen-next q literals _ n (seen (constraintList r (drop n q) n))
+        (steady-repeat q (literal b) (steady-literal q b) (getD q at 0) (at + 1) (omega arith)) (sym given ∙ i)
+        (λ ls. seen-then-map (field 1 (λ t. leb t limit.constraints) refusal.Constraints (drop n q) n)
+        (λ t. repeat t (constraint r)) (λ t cs. record {
+          start = at;
+          literals = ls;
+          constraints = cs;
+        }))

@@ -1,0 +1,83 @@
+// Literals and clauses: each function comes to what the definition of reading does from its place on.
+use crate::cursor::Cursor;
+use crate::numbers::constraints;
+use rules_types::answers::Refusal;
+use rules_types::limits::Limits;
+ghost use mathlib.Core.Path.{_≡_};
+ghost use Prim.Native.Nat.{_≤_};
+ghost use lib.ListN.{length, drop};
+ghost use Rattle.rules.specs.Problem.{repeat, literal, clause};
+ghost use Rattle.problem_scan.specs.Seen.{seen};
+ghost use Rattle.problem_scan.specs.Clauses.{constraintList};
+
+// So many literals: "mark not below b; its byte".
+fn literals(q: &[u8], from: usize, b: u8, count: u8) -> Cursor
+    requires { ⌜ from ≤ length (now q) ⌝ }
+    ensures { λ c. ⌜ c ≡ seen (repeat count (literal b) (drop from (now (q .entry))) from) ⌝ }
+{
+    let mut at = from;
+    let mut left = count;
+    while 0 < left {
+        if q.len() <= at {
+            return Cursor::Fault(Refusal::Truncated, q.len());
+        }
+        if b <= q[at] % 128 {
+            return Cursor::Fault(Refusal::Literal, at);
+        }
+        at += 1;
+        left -= 1;
+    }
+    Cursor::Next(at)
+}
+
+// "a byte t, 0 to 8, then t conditions"
+fn constraint_list(q: &[u8], at: usize, r: u8) -> Cursor
+    requires { ⌜ at ≤ length (now q) ⌝ }
+    ensures { λ c. ⌜ c ≡ seen (constraintList r (drop at (now (q .entry))) at) ⌝ }
+{
+    if q.len() <= at {
+        return Cursor::Fault(Refusal::Truncated, q.len());
+    }
+    let count = q[at];
+    if Limits::CONSTRAINTS < count as usize {
+        return Cursor::Fault(Refusal::Constraints, at);
+    }
+    constraints(q, at + 1, r, count)
+}
+
+// "a byte m, 0 to 32, then m literals", and the constraints
+fn clause(q: &[u8], at: usize, b: u8, r: u8) -> Cursor
+    requires { ⌜ at ≤ length (now q) ⌝ }
+    ensures { λ c. ⌜ c ≡ seen (clause b r (drop at (now (q .entry))) at) ⌝ }
+{
+    if q.len() <= at {
+        return Cursor::Fault(Refusal::Truncated, q.len());
+    }
+    let count = q[at];
+    if Limits::LITERALS < count as usize {
+        return Cursor::Fault(Refusal::Literal, at);
+    }
+    let read = literals(q, at + 1, b, count);
+    let Cursor::Next(next) = read else {
+        return read;
+    };
+    constraint_list(q, next, r)
+}
+
+// So many of them.
+pub fn clauses(q: &[u8], from: usize, b: u8, r: u8, count: u64) -> Cursor
+    requires { ⌜ from ≤ length (now q) ⌝ }
+    ensures { λ c. ⌜ c ≡ seen (repeat count (clause b r) (drop from (now (q .entry))) from) ⌝ }
+{
+    let mut at = from;
+    let mut left = count;
+    while 0 < left {
+        let one = clause(q, at, b, r);
+        let Cursor::Next(next) = one else {
+            return one;
+        };
+        at = next;
+        left -= 1;
+    }
+    Cursor::Next(at)
+}

@@ -1,0 +1,57 @@
+-- A course that runs to its end without an empty line: the walk's choice satisfies the question.
+use mathlib.Core.Path.{_≡_, subst}
+use mathlib.Core.Bool.{not}
+use mathlib.Core.List.{List}
+use Prim.Native.Nat.{ℕ}
+use lib.Dec.{T}
+use Rattle.rules.specs.Problem.{Problem}
+use Rattle.rules.specs.Meaning.{Assignment, Satisfies}
+use Rattle.rules.specs.Lines.{lineHolds, isEmpty}
+use Rattle.rules.specs.Steps.{Step}
+use Rattle.rules.specs.Elimination.{Stops, State, running, order, loadableOf, eliminate}
+use Rattle.rules.specs.Needs.{stepsOf}
+use Rattle.rules.specs.Values.{walk}
+use Rattle.theory_lists.specs.All.{All, Any, all-map, all-any, all-mapped}
+use Rattle.theory_resolution.specs.Formed.{Formed}
+use Rattle.theory_resolution.specs.Proper.{ProperLine}
+use Rattle.theory_splitting.specs.WellFormed.{WellFormed}
+use Rattle.theory_splitting.specs.PartsChosen.{chosen-same}
+use Rattle.theory_splitting.specs.SplitProblem.{StepsHold, splitting-keeps}
+use Rattle.theory_saturation.specs.Covered.{Covers}
+use Rattle.theory_saturation.specs.Equal.{equal-covers}
+use Rattle.theory_saturation.specs.Saturation.{LinesHold, all-pairs-map}
+use Rattle.theory_saturation.specs.Formed.{saturation-formed}
+use Rattle.theory_elimination.specs.Sound.{Sound, elimination-sound}
+use Rattle.theory_elimination.specs.Ends.{EndsRight, elimination-ends}
+use Rattle.theory_elimination.specs.Taken.{lines}
+use Rattle.theory_elimination.specs.Saturated.{elimination-loaded, elimination-saturated}
+
+-- the choice of the walk over these lines
+abbrev pub chosen : List Step → Assignment
+chosen steps = walk order (lines steps) .assignment
+
+module _ (p : Problem) (w : WellFormed p) (stops : Stops) (steps : List Step) (n : ℕ)
+    (e : eliminate stops order (loadableOf p) ≡ running steps n) where
+  -- every line of the book holds
+  proof-holds : LinesHold (chosen steps) (lines steps)
+  unfolding stepsOf
+  proof-holds =
+      let s = subst (λ (state : State). All (λ x. Sound (x .line)) (stepsOf state)) e (elimination-sound p w stops order) in
+      saturation-formed (lines steps)
+      (all-mapped Formed (λ x. x .line) steps (all-map (λ x. Sound (x .line)) (λ x. Formed (x .line)) steps (λ x h. h .formed) s))
+      (all-mapped ProperLine (λ x. x .line) steps (all-map (λ x. Sound (x .line)) (λ x. ProperLine (x .line)) steps (λ x h. h .proper) s))
+      (all-mapped (λ l. T (not (isEmpty l))) (λ x. x .line) steps (subst EndsRight e (elimination-ends stops order (loadableOf p))))
+      (all-pairs-map _≡_ Covers equal-covers (lines steps) order (elimination-saturated stops order (loadableOf p) steps n e))
+
+  -- so does every piece, which one of them equals
+  parts-hold : StepsHold (chosen steps) (loadableOf p)
+  parts-hold =
+      let b = proof-holds in
+      all-map (λ x. Any (λ j. j ≡ x .line) (lines steps)) (λ x. T (lineHolds (chosen steps) (x .line))) (loadableOf p)
+      (λ x h. all-any (λ l. T (lineHolds (chosen steps) l)) (λ j. j ≡ x .line) (lines steps) (λ j t c. rw c at t) (b .lines) h)
+      (elimination-loaded stops order (loadableOf p) steps n e)
+
+  pub walk-satisfies : Satisfies (chosen steps) p
+  walk-satisfies =
+      splitting-keeps p w (chosen steps) (proof-holds .denominator) .1
+      (chosen-same (chosen steps) (p .booleans) _ (λ ψ. StepsHold ψ (loadableOf p)) parts-hold)

@@ -1,0 +1,70 @@
+-- The numbers and values of every answer. A refusal's number is document 01's; the words that have none there take 64 to 70,
+-- above every refusal of documents 01 and 02 (docs/DECISIONS.md).
+use Prim.Native.Nat.{ℕ}
+use Rattle.rules_types.specs.declared.answers.Refusal.{Refusal}
+use Rattle.rules_types.specs.declared.answers.Refusal.the-variants.{ShortProof, ShortModel, LongProblem, Truncated, Booleans}
+use Rattle.rules_types.specs.declared.answers.Refusal.the-variants.{Rationals, Clauses, Literal, Constraints, Relation, Amount}
+use Rattle.rules_types.specs.declared.answers.Refusal.the-variants.{Trailing, Splits, Overflow, OutOfSteps, ProofLength, BadModel}
+use Rattle.rules_types.specs.declared.answers.Verdict.{Verdict}
+use Rattle.rules_types.specs.declared.answers.Verdict.the-variants.{Satisfiable, Unsatisfiable, Unwritten}
+use Rattle.rules_types.specs.declared.answers.Answer.{Answer}
+use Rattle.rules_types.specs.declared.answers.Answer.the-variants as answer
+use Rattle.rules_types.specs.declared.answers.Checked.{Checked}
+use Rattle.rules_types.specs.declared.answers.Checked.the-variants as checked
+use Rattle.rules_types.specs.declared.answers.Evidence.{Evidence}
+use Rattle.rules_types.specs.declared.answers.Evidence.the-variants.{OfProof, OfModel}
+
+-- document 01's word after each
+unfoldable pub refusalNumber : Refusal → ℕ
+refusalNumber ShortProof = 1  -- book
+refusalNumber ShortModel = 2  -- sheet
+refusalNumber LongProblem = 3  -- long
+refusalNumber Truncated = 4  -- short
+refusalNumber Booleans = 5  -- marks
+refusalNumber Rationals = 6  -- figures
+refusalNumber Clauses = 7  -- clauses
+refusalNumber Literal = 8  -- literal
+refusalNumber Constraints = 9  -- conditions
+refusalNumber Relation = 10  -- relation
+refusalNumber Amount = 11  -- amount
+refusalNumber Trailing = 12  -- tail
+refusalNumber Splits = 13  -- links
+refusalNumber Overflow = 14  -- wide
+refusalNumber OutOfSteps = 15  -- full
+refusalNumber ProofLength = 16  -- claim
+refusalNumber BadModel = 17  -- slip
+
+-- agrees, cannot agree, unwritten
+unfoldable pub verdictNumber : Verdict → ℕ
+verdictNumber Satisfiable = 64
+verdictNumber Unsatisfiable = 65
+verdictNumber Unwritten = 66
+
+unfoldable pub answerNumber : Answer → ℕ
+answerNumber (answer.Decided v n) = verdictNumber v
+answerNumber (answer.Refused f p) = refusalNumber f
+
+-- the lines of a verdict, the place of a refusal
+unfoldable pub answerValue : Answer → ℕ
+answerValue (answer.Decided v n) = n
+answerValue (answer.Refused f p) = p
+
+-- accepted; the first line or clause that fails
+unfoldable pub checkedNumber : Checked → ℕ
+checkedNumber checked.Accepted = 67
+checkedNumber (checked.Fails n) = 68
+checkedNumber (checked.Refused f p) = refusalNumber f
+
+unfoldable pub checkedValue : Checked → ℕ
+checkedValue checked.Accepted = 0
+checkedValue (checked.Fails n) = n
+checkedValue (checked.Refused f p) = p
+
+-- a part of the book, a part of the sheet
+unfoldable pub evidenceNumber : Evidence → ℕ
+evidenceNumber (OfProof n) = 69
+evidenceNumber (OfModel n) = 70
+
+unfoldable pub evidenceLength : Evidence → ℕ
+evidenceLength (OfProof n) = n
+evidenceLength (OfModel n) = n

@@ -1,0 +1,49 @@
+-- Document 01's limits. Every other definition names them by these words.
+use Prim.Native.Nat.{ℕ, _*_}
+use Rattle.rules_types.specs.declared.limits.Limits.{Limits}
+
+-- "A question has at most 32,768 bytes."
+abbrev pub problemBytes : ℕ
+problemBytes = 32768
+
+-- "lines of 64 bytes", "Sheet of 64 bytes"
+abbrev pub stepBytes : ℕ
+stepBytes = 64
+
+abbrev pub modelBytes : ℕ
+modelBytes = 64
+
+-- "b, the marks, 0 to 16"; "r, the figures, 0 to 8"; "n, the clauses, 0 to 256"
+abbrev pub booleans : ℕ
+booleans = 16
+
+abbrev pub rationals : ℕ
+rationals = 8
+
+abbrev pub clauses : ℕ
+clauses = 256
+
+-- "m, 0 to 32, then m literals"; "t, 0 to 8, then t conditions"; "At most 16 links in all."
+abbrev pub literals : ℕ
+literals = 32
+
+abbrev pub constraints : ℕ
+constraints = 8
+
+abbrev pub splits : ℕ
+splits = 16
+
+-- "Amounts lie in -1,000,000,000 to 1,000,000,000."
+abbrev pub amount : ℕ
+amount = 1000000000
+
+-- "The book has 1,024 lines"
+abbrev pub steps : ℕ
+steps = 1024
+
+-- the limits of a caller who lends the whole book, and the bytes of a book of N lines
+abbrev pub standard : Limits
+standard = record { steps = steps }
+
+abbrev pub proofBytes : Limits → ℕ
+proofBytes l = l .steps * stepBytes

@@ -1,0 +1,82 @@
+// The answers of document 01's calls. Each case has a number, stated in specs/Answers.antt, by which C is told.
+ghost use mathlib.Core.Path.{_≡_};
+ghost use Rattle.rules_types.specs.Answers.{refusalNumber};
+
+// A refusal of document 01's table, 1 to 17.
+pub enum Refusal {
+    ShortProof,
+    ShortModel,
+    LongProblem,
+    Truncated,
+    Booleans,
+    Rationals,
+    Clauses,
+    Literal,
+    Constraints,
+    Relation,
+    Amount,
+    Trailing,
+    Splits,
+    Overflow,
+    OutOfSteps,
+    ProofLength,
+    BadModel,
+}
+
+impl Refusal {
+    pub fn number(self) -> u8
+        ensures { λ n. ⌜ n ≡ refusalNumber self ⌝ }
+    {
+        match self {
+            Refusal::ShortProof => 1,
+            Refusal::ShortModel => 2,
+            Refusal::LongProblem => 3,
+            Refusal::Truncated => 4,
+            Refusal::Booleans => 5,
+            Refusal::Rationals => 6,
+            Refusal::Clauses => 7,
+            Refusal::Literal => 8,
+            Refusal::Constraints => 9,
+            Refusal::Relation => 10,
+            Refusal::Amount => 11,
+            Refusal::Trailing => 12,
+            Refusal::Splits => 13,
+            Refusal::Overflow => 14,
+            Refusal::OutOfSteps => 15,
+            Refusal::ProofLength => 16,
+            Refusal::BadModel => 17,
+        }
+    }
+}
+
+// What solving found: agrees, cannot agree, unwritten.
+pub enum Verdict {
+    Satisfiable,
+    Unsatisfiable,
+    Unwritten,
+}
+
+// A verdict with the steps of the proof, or a refusal with its place.
+pub enum Answer {
+    Decided(Verdict, usize),
+    Refused(Refusal, usize),
+}
+
+// What solving returns: its answer, and the pairs tried.
+pub struct Solved {
+    pub answer: Answer,
+    pub pairs: u64,
+}
+
+// What a check returns: accepted, the first step or clause that fails, or a refusal with its place.
+pub enum Checked {
+    Accepted,
+    Fails(usize),
+    Refused(Refusal, usize),
+}
+
+// What is handed back: the first so many bytes of the lent proof or of the lent model.
+pub enum Evidence {
+    OfProof(usize),
+    OfModel(usize),
+}

@@ -1,0 +1,60 @@
+// The limits of document 01, named once: the reader, the elimination and the checker cite them here.
+ghost use mathlib.Core.Path.{_≡_};
+ghost use Rattle.rules_types.specs.Limits.{problemBytes, stepBytes, modelBytes, booleans, rationals, clauses, literals, constraints, splits, amount, steps, standard, proofBytes};
+
+// What may differ from caller to caller: the most steps that a proof holds (lines of the book, N).
+pub struct Limits {
+    pub steps: u32,
+}
+
+impl Limits {
+    // Bytes of a problem, of a step, of a model.
+    pub const PROBLEM_BYTES: usize = 32768;
+
+    pub const STEP_BYTES: usize = 64;
+
+    pub const MODEL_BYTES: usize = 64;
+    // Boolean variables, rational variables and clauses of a problem.
+    pub const BOOLEANS: usize = 16;
+
+    pub const RATIONALS: usize = 8;
+
+    pub const CLAUSES: usize = 256;
+    // Literals and constraints of a clause; split variables of a problem.
+    pub const LITERALS: usize = 32;
+
+    pub const CONSTRAINTS: usize = 8;
+
+    pub const SPLITS: usize = 16;
+    // The size of an amount, and the steps of a proof.
+    pub const AMOUNT: u64 = 1000000000;
+
+    pub const STEPS: u32 = 1024;
+
+    // The limits of a caller who lends the whole proof.
+    pub fn standard() -> Limits
+        ensures { λ r. ⌜ r ≡ standard ⌝ }
+    {
+        Limits {
+            steps: Limits::STEPS,
+        }
+    }
+
+    // The bytes that a lent proof must have.
+    pub fn proof_bytes(self) -> usize
+        ensures { λ r. ⌜ r ≡ proofBytes self ⌝ }
+    {
+        let steps = self.steps as usize;
+        steps * Limits::STEP_BYTES
+    }
+
+    // The constants are those of the definitions: proved here once, so that no other proof compares the numbers.
+    pub fn stated() -> bool
+        ensures bytes { λ _. do ⌜ ((← ⟦Limits::PROBLEM_BYTES⟧ .entry) ≡ problemBytes) × ((← ⟦Limits::STEP_BYTES⟧ .entry) ≡ stepBytes) × ((← ⟦Limits::MODEL_BYTES⟧ .entry) ≡ modelBytes) ⌝ }
+        ensures problem { λ _. do ⌜ ((← ⟦Limits::BOOLEANS⟧ .entry) ≡ booleans) × ((← ⟦Limits::RATIONALS⟧ .entry) ≡ rationals) × ((← ⟦Limits::CLAUSES⟧ .entry) ≡ clauses) ⌝ }
+        ensures clause { λ _. do ⌜ ((← ⟦Limits::LITERALS⟧ .entry) ≡ literals) × ((← ⟦Limits::CONSTRAINTS⟧ .entry) ≡ constraints) × ((← ⟦Limits::SPLITS⟧ .entry) ≡ splits) ⌝ }
+        ensures elimination { λ _. do ⌜ ((← ⟦Limits::AMOUNT⟧ .entry) ≡ amount) × ((← ⟦Limits::STEPS⟧ .entry) ≡ steps) ⌝ }
+    {
+        true
+    }
+}

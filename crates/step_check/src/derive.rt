@@ -1,0 +1,136 @@
+// "the result of two earlier lines, neither wide nor dropped by tidying, first parent positive; by a mark at most one parent has a condition".
+use crate::compare::Stated;
+use crate::compare::compared;
+use crate::compare::unstated;
+use fields::u16_at;
+use lines::line::Line;
+use resolvents::resolve::Outcome;
+use resolvents::resolve::Resolved;
+use resolvents::resolve::resolve_boolean;
+use resolvents::resolve::resolve_rational;
+use steps::access::line_at;
+ghost use mathlib.Core.Path.{_≡_};
+ghost use mathlib.Core.Bool.{_||_};
+ghost use mathlib.Core.Option.{some};
+ghost use Prim.Native.Nat.{_*_, _≤_, _<_};
+ghost use lib.ListN.{length};
+ghost use Rattle.rules.specs.Lines.{rational, boolean, noConstraint};
+ghost use Rattle.rules.specs.Checker.{derived};
+ghost use Rattle.lines.specs.Line.{meaning, Ready};
+ghost use Rattle.steps.specs.Lines.{linesIn, ReadyLines};
+ghost use Rattle.resolvents.specs.Resolved.{lineOf, Gives};
+ghost use Rattle.step_check.specs.Stated.{Holds, States};
+ghost use Rattle.step_check.specs.Derived.{suited, narrow, derivedBy, resolventStated};
+
+// "neither wide nor dropped by tidying".
+fn made(r: Resolved) -> Stated
+    requires { ⌜ Gives (lineOf (r .outcome) (r .line)) r ⌝ }
+    ensures { λ s. ⌜ Holds (narrow (lineOf (r .outcome) (r .line))) s ⌝ }
+{
+    let outcome = r.outcome;
+    let line = r.line;
+    match outcome {
+        Outcome::Dropped => unstated(),
+        Outcome::Overflows => unstated(),
+        Outcome::Made => Stated {
+            found: true,
+            line: line,
+        },
+    }
+}
+
+// A rational variable from 8 on occurs in no line.
+fn by_rational(f: usize, upper: Line, lower: Line) -> Stated
+    requires { ⌜ Ready upper ⌝ }
+    requires { ⌜ Ready lower ⌝ }
+    ensures { λ s. ⌜ Holds (derived (rational f) (some (meaning upper)) (some (meaning lower))) s ⌝ }
+{
+    if 8 <= f {
+        return unstated();
+    }
+    if !upper.has_positive_rational(f) {
+        return unstated();
+    }
+    if !lower.has_negative_rational(f) {
+        return unstated();
+    }
+    made(resolve_rational(f, upper, lower))
+}
+
+// At most one has a constraint.
+fn single(upper: Line, lower: Line) -> bool
+    ensures { λ b. ⌜ b ≡ noConstraint (meaning upper .constraint) || noConstraint (meaning lower .constraint) ⌝ }
+{
+    if upper.relation == 0 {
+        return true;
+    }
+    lower.relation == 0
+}
+
+// It is positive in the first and negative in the second, and at most one has a constraint.
+fn resolvable(i: usize, upper: Line, lower: Line) -> bool
+    requires { ⌜ i < 32 ⌝ }
+    ensures { λ b. ⌜ b ≡ suited (boolean i) (meaning upper) (meaning lower) ⌝ }
+{
+    if !upper.has_positive_boolean(i) {
+        return false;
+    }
+    if !lower.has_negative_boolean(i) {
+        return false;
+    }
+    single(upper, lower)
+}
+
+// A Boolean variable from 32 on occurs in no line.
+fn by_boolean(i: usize, upper: Line, lower: Line) -> Stated
+    requires { ⌜ Ready upper ⌝ }
+    requires { ⌜ Ready lower ⌝ }
+    ensures { λ s. ⌜ Holds (derived (boolean i) (some (meaning upper)) (some (meaning lower))) s ⌝ }
+{
+    if 32 <= i {
+        return unstated();
+    }
+    if !resolvable(i, upper, lower) {
+        return unstated();
+    }
+    made(resolve_boolean(i, upper, lower))
+}
+
+// By the variable that a step's first two bytes name.
+fn by_named(how: u8, which: u8, upper: Line, lower: Line) -> Stated
+    requires { ⌜ Ready upper ⌝ }
+    requires { ⌜ Ready lower ⌝ }
+    ensures { λ s. ⌜ Holds (derivedBy how which (some (meaning upper)) (some (meaning lower))) s ⌝ }
+{
+    if how == 1 {
+        return by_rational(which as usize, upper, lower);
+    }
+    if how == 2 {
+        return by_boolean(which as usize, upper, lower);
+    }
+    unstated()
+}
+
+// The resolvent that these bytes name, if they are its step's: its parents are among the first i lines.
+pub fn derived(proof: &[u8], i: usize, bytes: [u8; 64]) -> Stated
+    requires { ⌜ 64 * i ≤ length (now proof) ⌝ }
+    requires { ⌜ ReadyLines (now proof) i ⌝ }
+    ensures { λ s. ⌜ States (resolventStated (linesIn (now (proof .entry)) i) bytes) bytes s ⌝ }
+{
+    let first = u16_at(&bytes, 2);
+    let second = u16_at(&bytes, 4);
+    let at = first as usize;
+    let other = second as usize;
+    if i <= at {
+        return unstated();
+    }
+    if i <= other {
+        return unstated();
+    }
+    let upper = line_at(proof, at);
+    let lower = line_at(proof, other);
+    let how = bytes[0];
+    let which = bytes[1];
+    let s = by_named(how, which, upper, lower);
+    compared(how, which, first, second, s, bytes)
+}

@@ -1,0 +1,9 @@
+pub mod Bytes
+pub mod Amounts
+pub mod Fields
+pub mod Headers
+pub mod Lines
+pub mod Steps
+pub mod ReadBack
+pub mod Models
+pub mod Written

@@ -1,0 +1,59 @@
+-- Whether a clause holds depends only on the problem's variables: two assignments that agree on them satisfy the same clauses.
+use mathlib.Core.Path.{_≡_, sym, ap, _∙_}
+use mathlib.Core.Logic.{⊎-elim}
+use mathlib.Core.List.{List}
+use Prim.Native.Nat.{ℕ, _≤_, _<_}
+use lib.IntN.{ℤ, pos, _*ℤ_, zero-*ℤ}
+use lib.Dec.{ltb, ltb→lt, nltb→le}
+use lib.ListN.{getD}
+use Rattle.rules.specs.Lists.{all}
+use Rattle.rules.specs.Arithmetic.{sum}
+use Rattle.rules.specs.Problem.{Literal, Constraint, Clause}
+use Rattle.rules.specs.Meaning.{Assignment, literalHolds, constraintHolds, clauseHolds}
+use Rattle.theory_lists.specs.Tests.{split}
+use Rattle.theory_lists.specs.All.{All, all-map, any-agree, all-agree}
+use Rattle.theory_vectors.specs.Dot.{sum-terms}
+use Rattle.theory_splitting.specs.WellFormed.{WellFormedConstraint, WellFormedClause}
+
+-- on b Boolean variables, r rational ones and the denominator
+pub record Agree (b r : ℕ) (χ ξ : Assignment) : Type 0 where
+  pub booleans : (i : ℕ) → i < b → χ .booleans i ≡ ξ .booleans i
+  pub numerators : (f : ℕ) → f < r → χ .numerators f ≡ ξ .numerators f
+  pub denominator : χ .denominator ≡ ξ .denominator
+
+module _ (b r : ℕ) (χ ξ : Assignment) (agree : Agree b r χ ξ) where
+  literal-agrees : (l : Literal) → l .boolean < b → literalHolds χ l ≡ literalHolds ξ l
+  unfolding literalHolds
+  literal-agrees l h = rw (agree .booleans (l .boolean) h)
+
+  sums-agree : (c : Constraint) → WellFormedConstraint r c → sum (c .coefficients) (χ .numerators) ≡ sum (c .coefficients) (ξ .numerators)
+  sums-agree c w = sum-terms cs cs (χ .numerators) (ξ .numerators)
+      (λ i. ⊎-elim (λ h. below i (ltb→lt i r h)) (λ h. beyond i (nltb→le i r h)) (split (ltb i r)))
+    where
+      cs : List ℤ
+      cs = c .coefficients
+
+      below : (i : ℕ) → i < r → getD cs i (pos 0) *ℤ χ .numerators i ≡ getD cs i (pos 0) *ℤ ξ .numerators i
+      below i h = ap (λ (y : ℤ). getD cs i (pos 0) *ℤ y) (agree .numerators i h)
+
+      beyond : (i : ℕ) → r ≤ i → getD cs i (pos 0) *ℤ χ .numerators i ≡ getD cs i (pos 0) *ℤ ξ .numerators i
+      beyond i h = rw (w .beyond i h) (zero-*ℤ (χ .numerators i) ∙ sym (zero-*ℤ (ξ .numerators i)))
+
+  constraint-agrees : (c : Constraint) → WellFormedConstraint r c → constraintHolds χ c ≡ constraintHolds ξ c
+  unfolding constraintHolds
+  constraint-agrees c w = rw (sums-agree c w, agree .denominator)
+
+  clause-agrees : (c : Clause) → WellFormedClause b r c → clauseHolds χ c ≡ clauseHolds ξ c
+  unfolding clauseHolds
+  clause-agrees c w =
+      rw (
+        any-agree (literalHolds χ) (literalHolds ξ) (c .literals)
+            (all-map (λ l. l .boolean < b) (λ l. literalHolds χ l ≡ literalHolds ξ l) (c .literals) literal-agrees (w .literals)),
+        any-agree (constraintHolds χ) (constraintHolds ξ) (c .constraints)
+            (all-map (WellFormedConstraint r) (λ k. constraintHolds χ k ≡ constraintHolds ξ k) (c .constraints)
+            constraint-agrees (w .constraints)),
+      )
+
+  pub clauses-agree : (cs : List Clause) → All (WellFormedClause b r) cs → all (clauseHolds χ) cs ≡ all (clauseHolds ξ) cs
+  clauses-agree cs w = all-agree (clauseHolds χ) (clauseHolds ξ) cs
+      (all-map (WellFormedClause b r) (λ c. clauseHolds χ c ≡ clauseHolds ξ c) cs clause-agrees w)

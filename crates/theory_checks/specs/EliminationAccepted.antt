@@ -1,0 +1,85 @@
+-- The check accepts the proof of a course that ends with an empty line: its lines are sound, and their amounts in range, so the laws of
+-- the course and of the bytes meet.
+use mathlib.Core.Path.{_≡_, subst}
+use mathlib.Core.List.{List, [], _∷_, _++_}
+use Prim.Native.Nat.{ℕ, _≤_}
+use native.Mathlib.Omega.{arith}
+use lib.ListN.{length}
+use Rattle.rules_types.specs.declared.limits.Limits.{Limits}
+use Rattle.rules_types.specs.declared.answers.Checked.the-variants.{Accepted}
+use Rattle.rules.specs.Problem.{Problem}
+use Rattle.rules.specs.Lines.{Variable}
+use Rattle.rules.specs.Steps.{Step, encodeProof}
+use Rattle.rules.specs.Elimination.{State, ended, empty, limited, order, eliminate, loadableOf, elimination}
+use Rattle.rules.specs.Needs.{stepsOf}
+use Rattle.rules.specs.Calls.{read, sound, proofChecked}
+use Rattle.theory_lists.specs.All.{All, all-map, all-append}
+use Rattle.theory_lists.specs.Dropped.{dropped-is}
+use Rattle.theory_vectors.specs.Amounts.{overflows-no}
+use Rattle.theory_resolution.specs.Formed.{Formed, resolve-formed}
+use Rattle.theory_splitting.specs.WellFormed.{WellFormed}
+use Rattle.theory_splitting.specs.Reading.{read-well-formed}
+use Rattle.theory_splitting.specs.PartsForm.{LineForm}
+use Rattle.theory_splitting.specs.SplitProblem.{loadable-formed}
+use Rattle.theory_elimination.specs.Closed.{line-at, elimination-closed-unstopped}
+use Rattle.theory_elimination.specs.Sound.{Sound, elimination-sound}
+use Rattle.theory_elimination.specs.Pairable.{pairable-late}
+use Rattle.theory_elimination.specs.Held.{limited-held}
+use Rattle.theory_elimination.specs.Origins.{Each, Justified, elimination-origins}
+use Rattle.theory_elimination.specs.Ends.{EndsRight, elimination-ends}
+use Rattle.theory_bytes.specs.Lines.{Encodable, AllEncodable}
+use Rattle.theory_checks.specs.ProofAccepted.{Pairable, Refutation, proof-accepted}
+
+-- ---- the lines of a limited course come back from their bytes
+module _ (p : Problem) (w : WellFormed p) where
+  pub parts-encodable : AllEncodable (loadableOf p)
+  parts-encodable = all-map (λ s. LineForm _ (s .line)) (λ s. Encodable (s .line)) (loadableOf p)
+      (λ s h. record { formed = h .formed; small = h .small }) (loadable-formed p w)
+
+  pub elimination-encodable : (limits : Limits) (variables : List Variable)
+      → AllEncodable (stepsOf (eliminate (limited limits) variables (loadableOf p)))
+  unfolding limited
+  elimination-encodable limits variables =
+      elimination-closed-unstopped Encodable (limited limits) variables (loadableOf p)
+      (λ v u l m hu hl a b e t. record {
+        formed = dropped-is Formed e (resolve-formed v u l (hu .formed) (hl .formed));
+        small =
+            overflows-no m .0 t;
+      }) parts-encodable
+
+-- ---- a course's pairs are such as the check allows
+each-pairable : (earlier ss : List Step) → All (λ s. Sound (s .line)) earlier → All (λ s. Sound (s .line)) ss
+    → Each (Pairable order) earlier ss
+each-pairable earlier [] h k = tt
+each-pairable earlier (s ∷ ss) h k = (
+  λ d. pairable-late (d .variable) (d .round) (d .upper) (d .lower)
+      (line-at Sound earlier (d .first) (d .upper) (d .atFirst) h) (line-at Sound earlier (d .second) (d .lower) (d .atSecond) h) (d .place)
+      (d .ofUpper) (d .ofLower),
+  each-pairable (earlier ++ (s ∷ [])) ss (all-append (λ s. Sound (s .line)) earlier (s ∷ []) h (k .0, tt)) (k .1),
+)
+
+-- ---- the proof of a course that ends so
+module _ (limits : Limits) (q : List ℕ) (p : Problem) (e : read q ≡ sound p) (few : limits .steps ≤ 65536)
+    (steps : List Step) (n : ℕ) (f : elimination (limited limits) p ≡ ended empty steps n) where
+  held : length steps ≤ limits .steps
+  unfolding elimination stepsOf
+  held = subst (λ (state : State). length (stepsOf state) ≤ limits .steps) f (limited-held limits order (loadableOf p))
+
+  pub elimination-refutation : Refutation p steps
+  unfolding elimination stepsOf
+  elimination-refutation =
+      let w = read-well-formed q p e in
+      let parts = loadableOf p in
+      record {
+        parts = parts-encodable p w;
+        lines = subst (λ (state : State). AllEncodable (stepsOf state)) f (elimination-encodable p w limits order);
+        origins = subst (λ (state : State). Each (Justified order parts) [] (stepsOf state)) f
+            (elimination-origins order parts (limited limits));
+        pairs = each-pairable [] steps tt
+            (subst (λ (state : State). All (λ s. Sound (s .line)) (stepsOf state)) f (elimination-sound p w (limited limits) order));
+        few = omega (arith, held);
+        last = subst EndsRight f (elimination-ends (limited limits) order parts);
+      }
+
+  pub elimination-accepted : proofChecked limits q (encodeProof steps) ≡ Accepted
+  elimination-accepted = proof-accepted p steps elimination-refutation limits q held e

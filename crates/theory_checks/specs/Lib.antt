@@ -1,0 +1,11 @@
+pub mod Follows
+pub mod Refutation
+pub mod ProofChecked
+pub mod ModelChecked
+pub mod Agreement
+pub mod ModelAccepted
+pub mod Stated
+pub mod Following
+pub mod ProofAccepted
+pub mod EliminationAccepted
+pub mod ProofBytes

@@ -1,0 +1,130 @@
+-- The check accepts a proof whose lines are parts or resolvents of earlier lines, and whose last line is empty.
+use mathlib.Core.Path.{_≡_, sym, subst}
+use mathlib.Core.Bool.{Bool, true, false, _&&_}
+use mathlib.Core.Logic.{⊎-elim}
+use mathlib.Core.List.{List, [], _∷_, _++_}
+use mathlib.Core.Option.{some}
+use Prim.Native.Nat.{ℕ, _+_, _*_, _/_, _%_, _≤_}
+use native.Mathlib.Omega.{arith}
+use lib.Dec.{T, eqb, leb}
+use lib.ListN.{length, length-append}
+use mir.Facts.{yes-and, yes-leb, yes-eqb}
+use Rattle.rules_types.specs.declared.limits.Limits.{Limits}
+use Rattle.rules_types.specs.declared.answers.Checked.the-variants.{Accepted}
+use Rattle.rules_types.specs.Limits as limit
+use Rattle.rules.specs.Problem.{Problem}
+use Rattle.rules.specs.Lines.{Variable, isEmpty}
+use Rattle.rules.specs.Steps.{Step, resolved, encodeStep, encodeProof}
+use Rattle.rules.specs.Elimination.{order, loadableOf}
+use Rattle.rules.specs.Checker.{pairable, statedLine, checkSteps, checkProof}
+use Rattle.rules.specs.Calls.{read, sound, wholeSteps, proofChecked}
+use Rattle.theory_lists.specs.Tests.{is-true}
+use Rattle.theory_lists.specs.All.{All, all-map, map-append}
+use Rattle.theory_lists.specs.Places.{place-below}
+use Rattle.theory_resolution.specs.Formed.{Formed}
+use Rattle.theory_elimination.specs.Taken.{lines}
+use Rattle.theory_elimination.specs.Origins.{Each, Derived, Justified}
+use Rattle.theory_elimination.specs.Ends.{LastEmpty}
+use Rattle.theory_bytes.specs.Lines.{Encodable, AllEncodable}
+use Rattle.theory_bytes.specs.Steps.{take-step, drop-step, proof-length}
+use Rattle.theory_bytes.specs.Headers.{named-back, parents-back}
+use Rattle.theory_checks.specs.Stated.{stated-part, stated-resolvent, at-element, derived-line, resolvent-named}
+
+-- the two lines that a resolvent names may be paired
+abbrev pub Pairable : List Variable → List Step → Step → Type 0
+Pairable variables earlier s = (d : Derived variables earlier s) → T (pairable (d .variable) (d .upper) (d .lower))
+
+-- ---- each line is stated
+abbrev Stated : List Step → List Step → Step → Type 0
+Stated parts earlier s = statedLine parts (lines earlier) (encodeStep s) ≡ some (s .line)
+
+module _ (variables : List Variable) (parts : List Step) (known : AllEncodable parts) where
+  stated-derived : (earlier : List Step) (s : Step) → length earlier ≤ 65536 → Encodable (s .line) → (d : Derived variables earlier s)
+      → T (pairable (d .variable) (d .upper) (d .lower))
+      → Stated parts earlier s
+  stated-derived earlier s n h d q =
+      let v = d .variable in
+      let t : Step = record { origin = resolved v (d .first) (d .second); line = s .line } in
+      let e : t ≡ s = λ i. record { origin = sym (d .names) i; line = s .line } in
+      let first = place-below (λ x. x .line ≡ d .upper) earlier (d .first) (d .atFirst) in
+      let second = place-below (λ x. x .line ≡ d .lower) earlier (d .second) (d .atSecond) in
+      let b = parents-back v (d .first) (d .second) (s .line) (omega arith) (omega arith) in
+      let r = resolvent-named v (d .upper) (d .lower) (s .line) (d .first) (d .second) (lines earlier) (encodeStep t)
+      (named-back v (d .first) (d .second) (s .line)) (b .0) (b .1)
+      (at-element earlier (d .first) (d .upper) (d .atFirst)) (at-element earlier (d .second) (d .lower) (d .atSecond))
+      (derived-line v (d .upper) (d .lower) (s .line) (d .positive) (d .negative) q (d .result) h) in
+      subst (Stated parts earlier) e (stated-resolvent t h parts (lines earlier) known r)
+
+  each-stated : (earlier ss : List Step) → length earlier + length ss ≤ 65536 → AllEncodable ss
+      → Each (Justified variables parts) earlier ss → Each (Pairable variables) earlier ss
+      → Each (Stated parts) earlier ss
+  each-stated earlier [] n h j q = tt
+  each-stated earlier (s ∷ ss) n h j q = (
+    ⊎-elim (λ m. stated-part s (h .0) parts (lines earlier) known m) (λ d. stated-derived earlier s (omega arith) (h .0) d (q .0 d)) (j .0),
+    each-stated (earlier ++ (s ∷ [])) ss (rw length-append (omega arith)) (h .1) (j .1) (q .1),
+  )
+
+-- ---- so the check goes through to the end
+abbrev endsEmpty : Bool → List Step → Bool
+endsEmpty ends [] = ends
+endsEmpty ends (s ∷ ss) = endsEmpty (isEmpty (s .line)) ss
+
+last-empty : (ends : Bool) (ss : List Step) (s : Step) → T (isEmpty (s .line)) → T (endsEmpty ends (ss ++ (s ∷ [])))
+last-empty ends [] s h = h
+last-empty ends (x ∷ ss) s h = last-empty (isEmpty (x .line)) ss s h
+
+steps-accepted : (parts earlier ss : List Step) (ends : Bool) → All (λ s. Formed (s .line)) ss
+    → Each (Stated parts) earlier ss → T (endsEmpty ends ss)
+    → checkSteps parts (length ss) (lines earlier) ends (encodeProof ss) ≡ Accepted
+unfolding checkSteps
+steps-accepted parts earlier [] ends f e t = rw (is-true ends t)
+steps-accepted parts earlier (s ∷ ss) ends f e t =
+    let r = steps-accepted parts (earlier ++ (s ∷ [])) ss (isEmpty (s .line)) (f .1) (e .1) t in
+    rw (take-step s ss (f .0), checkSteps, e .0, drop-step s ss (f .0)) (rw (map-append (λ (s : Step). s .line) earlier (s ∷ [])) at r)
+
+-- ---- the check of a proof
+pub record Refutation (p : Problem) (steps : List Step) : Type 0 where
+  pub parts : AllEncodable (loadableOf p)
+  pub lines : AllEncodable steps
+  pub origins : Each (Justified order (loadableOf p)) [] steps
+  pub pairs : Each (Pairable order) [] steps
+  pub few : length steps ≤ 65536
+  pub last : LastEmpty steps
+
+all-formed : (steps : List Step) → AllEncodable steps → All (λ s. Formed (s .line)) steps
+all-formed steps h = all-map (λ s. Encodable (s .line)) (λ s. Formed (s .line)) steps (λ s k. k .formed) h
+
+module _ (p : Problem) (steps : List Step) (refutation : Refutation p steps) where
+  -- as long as its lines: 64 to 64 N bytes by 64s
+  pub refutation-length : length (encodeProof steps) ≡ 64 * length steps
+  refutation-length = proof-length steps (all-formed steps (refutation .lines))
+
+  pub refutation-some : 1 ≤ length steps
+  refutation-some = rw (refutation .last .is, length-append) (omega arith)
+
+  pub refutation-accepted : checkProof p (encodeProof steps) ≡ Accepted
+  unfolding checkProof
+  refutation-accepted =
+      let n : length (encodeProof steps) / 64 ≡ length steps = rw refutation-length (omega arith) in
+      let ends : T (endsEmpty false steps) =
+      rw (refutation .last .is) (last-empty false (refutation .last .before) (refutation .last .last) (refutation .last .blank)) in
+      rw n
+      (steps-accepted (loadableOf p) [] steps false (all-formed steps (refutation .lines))
+      (each-stated order (loadableOf p) (refutation .parts) [] steps (omega (arith, refutation .few)) (refutation .lines)
+      (refutation .origins) (refutation .pairs)) ends)
+
+  module _ (limits : Limits) (q : List ℕ) (few : length steps ≤ limits .steps) where
+    whole : wholeSteps limits (length (encodeProof steps)) ≡ true
+    unfolding wholeSteps
+    whole =
+        let n = length (encodeProof steps) in
+        let a : 64 ≤ n = omega (arith, refutation-length, refutation-some) in
+        let b : n ≤ limits .steps * 64 = omega (arith, refutation-length) in
+        let c : n % 64 ≡ 0 = rw refutation-length (omega arith) in
+        is-true (leb 64 n && leb n (limit.proofBytes limits) && eqb (n % 64) 0)
+        (yes-and (leb 64 n && leb n (limit.proofBytes limits)) (eqb (n % 64) 0)
+        (yes-and (leb 64 n) (leb n (limit.proofBytes limits)) (yes-leb a) (yes-leb b)) (yes-eqb c))
+
+    pub proof-accepted : read q ≡ sound p → proofChecked limits q (encodeProof steps) ≡ Accepted
+    unfolding proofChecked
+    proof-accepted e = rw (e, proofChecked, whole) refutation-accepted

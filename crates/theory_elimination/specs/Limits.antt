@@ -1,0 +1,132 @@
+-- Limits: the limited course is the course without limits exactly if that fits them; otherwise it ends as wide or full.
+use mathlib.Core.Path.{_≡_, refl, _∙_, subst}
+use mathlib.Core.Bool.{Bool, true, false, not, _&&_}
+use mathlib.Core.Logic.{_⊎_, inl, inr, ⊎-elim}
+use mathlib.Core.List.{List, [], _∷_}
+use mathlib.Core.Option.{none}
+use Prim.Native.Nat.{ℕ, _≤_, _<_}
+use native.Mathlib.Omega.{arith}
+use lib.Dec.{T, leb}
+use lib.Arith.{lt→nleb}
+use lib.ListN.{length}
+use Rattle.rules_types.specs.declared.limits.Limits.{Limits}
+use Rattle.rules.specs.Problem.{Problem}
+use Rattle.rules.specs.Elimination.{Stops, limited, unlimited, empty, overflow, outOfSteps, State, running, ended, covered, overflows}
+use Rattle.rules.specs.Elimination.{order, loadableOf, eliminate, elimination}
+use Rattle.rules.specs.Needs.{stepsOf, needs, resolvents, Fits}
+use Rattle.theory_lists.specs.Tests.{is-false}
+use Rattle.theory_lists.specs.All.{All, all-map, all-both, all-yes, yes-all}
+use Rattle.theory_elimination.specs.Events.{Event, events}
+use Rattle.theory_elimination.specs.Cut.{stopOf, stopAt, endedAt, cut, eliminate-cut}
+use Rattle.theory_elimination.specs.Held.{limited-held, Unstopped, unlimited-unstopped}
+use Rattle.theory_elimination.specs.Resolvents.{resolvents-are, resolvents-all, all-resolvents}
+use Rattle.theory_elimination.specs.Longer.{Room, events-room}
+
+-- ---- no event stops it
+abbrev Passes : Stops → Event → Type 0
+Passes stops e = stopAt stops e ≡ none
+
+cut-passes : (stops : Stops) (es : List Event) (state : State) → All (Passes stops) es → cut stops es state ≡ state
+unfolding cut endedAt
+cut-passes stops [] state h = refl
+cut-passes stops (e ∷ es) state h = rw (h .0) (cut-passes stops es state (h .1))
+
+-- ---- an event that fits passes, and one that passes fits
+abbrev InRange : Event → Type 0
+InRange e = T (e .isResolvent) → T (not (overflows (e .line)))
+
+fit-passes : (N : ℕ) (r w known : Bool) (held : ℕ) → (T r → T (not w)) → (T (not known) → held < N)
+    → stopOf (r && w) known (leb N held) ≡ none
+unfolding stopOf
+fit-passes N true true known held f g = absurd (f tt)
+fit-passes N true false true held f g = refl
+fit-passes N true false false held f g = rw (is-false (leb N held) (lt→nleb N held (g tt)))
+fit-passes N false w true held f g = refl
+fit-passes N false w false held f g = rw (is-false (leb N held) (lt→nleb N held (g tt)))
+
+pass-in-range : (r w known many : Bool) → stopOf (r && w) known many ≡ none → T r → T (not w)
+unfolding stopOf
+pass-in-range true true known many e z = let k : _≡_ {A = ℕ} 0 1 = cc in absurd (omega arith)
+pass-in-range true false known many e z = tt
+pass-in-range false w known many e z = absurd z
+
+-- ---- some event stops it
+abbrev pub Stopped : State → Type 0
+Stopped (running steps n) = ⊥
+Stopped (ended empty steps n) = ⊥
+Stopped (ended overflow steps n) = Unit {0}
+Stopped (ended outOfSteps steps n) = Unit {0}
+
+pub stopped-clash : (state : State) → Unstopped state → Stopped state → ⊥
+stopped-clash (running steps n) h k = k
+stopped-clash (ended empty steps n) h k = k
+stopped-clash (ended overflow steps n) h k = h
+stopped-clash (ended outOfSteps steps n) h k = h
+
+stop-or : (w known many : Bool) → (stopOf w known many ≡ none)
+    ⊎ ((e : Event) (state : State) → Stopped (endedAt (stopOf w known many) e state))
+unfolding stopOf endedAt
+stop-or true known many = inr (λ e state. tt)
+stop-or false true many = inl refl
+stop-or false false true = inr (λ e state. tt)
+stop-or false false false = inl refl
+
+module _ (stops : Stops) where
+  at-or : (e : Event) → Passes stops e ⊎ ((state : State) → Stopped (endedAt (stopAt stops e) e state))
+  unfolding stopAt
+  at-or e = ⊎-elim (λ h. inl h) (λ f. inr (f e))
+      (stop-or (e .isResolvent && stops .atLine (e .line)) (covered (e .line) (e .steps)) (stops .atSteps (length (e .steps))))
+
+  pass-on : (e : Event) (state : State) → Passes stops e → Stopped state → Stopped (endedAt (stopAt stops e) e state)
+  unfolding endedAt
+  pass-on e state h k = rw h k
+
+  cut-or : (es : List Event) (state : State) → All (Passes stops) es ⊎ Stopped (cut stops es state)
+  unfolding cut
+  cut-or [] state = inl tt
+  cut-or (e ∷ es) state = ⊎-elim (λ h. ⊎-elim (λ k. inl (h, k)) (λ k. inr (pass-on e (cut stops es state) h k)) (cut-or es state))
+      (λ f. inr (f (cut stops es state))) (at-or e)
+
+-- ---- the theorem, for every limit
+module _ (limits : Limits) (p : Problem) where
+  abbrev es : List Event
+  es = events order (loadableOf p)
+
+  all-pass : Fits limits p → All (Passes (limited limits)) es
+  unfolding needs elimination stopAt limited
+  all-pass h =
+      all-map (λ e. InRange e × Room (limits .steps) e) (Passes (limited limits)) es (λ e k. fit-passes (limits .steps) (e .isResolvent)
+      (overflows (e .line)) (covered (e .line) (e .steps)) (length (e .steps)) (k .0) (k .1))
+      (all-both InRange (Room (limits .steps)) es
+      (resolvents-all (λ l. T (not (overflows l))) es
+      (rw (resolvents-are p) (all-yes (λ l. not (overflows l)) (resolvents p) (h .amounts))))
+      (events-room order (loadableOf p) (limits .steps) (h .steps)))
+
+  pub fits-same : Fits limits p → elimination (limited limits) p ≡ elimination unlimited p
+  unfolding elimination
+  fits-same h = eliminate-cut (limited limits) order (loadableOf p)
+      ∙ cut-passes (limited limits) es (eliminate unlimited order (loadableOf p)) (all-pass h)
+
+  pass-fits : All (Passes (limited limits)) es → Fits limits p
+  unfolding needs elimination stopAt limited
+  pass-fits h =
+      let same = eliminate-cut (limited limits) order (loadableOf p)
+      ∙ cut-passes (limited limits) es (eliminate unlimited order (loadableOf p)) h in
+      record {
+        steps = subst (λ (s : State). length (stepsOf s) ≤ limits .steps) same (limited-held limits order (loadableOf p));
+        amounts =
+            yes-all (λ l. not (overflows l)) (resolvents p) (subst (All (λ l. T (not (overflows l)))) (resolvents-are p)
+            (all-resolvents (λ l. T (not (overflows l))) es (all-map (Passes (limited limits)) InRange es (λ e k. pass-in-range
+            (e .isResolvent) (overflows (e .line)) (covered (e .line) (e .steps)) (leb (limits .steps) (length (e .steps))) k) h)));
+      }
+
+  pub fits-or-stopped : Fits limits p ⊎ Stopped (elimination (limited limits) p)
+  unfolding elimination
+  fits-or-stopped =
+      ⊎-elim (λ h. inl (pass-fits h)) (λ k. inr (rw (eliminate-cut (limited limits) order (loadableOf p)) k))
+      (cut-or (limited limits) es (eliminate unlimited order (loadableOf p)))
+
+  pub fits-unstopped : Fits limits p → Stopped (elimination (limited limits) p) → ⊥
+  unfolding elimination
+  fits-unstopped h k =
+      stopped-clash (eliminate unlimited order (loadableOf p)) (unlimited-unstopped order (loadableOf p)) (subst Stopped (fits-same h) k)

@@ -1,0 +1,1 @@
+// Laws of the course: specs/. There is no code here.

@@ -1,0 +1,7 @@
+pub mod Difference
+pub mod Ring
+pub mod Order
+pub mod Product
+pub mod Size
+pub mod Natural
+pub mod Quotient

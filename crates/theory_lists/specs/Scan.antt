@@ -1,0 +1,64 @@
+-- Scans of lists from the front: what a place decides, and what is left from a place on.
+use mathlib.Core.Path.{_≡_, refl}
+use mathlib.Core.Bool.{Bool, true, false, not, _&&_, _||_, or-true, and-false}
+use mathlib.Core.List.{List, [], _∷_}
+use Prim.Native.Nat.{ℕ, zero, suc, _+_, _<_}
+use native.Mathlib.Numerals.{add-one}
+use native.Mathlib.Omega.{arith}
+use borrow.Author.Tests.{not-true, not-false}
+use lib.ListN.{length, getD, drop}
+use lib.Seq.{drop-cons, drop-length}
+use Rattle.rules.specs.Lists.{any, same}
+
+module _ {A : Type 0} where
+  drop-end : (s : List A) (i : ℕ) → length s ≡ i → drop i s ≡ []
+  drop-end s i h = rw (← h) (drop-length s)
+
+  -- ---- some element passes a test
+  pub any-next : (d : A) (t : A → Bool) (s : List A) (i : ℕ) → i < length s → any t (drop i s) ≡ t (getD s i d) || any t (drop (i + 1) s)
+  unfolding any
+  any-next d t s i h = rw (add-one i, drop-cons s i d h)
+
+  pub any-end : (t : A → Bool) (s : List A) (i : ℕ) → length s ≡ i → any t (drop i s) ≡ false
+  unfolding any
+  any-end t s i h = rw (drop-end s i h)
+
+  module _ (d : A) (t : A → Bool) where
+    pub any-at : (s : List A) (i : ℕ) → i < length s → t (getD s i d) ≡ true → any t s ≡ true
+    unfolding any
+    any-at [] i h e = absurd (omega arith)
+    any-at (a ∷ s) zero h e = rw e
+    any-at (a ∷ s) (suc i) h e = rw (any-at s i (omega arith) e) (or-true (t a))
+
+    pub any-none : (s : List A) → ((k : ℕ) → k < length s → t (getD s k d) ≡ false) → any t s ≡ false
+    unfolding any
+    any-none [] e = refl
+    any-none (a ∷ s) e = rw (e 0 (omega arith)) (any-none s (λ k h. e (suc k) (omega arith)))
+
+  -- ---- two lists have equal elements
+  pub same-next : (d : A) (equals : A → A → Bool) (s u : List A) (i : ℕ) → i < length s → i < length u
+      → same equals (drop i s) (drop i u) ≡ equals (getD s i d) (getD u i d) && same equals (drop (i + 1) s) (drop (i + 1) u)
+  unfolding same
+  same-next d equals s u i h k = rw (add-one i, drop-cons s i d h, drop-cons u i d k)
+
+  pub same-end : (equals : A → A → Bool) (s u : List A) (i : ℕ) → length s ≡ i → length u ≡ i → same equals (drop i s) (drop i u) ≡ true
+  unfolding same
+  same-end equals s u i h k = rw (drop-end s i h, drop-end u i k)
+
+  module _ (d : A) (equals : A → A → Bool) where
+    pub same-at : (s u : List A) (i : ℕ) → i < length s → i < length u → not (equals (getD s i d) (getD u i d)) ≡ true
+        → same equals s u ≡ false
+    unfolding same
+    same-at [] u i h k e = absurd (omega arith)
+    same-at (a ∷ s) [] i h k e = refl
+    same-at (a ∷ s) (b ∷ u) zero h k e = rw (not-true (equals a b) e)
+    same-at (a ∷ s) (b ∷ u) (suc i) h k e = rw (same-at s u i (omega arith) (omega arith) e) (and-false (equals a b))
+
+    pub same-none : (s u : List A) → length s ≡ length u
+        → ((k : ℕ) → k < length s → not (equals (getD s k d) (getD u k d)) ≡ false) → same equals s u ≡ true
+    unfolding same
+    same-none [] [] n e = refl
+    same-none [] (b ∷ u) n e = absurd (omega arith)
+    same-none (a ∷ s) [] n e = absurd (omega arith)
+    same-none (a ∷ s) (b ∷ u) n e =
+        rw (not-false (equals a b) (e 0 (omega arith))) (same-none s u (omega arith) (λ k h. e (suc k) (omega arith)))

@@ -1,0 +1,51 @@
+-- Normalizing leaves no constant constraint: one that a normal line has contains a rational variable.
+use mathlib.Core.Path.{_≡_, refl}
+use mathlib.Core.Bool.{not}
+use mathlib.Core.List.{List, [], _∷_}
+use mathlib.Core.Option.{Option, none, some}
+use Prim.Native.Nat.{ℕ, suc, _<_, _∣_}
+use lib.IntN.{ℤ, pos, natAbs}
+use lib.Dec.{T}
+use lib.ListN.{getD}
+use Rattle.rules.specs.Lists.{all}
+use Rattle.rules.specs.Arithmetic.{gcdAll, isZero}
+use Rattle.rules.specs.Problem.{Constraint}
+use Rattle.rules.specs.Lines.{Line, Variable}
+use Rattle.rules.specs.Normalize.{settled, settledLine, reduced, normalLine}
+use Rattle.rules.specs.Resolve.{resolvent, resolve}
+use Rattle.theory_vectors.specs.Sign.{isZero-quot}
+use Rattle.theory_vectors.specs.Gcd.{gcdAll-dvd, gcdAll-proper}
+use Rattle.theory_vectors.specs.Constraint.{quotients}
+use Rattle.theory_lists.specs.Dropped.{DroppedOr}
+use Rattle.theory_resolution.specs.Settled.{settled-cases}
+use Rattle.theory_resolution.specs.NormalLine.{line-ends}
+
+-- a constraint, where there is one, has a coefficient that is not 0
+abbrev pub Proper : Option Constraint → Type 0
+Proper none = Unit {0}
+Proper (some c) = T (not (all isZero (c .coefficients)))
+
+quotients-zero : (g : ℕ) (cs : List ℤ) → 0 < g → ((i : ℕ) → g ∣ natAbs (getD cs i (pos 0))) → all isZero (quotients g cs) ≡ all isZero cs
+unfolding all
+quotients-zero g [] z d = refl
+quotients-zero g (c ∷ cs) z d = rw (isZero-quot g c z (d 0), quotients-zero g cs z (λ i. d (suc i)))
+
+pub reduced-proper : (c : Constraint) → Proper (some c) → Proper (some (reduced c))
+unfolding reduced
+reduced-proper c n =
+    let cs = c .bound ∷ c .coefficients in
+    rw (quotients-zero (gcdAll cs) (c .coefficients) (gcdAll-proper (c .bound) (c .coefficients) n) (λ i. gcdAll-dvd cs (suc i))) n
+
+abbrev pub ProperLine : Line → Type 0
+ProperLine l = Proper (l .constraint)
+
+settled-proper : (l : Line) (c : Constraint) → DroppedOr ProperLine (settledLine l (settled c))
+unfolding settledLine
+settled-proper l c = settled-cases (λ s. DroppedOr ProperLine (settledLine l s)) c (λ z r. tt) (λ z r. tt) (reduced-proper c)
+
+pub normal-line-proper : (l : Line) → DroppedOr ProperLine (normalLine l)
+normal-line-proper l = line-ends (DroppedOr ProperLine) l (λ h. tt) (λ n e. rw e tt) (λ n c e. settled-proper l c)
+
+pub resolve-proper : (v : Variable) (u l : Line) → DroppedOr ProperLine (resolve v u l)
+unfolding resolve
+resolve-proper v u l = normal-line-proper (resolvent v u l)

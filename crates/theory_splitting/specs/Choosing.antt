@@ -1,0 +1,30 @@
+-- Other values for some Boolean variables: a clause without these variables keeps its meaning.
+use mathlib.Core.Path.{_≡_, refl}
+use mathlib.Core.Bool.{Bool}
+use mathlib.Core.List.{List}
+use Prim.Native.Nat.{ℕ}
+use Rattle.theory_lists.specs.All.{All, all-map, any-agree}
+use Rattle.rules.specs.Lists.{any}
+use Rattle.rules.specs.Problem.{Literal, Constraint, Clause}
+use Rattle.rules.specs.Meaning.{Assignment, literalHolds, constraintHolds, clauseHolds}
+use Rattle.theory_resolution.specs.Choosing.{choosing, Same}
+
+module _ (χ : Assignment) (g : ℕ → Bool) where
+  pub constraints-choosing : (cs : List Constraint) → any (constraintHolds χ) cs ≡ any (constraintHolds (choosing g χ)) cs
+  unfolding constraintHolds
+  constraints-choosing cs = refl
+
+  literal-choosing : (l : Literal) → Same χ g (l .boolean) → literalHolds χ l ≡ literalHolds (choosing g χ) l
+  unfolding literalHolds
+  literal-choosing l e = rw e
+
+  pub clause-choosing : (c : Clause) → All (λ l. Same χ g (l .boolean)) (c .literals) → clauseHolds χ c ≡ clauseHolds (choosing g χ) c
+  unfolding clauseHolds
+  clause-choosing c e =
+      let ψ = choosing g χ in
+      let ls = c .literals in
+      rw (
+        any-agree (literalHolds χ) (literalHolds ψ) ls (all-map (λ l. Same χ g (l .boolean)) (λ l. literalHolds χ l ≡ literalHolds ψ l)
+            ls literal-choosing e),
+        constraints-choosing (c .constraints),
+      )

@@ -1,0 +1,36 @@
+-- What solving comes to, by the sizes of the lent buffers and by what reading says of the question.
+use mathlib.Core.Path.{_≡_, _∙_}
+use mathlib.Core.List.{List}
+use Prim.Native.Nat.{ℕ, _≤_, _<_}
+use borrow.Author.Tests.{lt-ltb, le-ltb}
+use lib.ListN.{length}
+use Rattle.rules_types.specs.declared.answers.Refusal.{Refusal}
+use Rattle.rules_types.specs.declared.answers.Refusal.the-variants as refusal
+use Rattle.rules_types.specs.declared.limits.Limits.{Limits}
+use Rattle.rules_types.specs.Limits as limit
+use Rattle.rules.specs.Problem.{Problem}
+use Rattle.rules.specs.Elimination.{limited, elimination}
+use Rattle.rules.specs.Calls.{faulted, faulty, sound, read, concluded, outcome, lent}
+
+module _ (limits : Limits) (input proof model : List ℕ) where
+  pub lent-short-proof : length proof < limit.proofBytes limits → lent limits input proof model ≡ faulted refusal.ShortProof 0
+  unfolding lent
+  lent-short-proof h = rw (lt-ltb (length proof) (limit.proofBytes limits) h, lent)
+
+  module _ (h : limit.proofBytes limits ≤ length proof) where
+    pub lent-short-model : length model < limit.modelBytes → lent limits input proof model ≡ faulted refusal.ShortModel 0
+    unfolding lent
+    lent-short-model k = rw (le-ltb (length proof) (limit.proofBytes limits) h, lent, lt-ltb (length model) limit.modelBytes k)
+
+    module _ (k : limit.modelBytes ≤ length model) where
+      lent-full : lent limits input proof model ≡ outcome limits input
+      unfolding lent
+      lent-full = rw (le-ltb (length proof) (limit.proofBytes limits) h, lent, le-ltb (length model) limit.modelBytes k)
+
+      pub lent-fault : (f : Refusal) (place : ℕ) → read input ≡ faulty f place → lent limits input proof model ≡ faulted f place
+      unfolding outcome
+      lent-fault f place e = lent-full ∙ rw (e, outcome)
+
+      pub lent-sound : (p : Problem) → read input ≡ sound p → lent limits input proof model ≡ concluded p (elimination (limited limits) p)
+      unfolding outcome
+      lent-sound p e = lent-full ∙ rw (e, outcome)

@@ -1,0 +1,14 @@
+pub mod WellFormed
+pub mod NormalClause
+pub mod NormalForm
+pub mod Choosing
+pub mod Parts
+pub mod PartsGive
+pub mod PartsChosen
+pub mod PartsForm
+pub mod SplitClause
+pub mod SplitProblem
+pub mod Readers
+pub mod Reading
+pub mod Lent
+pub mod Named

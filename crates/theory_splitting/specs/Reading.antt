@@ -1,0 +1,128 @@
+-- Every problem that reading accepts is well formed.
+use mathlib.Core.Path.{_≡_, refl, subst}
+use mathlib.Core.Bool.{Bool}
+use mathlib.Core.Logic.{⊎-elim}
+use mathlib.Core.List.{List, [], _∷_, _++_}
+use mathlib.Core.Option.{Option, none, some}
+use Prim.Native.Nat.{ℕ, zero, suc, _+_, _-_, _%_, _≤_, _<_}
+use native.Mathlib.Omega.{arith}
+use lib.IntN.{ℤ, pos}
+use lib.Dec.{eqb, ltb, leb→le, ltb→lt, nltb→le}
+use lib.ListN.{length, getD, replicate, length-append, length-replicate}
+use Rattle.rules_types.specs.declared.answers.Refusal.{Refusal}
+use Rattle.rules_types.specs.declared.answers.Refusal.the-variants as refusal
+use Rattle.rules_types.specs.Limits as limit
+use Rattle.theory_lists.specs.Tests.{split, is-true, is-false}
+use Rattle.theory_lists.specs.All.{All, all-append, getD-replicate-same}
+use Rattle.rules.specs.Bytes.{fromUnsigned}
+use Rattle.rules.specs.Problem.{Clause, Problem, Read, fault, got, amount, literal, constraint, clause, end, problem}
+use Rattle.rules.specs.Split.{splitsOf, overSplit}
+use Rattle.rules.specs.Calls.{Reading, faulty, sound, withinSplits, read}
+use Rattle.theory_vectors.specs.Amounts.{Small, range-small, zeros-small}
+use Rattle.theory_splitting.specs.WellFormed.{WellFormedConstraint, WellFormedClause, splitsIn, WellFormed}
+use Rattle.theory_splitting.specs.Readers.{Gives, Yields, then-yields, field-then, repeat-then}
+
+-- ---- literals
+literal-yields : (b : ℕ) → Yields (λ l. l .boolean < b) (literal b)
+unfolding literal
+literal-yields b = field-then (λ l. l .boolean < b) _ _ _ _ (λ code h bytes place. ltb→lt (code % 128) b h)
+
+-- ---- constraints
+pub amount-yields : (f : Refusal) → Yields Small (amount f)
+unfolding amount
+amount-yields f = field-then Small _ _ _ _ (λ n h bytes place. range-small (fromUnsigned n) .0 h)
+
+getD-padded : (cs : List ℤ) (n i : ℕ) → length cs ≤ i → getD (cs ++ replicate n (pos 0)) i (pos 0) ≡ pos 0
+getD-padded [] n i h = getD-replicate-same n i (pos 0)
+getD-padded (c ∷ cs) n zero h = absurd (omega arith)
+getD-padded (c ∷ cs) n (suc i) h = getD-padded cs n i (omega arith)
+
+padded-formed : (r : ℕ) (s : Bool) (cs : List ℤ) (β : ℤ) → r ≤ 8 → length cs ≡ r → All Small cs → Small β
+    → WellFormedConstraint r (record { strict = s; coefficients = cs ++ replicate (limit.rationals - r) (pos 0); bound = β })
+padded-formed r s cs β z e h k =
+    let n = limit.rationals - r in
+    record {
+      coefficients = omega (arith, length-append cs (replicate n (pos 0)), length-replicate n (pos 0));
+      beyond = λ i l. getD-padded cs n i (omega arith);
+      amounts = all-append Small cs (replicate n (pos 0)) h (zeros-small n);
+      bound = k;
+    }
+
+constraint-yields : (r : ℕ) → r ≤ 8 → Yields (WellFormedConstraint r) (constraint r)
+unfolding constraint
+constraint-yields r z =
+    field-then (WellFormedConstraint r) _ _ _ _ (λ relation t.
+    repeat-then (WellFormedConstraint r) Small _ _ _ (amount-yields refusal.Amount) (λ cs h e.
+    then-yields Small (WellFormedConstraint r) _ _ (amount-yields refusal.Amount)
+    (λ β k bytes place. padded-formed r (eqb relation 2) cs β z e h k)))
+
+-- ---- clauses
+clause-yields : (b r : ℕ) → r ≤ 8 → Yields (WellFormedClause b r) (clause b r)
+unfolding clause
+clause-yields b r z bytes start =
+    field-then (WellFormedClause b r) _ _ _ _ (λ m u.
+    repeat-then (WellFormedClause b r) (λ l. l .boolean < b) _ _ _ (literal-yields b) (λ ls h e.
+    field-then (WellFormedClause b r) _ _ _ _ (λ t v.
+    repeat-then (WellFormedClause b r) (WellFormedConstraint r) _ _ _ (constraint-yields r z) (λ cs k e bytes place. record {
+      literals = h;
+      constraints = k;
+    }))))
+    bytes start
+
+-- ---- problems, whose splits are counted later
+abbrev FormedBut : Problem → Type 0
+FormedBut p = splitsIn (p .clauses) ≤ limit.splits → WellFormed p
+
+end-yields : (P : Problem → Type 0) (p : Problem) → P p → Yields P (end p)
+unfolding end
+end-yields P p h [] place = h
+end-yields P p h (x ∷ bytes) place = tt
+
+problem-yields : Yields FormedBut problem
+unfolding problem
+problem-yields =
+    field-then FormedBut _ _ _ _ (λ b h.
+    field-then FormedBut _ _ _ _ (λ r k.
+    field-then FormedBut _ _ _ _ (λ n u.
+    repeat-then FormedBut (WellFormedClause b r) _ _ _ (clause-yields b r (leb→le r limit.rationals k)) (λ cs c e.
+    end-yields FormedBut _ (λ s. record {
+      booleans = leb→le b limit.booleans h;
+      rationals = leb→le r limit.rationals k;
+      clauses = c;
+      splits = s;
+    })))))
+
+-- ---- splits
+some-not-none : {A : Type 0} (a : A) → some a ≡ none → ⊥
+some-not-none a e = let z : _≡_ {A = ℕ} 0 1 = cc in omega arith
+
+within-splits : (k : ℕ) (cs : List Clause) → k ≤ limit.splits → overSplit k cs ≡ none → k + splitsIn cs ≤ limit.splits
+unfolding overSplit
+within-splits k [] z e = omega arith
+within-splits k (c ∷ cs) z e =
+    let n = k + splitsOf c in
+    let L = ltb limit.splits n in
+    ⊎-elim (λ t. absurd (some-not-none (c .start) (rw (is-true L t, overSplit) at e)))
+    (λ t. omega (arith, within-splits n cs (nltb→le limit.splits n t) (rw (is-false L t, overSplit) at e))) (split L)
+
+-- ---- questions
+abbrev pub SoundIs : (Problem → Type 0) → Reading → Type 0
+SoundIs P (faulty f place) = Unit {0}
+SoundIs P (sound p) = P p
+
+splits-formed : (r : Read Problem) → Gives FormedBut r → SoundIs WellFormed (withinSplits r)
+unfolding withinSplits
+splits-formed (fault f place) h = tt
+splits-formed (got p bytes place) h = by (overSplit 0 (p .clauses)) refl
+  where
+    by : (o : Option ℕ) → overSplit 0 (p .clauses) ≡ o → SoundIs WellFormed (withinSplits (got p bytes place))
+    by none e = rw (e, withinSplits) (h (omega (arith, within-splits 0 (p .clauses) (omega arith) e)))
+    by (some start) e = rw (e, withinSplits) tt
+
+read-is-formed : (q : List ℕ) → SoundIs WellFormed (read q)
+unfolding read
+read-is-formed q = let L = ltb limit.problemBytes (length q) in
+    ⊎-elim (λ t. rw (is-true L t, read) tt) (λ t. rw (is-false L t, read) (splits-formed (problem q 0) (problem-yields q 0))) (split L)
+
+pub read-well-formed : (q : List ℕ) (p : Problem) → read q ≡ sound p → WellFormed p
+read-well-formed q p e = subst (SoundIs WellFormed) e (read-is-formed q)

@@ -1,0 +1,43 @@
+// A rational variable's value in its round, or that a gathered bound or the value is beyond the range of amounts.
+use crate::gather::gathered;
+use fractions::bound::value;
+use fractions::fraction::Fraction;
+use models::model::Model;
+ghost use Prim.Native.Nat.{_*_, _≤_, _<_};
+ghost use lib.ListN.{length};
+ghost use Rattle.fractions.specs.Meaning.{meaning};
+ghost use Rattle.steps.specs.Lines.{linesIn, ReadyLines};
+ghost use Rattle.models.specs.Model.{assignment};
+ghost use Rattle.values.specs.Range.{InRange};
+ghost use Rattle.values.specs.Chosen.{Chosen};
+
+pub struct RationalValue {
+    pub beyond: bool,
+    pub value: Fraction,
+}
+
+pub fn rational_value(proof: &[u8], n: usize, f: usize, model: Model) -> RationalValue
+    requires { ⌜ 64 * n ≤ length (now proof) ⌝ }
+    requires { ⌜ ReadyLines (now proof) n ⌝ }
+    requires { ⌜ f < 8 ⌝ }
+    requires { ⌜ InRange model ⌝ }
+    ensures { λ r. ⌜ Chosen (r .beyond) (assignment model) f (linesIn (now (proof .entry)) n) (meaning (r .value)) ⌝ }
+{
+    let b = gathered(proof, n, f, model);
+    if b.beyond {
+        return RationalValue {
+            beyond: true,
+            value: Fraction {
+                numerator: 0,
+                denominator: 1,
+            },
+        };
+    }
+    let lower = b.lower;
+    let upper = b.upper;
+    let x = value(lower, upper);
+    RationalValue {
+        beyond: x.beyond(),
+        value: x,
+    }
+}

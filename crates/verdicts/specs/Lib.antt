@@ -1,3 +1,0 @@
-pub mod Refuted
-pub mod Satisfied
-pub mod Decided
