@@ -8,6 +8,7 @@ use lib.ListN.{length, getElem?, take, drop}
 use Rattle.rules_types.specs.declared.answers.Checked.{Checked}
 use Rattle.rules_types.specs.declared.answers.Checked.the-variants.{Accepted, Fails}
 use Rattle.rules_types.specs.Limits as limit
+use Rattle.rules_types.specs.Layout as layout
 use Rattle.rules.specs.Lists.{same}
 use Rattle.rules.specs.Bytes.{fieldAt}
 use Rattle.rules.specs.Problem.{Clause, Problem}
@@ -40,9 +41,9 @@ variableNamed how which = cond (eqb how 1) (some (rational which)) (cond (eqb ho
 -- the result that these bytes name, by their first six: its line is computed from its parents
 unfoldable pub resolventNamed : List Line → List ℕ → Option Step
 resolventNamed earlier bytes =
-    let first = fieldAt 2 2 bytes in
-    let second = fieldAt 4 2 bytes in
-    elim (variableNamed (fieldAt 0 1 bytes) (fieldAt 1 1 bytes)) [
+    let first = fieldAt layout.stepFirst 2 bytes in
+    let second = fieldAt layout.stepSecond 2 bytes in
+    elim (variableNamed (fieldAt layout.stepHow 1 bytes) (fieldAt layout.stepWhich 1 bytes)) [
       | none ↦ none
       | some v ↦ elim (derived v (getElem? earlier first) (getElem? earlier second)) [
         | none ↦ none

@@ -9,7 +9,7 @@ use Rattle.rules_types.specs.declared.limits.Limits.{Limits}
 use Rattle.rules_types.specs.Limits as limit
 use Rattle.rules.specs.Lists.{any, tabulate}
 use Rattle.rules.specs.Problem.{Clause, Problem, inRange}
-use Rattle.rules.specs.Lines.{places, Line, Variable, rational, boolean, positively, negatively, contains, isEmpty, sameLine}
+use Rattle.rules.specs.Lines.{Line, Variable, rational, boolean, positively, negatively, contains, isEmpty, sameLine}
 use Rattle.rules.specs.Split.{partsOf, splitsOf}
 use Rattle.rules.specs.Resolve.{resolve}
 use Rattle.rules.specs.Steps.{Step, loaded, resolved, row}
@@ -17,7 +17,7 @@ use Rattle.rules.specs.Steps.{Step, loaded, resolved, row}
 -- ---- turns
 -- "Turn numbers run from 0 to 39: turns 0 to 7 belong to the figures and 8 to 39 to the marks."
 unfoldable pub order : List Variable
-order = tabulate limit.rationals rational ++ tabulate places boolean
+order = tabulate limit.rationals rational ++ tabulate limit.allBooleans boolean
 
 -- "A line belongs to the earliest turn whose figure or mark it contains"; one that contains none, to none of them
 unfoldable pub roundOf : List Variable → Line → ℕ

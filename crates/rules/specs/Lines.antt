@@ -11,16 +11,12 @@ use Rattle.rules.specs.Arithmetic.{isPositive, isNegative, equal}
 use Rattle.rules.specs.Problem.{Constraint}
 use Rattle.rules.specs.Meaning.{Assignment, constraintHolds}
 
--- a set of marks, the question's and the links: mark i is a member if place i says so; 16 marks and 16 links have 32 places, as many as
--- four bytes have bits
-abbrev pub places : ℕ
-places = limit.booleans + limit.splits
-
+-- a set of marks, the question's and the links: mark i is a member if place i says so
 abbrev pub Booleans : Type 0
 Booleans = List Bool
 
 unfoldable pub noBooleans : Booleans
-noBooleans = replicate places false
+noBooleans = replicate limit.allBooleans false
 
 unfoldable pub including : ℕ → Booleans → Booleans
 including i s = set s i true

@@ -11,6 +11,7 @@ use Rattle.rules_types.specs.declared.answers.Refusal.{Refusal}
 use Rattle.rules_types.specs.declared.answers.Verdict.the-variants.{Satisfiable, Unsatisfiable, Unwritten}
 use Rattle.rules_types.specs.declared.limits.Limits.{Limits}
 use Rattle.rules_types.specs.Answers.{refusalNumber}
+use Rattle.rules_types.specs.Layout as layout
 use Rattle.rules.specs.Lists.{concat, tabulate}
 use Rattle.rules.specs.Bytes.{fromUnsigned, fieldAt}
 use Rattle.rules.specs.Steps.{Step, header}
@@ -49,13 +50,13 @@ printProof steps = printLine (ascii "lines") (decimal (length steps) ∷ []) ++ 
 -- "after each count one line for each mark, 0 or 1, or for each figure, numerator and the sheet's denominator"
 unfoldable pub printModel : List ℕ → List ℕ
 printModel bytes =
-    let b = fieldAt 0 1 bytes in
-    let r = fieldAt (1 + b) 1 bytes in
-    let denominator = decimal (fieldAt (2 + b) 4 bytes) in
+    let b = fieldAt layout.modelBooleans 1 bytes in
+    let r = fieldAt (layout.modelRationals b) 1 bytes in
+    let denominator = decimal (fieldAt (layout.modelDenominator b) 4 bytes) in
     printLine (ascii "marks") (decimal b ∷ [])
-    ++ concat (tabulate b (λ i. printLine (decimal (fieldAt (1 + i) 1 bytes)) []))
+    ++ concat (tabulate b (λ i. printLine (decimal (fieldAt (layout.modelFlags + i) 1 bytes)) []))
     ++ printLine (ascii "figures") (decimal r ∷ [])
-    ++ concat (tabulate r (λ f. printLine (signedDecimal (fromUnsigned (fieldAt (6 + b + 4 * f) 4 bytes))) (denominator ∷ [])))
+    ++ concat (tabulate r (λ f. printLine (signedDecimal (fromUnsigned (fieldAt (layout.modelNumerators b + 4 * f) 4 bytes))) (denominator ∷ [])))
 
 -- "refused with number, place, pairs"
 unfoldable pub printRefusal : Refusal → ℕ → ℕ → List ℕ

@@ -1,5 +1,6 @@
 -- Document 01's limits. Every other definition names them by these words.
-use Prim.Native.Nat.{ℕ, _*_}
+use mathlib.Core.Path.{_≡_}
+use Prim.Native.Nat.{ℕ, _+_, _*_}
 use Rattle.rules_types.specs.declared.limits.Limits.{Limits}
 
 -- "A question has at most 32,768 bytes."
@@ -33,6 +34,14 @@ constraints = 8
 abbrev pub splits : ℕ
 splits = 16
 
+-- the Boolean variables of a line, the split variables among them, as many as four bytes have bits; a round for each variable: "Turn
+-- numbers run from 0 to 39"
+abbrev pub allBooleans : ℕ
+allBooleans = booleans + splits
+
+abbrev pub rounds : ℕ
+rounds = rationals + allBooleans
+
 -- "Amounts lie in -1,000,000,000 to 1,000,000,000."
 abbrev pub amount : ℕ
 amount = 1000000000
@@ -47,3 +56,13 @@ standard = record { steps = steps }
 
 abbrev pub proofBytes : Limits → ℕ
 proofBytes l = l .steps * stepBytes
+
+-- ---- numbers that are these limits
+abbrev pub Bytes : ℕ → ℕ → ℕ → Type 0
+Bytes problem step model = (problem ≡ problemBytes) × (step ≡ stepBytes) × (model ≡ modelBytes)
+
+abbrev pub Counts : ℕ → ℕ → ℕ → Type 0
+Counts b r n = (b ≡ booleans) × (r ≡ rationals) × (n ≡ clauses)
+
+abbrev pub OfClause : ℕ → ℕ → ℕ → Type 0
+OfClause m t s = (m ≡ literals) × (t ≡ constraints) × (s ≡ splits)

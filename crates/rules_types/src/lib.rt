@@ -1,3 +1,4 @@
-// What every crate shares: the limits of document 01 and the answers of its calls.
+// What every crate shares: the limits of document 01, the answers of its calls, and where the fields of its bytes stand.
 pub mod answers;
+pub mod layout;
 pub mod limits;

@@ -1,6 +1,6 @@
 // The limits of document 01, named once: the reader, the elimination and the checker cite them here.
 ghost use mathlib.Core.Path.{_≡_};
-ghost use Rattle.rules_types.specs.Limits.{problemBytes, stepBytes, modelBytes, booleans, rationals, clauses, literals, constraints, splits, amount, steps, standard, proofBytes};
+ghost use Rattle.rules_types.specs.Limits.{amount, steps, allBooleans, rounds, standard, proofBytes, Bytes, Counts, OfClause};
 
 // What may differ from caller to caller: the most steps that a proof holds (lines of the book, N).
 pub struct Limits {
@@ -26,6 +26,10 @@ impl Limits {
     pub const CONSTRAINTS: usize = 8;
 
     pub const SPLITS: usize = 16;
+    // Boolean variables of a line, the split variables among them; rounds, one for each variable.
+    pub const ALL_BOOLEANS: usize = 32;
+
+    pub const ROUNDS: usize = 40;
     // The size of an amount, and the steps of a proof.
     pub const AMOUNT: u64 = 1000000000;
 
@@ -50,9 +54,10 @@ impl Limits {
 
     // The constants are those of the definitions: proved here once, so that no other proof compares the numbers.
     pub fn stated() -> bool
-        ensures bytes { λ _. do ⌜ ((← ⟦Limits::PROBLEM_BYTES⟧ .entry) ≡ problemBytes) × ((← ⟦Limits::STEP_BYTES⟧ .entry) ≡ stepBytes) × ((← ⟦Limits::MODEL_BYTES⟧ .entry) ≡ modelBytes) ⌝ }
-        ensures problem { λ _. do ⌜ ((← ⟦Limits::BOOLEANS⟧ .entry) ≡ booleans) × ((← ⟦Limits::RATIONALS⟧ .entry) ≡ rationals) × ((← ⟦Limits::CLAUSES⟧ .entry) ≡ clauses) ⌝ }
-        ensures clause { λ _. do ⌜ ((← ⟦Limits::LITERALS⟧ .entry) ≡ literals) × ((← ⟦Limits::CONSTRAINTS⟧ .entry) ≡ constraints) × ((← ⟦Limits::SPLITS⟧ .entry) ≡ splits) ⌝ }
+        ensures bytes { λ _. do ⌜ Bytes (← ⟦Limits::PROBLEM_BYTES⟧ .entry) (← ⟦Limits::STEP_BYTES⟧ .entry) (← ⟦Limits::MODEL_BYTES⟧ .entry) ⌝ }
+        ensures problem { λ _. do ⌜ Counts (← ⟦Limits::BOOLEANS⟧ .entry) (← ⟦Limits::RATIONALS⟧ .entry) (← ⟦Limits::CLAUSES⟧ .entry) ⌝ }
+        ensures clause { λ _. do ⌜ OfClause (← ⟦Limits::LITERALS⟧ .entry) (← ⟦Limits::CONSTRAINTS⟧ .entry) (← ⟦Limits::SPLITS⟧ .entry) ⌝ }
+        ensures rounds { λ _. do ⌜ ((← ⟦Limits::ALL_BOOLEANS⟧ .entry) ≡ allBooleans) × ((← ⟦Limits::ROUNDS⟧ .entry) ≡ rounds) ⌝ }
         ensures elimination { λ _. do ⌜ ((← ⟦Limits::AMOUNT⟧ .entry) ≡ amount) × ((← ⟦Limits::STEPS⟧ .entry) ≡ steps) ⌝ }
     {
         true

@@ -1,0 +1,72 @@
+// Where each field stands in the bytes of a problem, a step and a model (specs/Layout.antt): the one place that has these numbers.
+ghost use mathlib.Core.Path.{_≡_};
+ghost use Rattle.rules_types.specs.Layout.{constraintBound, constraintBytes, modelRationals, modelDenominator, modelNumerators};
+
+// Of a problem: b, r and n, then the clauses.
+pub const PROBLEM_BOOLEANS: usize = 0;
+
+pub const PROBLEM_RATIONALS: usize = 1;
+
+pub const PROBLEM_CLAUSES: usize = 2;
+
+pub const FIRST_CLAUSE: usize = 4;
+
+// Of a constraint: its relation, its coefficients, its bound.
+pub const CONSTRAINT_COEFFICIENTS: usize = 1;
+
+pub fn constraint_bound(r: u8) -> usize
+    ensures { λ at. ⌜ at ≡ constraintBound r ⌝ }
+{
+    1 + (r as usize) * 4
+}
+
+// All bytes of a constraint.
+pub fn constraint_bytes(r: u8) -> usize
+    ensures { λ n. ⌜ n ≡ constraintBytes r ⌝ }
+{
+    5 + (r as usize) * 4
+}
+
+// Of a step: its origin, then its line.
+pub const STEP_HOW: usize = 0;
+
+pub const STEP_WHICH: usize = 1;
+
+pub const STEP_FIRST: usize = 2;
+
+pub const STEP_SECOND: usize = 4;
+
+pub const STEP_RELATION: usize = 6;
+
+pub const STEP_POSITIVE: usize = 8;
+
+pub const STEP_NEGATIVE: usize = 12;
+
+pub const STEP_COEFFICIENTS: usize = 16;
+
+pub const STEP_BOUND: usize = 48;
+// Zeros from here on.
+pub const STEP_ZEROS: usize = 52;
+
+// Of a model with b Boolean variables: b, a byte for each, r, the denominator, the numerators.
+pub const MODEL_BOOLEANS: usize = 0;
+
+pub const MODEL_FLAGS: usize = 1;
+
+pub fn model_rationals(b: u8) -> usize
+    ensures { λ at. ⌜ at ≡ modelRationals b ⌝ }
+{
+    1 + b as usize
+}
+
+pub fn model_denominator(b: u8) -> usize
+    ensures { λ at. ⌜ at ≡ modelDenominator b ⌝ }
+{
+    2 + b as usize
+}
+
+pub fn model_numerators(b: u8) -> usize
+    ensures { λ at. ⌜ at ≡ modelNumerators b ⌝ }
+{
+    6 + b as usize
+}
