@@ -19,6 +19,10 @@ unfoldable pub refused : Limits → ℕ → List ℕ → List ℕ → Bool
 refused limits steps proof model = ltb (length proof) (limit.proofBytes limits) || ltb (length model) limit.modelBytes
     || ltb (limits .steps) steps
 
+-- the bytes of that part
+abbrev pub handedBack : Limits → ℕ → ℕ → List ℕ → List ℕ → List ℕ
+handedBack limits number steps proof model = evidenceBytes (evidence limits number steps proof model) proof model
+
 module _ (limits : Limits) (number steps : ℕ) (proof model : List ℕ) where
   pub part-refused : refused limits steps proof model ≡ true → evidence limits number steps proof model ≡ OfProof 0
   unfolding evidence refused

@@ -1,9 +1,10 @@
 // Handing back: the part of the lent proof or model that a verdict gives its caller.
 use rules_types::answers::Evidence;
+use rules_types::answers::Verdict;
 use rules_types::limits::Limits;
 ghost use mathlib.Core.Path.{_≡_};
-ghost use Rattle.rules.specs.Calls.{evidence, evidenceBytes};
-ghost use Rattle.jemuling.specs.Evidence.{refused};
+ghost use Rattle.rules.specs.Calls.{evidence};
+ghost use Rattle.jemuling.specs.Evidence.{refused, handedBack};
 
 // Whether a buffer is too short or the steps are too many: then nothing is handed back.
 fn refused(limits: Limits, steps: usize, proof: &[u8], model: &[u8]) -> bool
@@ -25,10 +26,10 @@ pub fn evidence(limits: Limits, number: u64, steps: usize, proof: &[u8], model: 
     if refused(limits, steps, proof, model) {
         return Evidence::OfProof(0);
     }
-    if number == 64 {
+    if number == Verdict::SATISFIABLE {
         return Evidence::OfModel(Limits::MODEL_BYTES);
     }
-    if number == 65 {
+    if number == Verdict::UNSATISFIABLE {
         return Evidence::OfProof(Limits::STEP_BYTES * steps);
     }
     Evidence::OfProof(0)
@@ -42,7 +43,7 @@ pub fn hand_back<'a>(
     proof: &'a [u8],
     model: &'a [u8],
 ) -> &'a [u8]
-    ensures { λ r. ⌜ now r ≡ evidenceBytes (evidence limits number steps (now (proof .entry)) (now (model .entry))) (now (proof .entry)) (now (model .entry)) ⌝ }
+    ensures { λ r. ⌜ now r ≡ handedBack limits number steps (now (proof .entry)) (now (model .entry)) ⌝ }
 {
     let part = evidence(limits, number, steps, proof, model);
     match part {

@@ -28,9 +28,9 @@ pub fn verdict_number(v: Verdict) -> u64
     ensures { λ n. ⌜ n ≡ verdictNumber v ⌝ }
 {
     match v {
-        Verdict::Satisfiable => 64,
-        Verdict::Unsatisfiable => 65,
-        Verdict::Unwritten => 66,
+        Verdict::Satisfiable => Verdict::SATISFIABLE,
+        Verdict::Unsatisfiable => Verdict::UNSATISFIABLE,
+        Verdict::Unwritten => Verdict::UNWRITTEN,
     }
 }
 

@@ -1,10 +1,13 @@
 // The answer's first line, and what follows it.
 use crate::model::print_model;
-use crate::proof::print_steps;
+use crate::proof::print_proof;
 use crate::text::Text;
+use jemuling::evidence::hand_back;
+use jemuling::told::verdict_number;
 use rules_types::answers::Answer;
 use rules_types::answers::Solved;
 use rules_types::answers::Verdict;
+use rules_types::limits::Limits;
 ghost use Prim.Native.Nat.{_≤_};
 
 // "refused with number, place, pairs"
@@ -26,17 +29,16 @@ pub fn print_verdict(word: &[u8], steps: usize, pairs: u64) {
     line.print();
 }
 
-fn print_decided(v: Verdict, n: usize, pairs: u64, proof: &[u8], model: &[u8])
-    requires { do ⌜ 64 ≤ (← ⟦model.len()⟧) ⌝ }
-{
+// What is handed back, behind the verdict's line.
+fn print_decided(v: Verdict, n: usize, pairs: u64, evidence: &[u8]) {
     match v {
         Verdict::Satisfiable => {
             print_verdict(b"agrees", n, pairs);
-            print_model(model);
+            print_model(evidence);
         }
         Verdict::Unsatisfiable => {
             print_verdict(b"cannot", n, pairs);
-            print_steps(proof, n);
+            print_proof(evidence);
         }
         Verdict::Unwritten => {
             print_verdict(b"unwritten", n, pairs);
@@ -44,14 +46,14 @@ fn print_decided(v: Verdict, n: usize, pairs: u64, proof: &[u8], model: &[u8])
     }
 }
 
-pub fn print_solved(solved: Solved, proof: &[u8], model: &[u8])
-    requires { do ⌜ 64 ≤ (← ⟦model.len()⟧) ⌝ }
-{
+pub fn print_solved<'a>(solved: Solved, proof: &'a [u8], model: &'a [u8]) {
     let answer = solved.answer;
     let pairs = solved.pairs;
     match answer {
         Answer::Decided(v, n) => {
-            print_decided(v, n, pairs, proof, model);
+            let number = verdict_number(v);
+            let evidence = hand_back(Limits::standard(), number, n, proof, model);
+            print_decided(v, n, pairs, evidence);
         }
         Answer::Refused(f, place) => {
             print_refusal(f.number(), place, pairs);

@@ -40,9 +40,10 @@ fn print_rationals(model: &[u8], at: usize, r: usize)
     }
 }
 
-pub fn print_model(model: &[u8])
-    requires { do ⌜ 64 ≤ (← ⟦model.len()⟧) ⌝ }
-{
+pub fn print_model(model: &[u8]) {
+    if model.len() < Limits::MODEL_BYTES {
+        return;
+    }
     let b = at_most(model[0], Limits::BOOLEANS);
     print_count(b"marks", b as u64);
     print_booleans(model, b);

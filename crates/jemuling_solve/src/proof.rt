@@ -18,17 +18,9 @@ fn print_step(proof: &[u8], at: usize)
     second.print();
 }
 
-// The steps to print: n, or those that the proof has bytes for.
-fn held(proof: &[u8], n: usize) -> usize
-    ensures { λ r. do ⌜ 64 * r ≤ (← ⟦proof.len()⟧ .entry) ⌝ }
-{
-    let most = proof.len() / Limits::STEP_BYTES;
-    if n < most { n } else { most }
-}
-
-pub fn print_steps(proof: &[u8], n: usize) {
-    print_count(b"lines", n as u64);
-    let count = held(proof, n);
+pub fn print_proof(proof: &[u8]) {
+    let count = proof.len() / Limits::STEP_BYTES;
+    print_count(b"lines", count as u64);
     for i in 0..count {
         print_step(proof, Limits::STEP_BYTES * i);
     }

@@ -56,6 +56,15 @@ pub enum Verdict {
     Unwritten,
 }
 
+// Their numbers, by which handing back is told what solving found.
+impl Verdict {
+    pub const SATISFIABLE: u64 = 64;
+
+    pub const UNSATISFIABLE: u64 = 65;
+
+    pub const UNWRITTEN: u64 = 66;
+}
+
 // A verdict with the steps of the proof, or a refusal with its place.
 pub enum Answer {
     Decided(Verdict, usize),

@@ -1,23 +1,20 @@
--- `printing::steps::print_steps` meets its contract. The measure is the number of steps left. Assumes nothing.
+-- `proof::print_proof` meets its contract. The measure is the number of steps left. Assumes nothing.
 use Prim.Native.Nat.{_≤_, _-_}
 use borrow.Author.Needs.{needs}
-use Rattle.jemuling_solve.proofs.proof.print_steps.Statement.{statement}
-use Rattle.jemuling_solve.proofs.proof.print_steps.Tie as tie
+use Rattle.jemuling_solve.proofs.proof.print_proof.Statement.{statement}
+use Rattle.jemuling_solve.proofs.proof.print_proof.Tie as tie
 
 abbrev Inv-loop : tie.InvT-loop
-Inv-loop proof n count i₀ i = i ≤ count
+Inv-loop proof count i₀ i = i ≤ count
 
 abbrev μ-loop : tie.MeasureT-loop
-μ-loop proof n count i₀ i = count - i
+μ-loop proof count i₀ i = count - i
 
 slice-aggregate-print-count : tie.Need-slice-aggregate-print-count Inv-loop μ-loop
 slice-aggregate-print-count c = search needs
 
 print-count-requires : tie.Need-print-count-requires Inv-loop μ-loop
 print-count-requires c κs = search needs
-
-held-requires : tie.Need-held-requires Inv-loop μ-loop
-held-requires c κs = search needs
 
 loop-holds : tie.Need-loop-holds Inv-loop μ-loop
 loop-holds c = search needs
@@ -40,15 +37,14 @@ loop-again c = search needs
 returns : tie.Need-returns Inv-loop μ-loop
 returns c = search needs
 
-pub print-steps-spec : {M : Type 1} → statement M
-print-steps-spec =
+pub print-proof-spec : {M : Type 1} → statement M
+print-proof-spec =
     tie.close
     (tie.spec
     Inv-loop
     μ-loop
     slice-aggregate-print-count
     print-count-requires
-    held-requires
     loop-holds
     mul-print-step
     print-step-requires
