@@ -1,4 +1,4 @@
--- What an accepted book and an accepted sheet mean, said of what the exported calls return: their contracts (jemuling/src/calls.rt) are
+-- What an accepted proof and an accepted model mean, said of what the exported calls return: their contracts (jemuling/src/calls.rt) are
 -- the premises.
 use mathlib.Core.Path.{_≡_, refl, sym, ap, _∙_}
 use mathlib.Core.Logic.{_↔_}
@@ -84,13 +84,13 @@ module _ (input : List ℕ) (p : Problem) (reads : read input ≡ sound p) where
 
 -- ---- what accepting means, of any bytes
 
--- a question that is read without fault, and that no choice satisfies
+-- a problem that is read without fault, and that no assignment satisfies
 pub record Refuted (input : List ℕ) : Type 0 where
   pub problem : Problem
   pub reads : read input ≡ sound problem
   pub refuted : NoAssignment problem
 
--- `jemuling_check_book`: whoever wrote the book
+-- `jemuling_check_book`: whoever wrote the proof
 pub accepted-proof : (input proof : List ℕ) (t : Told) → t ≡ checkedTold (proofChecked standard input proof)
     → t .number ≡ 67 → Refuted input
 accepted-proof input proof t given e =
@@ -98,7 +98,7 @@ accepted-proof input proof t given e =
     let c : CheckedProof input proof = checked-proof standard input proof a in
     record { problem = c .problem; reads = c .reads; refuted = proof-checked-refutes standard input proof a (c .problem) (c .reads) }
 
--- `jemuling_check_sheet`: the choice on the sheet satisfies the question
+-- `jemuling_check_sheet`: the assignment on the model satisfies the problem
 pub accepted-model : (input model : List ℕ) (t : Told) → t ≡ checkedTold (modelChecked input model) → t .number ≡ 67
     → CheckedModel input model
 accepted-model input model t given e = model-checked-satisfies input model (told-accepted t (modelChecked input model) given .0 e)

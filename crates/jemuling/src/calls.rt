@@ -14,7 +14,7 @@ ghost use Rattle.rules_types.specs.Limits.{standard};
 ghost use Rattle.rules.specs.Calls.{solve, proofChecked, modelChecked, evidence};
 ghost use Rattle.jemuling.specs.Told.{solvedTold, checkedTold, evidenceTold};
 
-// Whether a question can be satisfied, with a sheet or a book that shows it.
+// Whether a problem can be satisfied, with a model or a proof that shows it.
 #[no_mangle]
 pub extern "C" fn jemuling_solve(input: &[u8], proof: &mut [u8], model: &mut [u8]) -> SolvedTold
     ensures { λ t. ⌜ t ≡ solvedTold (solve standard (now (input .entry)) (now (proof .entry)) (now (model .entry)) .solved) ⌝ }
@@ -24,7 +24,7 @@ pub extern "C" fn jemuling_solve(input: &[u8], proof: &mut [u8], model: &mut [u8
     solved_told(solve(input, proof, model))
 }
 
-// Whether a book refutes a question.
+// Whether a proof refutes a problem.
 #[no_mangle]
 pub extern "C" fn jemuling_check_book(input: &[u8], proof: &[u8]) -> Told
     ensures { λ t. ⌜ t ≡ checkedTold (proofChecked standard (now (input .entry)) (now (proof .entry))) ⌝ }
@@ -32,7 +32,7 @@ pub extern "C" fn jemuling_check_book(input: &[u8], proof: &[u8]) -> Told
     checked_told(check_standard(input, proof))
 }
 
-// Whether a sheet satisfies a question.
+// Whether a model satisfies a problem.
 #[no_mangle]
 pub extern "C" fn jemuling_check_sheet(input: &[u8], model: &[u8]) -> Told
     ensures { λ t. ⌜ t ≡ checkedTold (modelChecked (now (input .entry)) (now (model .entry))) ⌝ }
@@ -40,7 +40,7 @@ pub extern "C" fn jemuling_check_sheet(input: &[u8], model: &[u8]) -> Told
     checked_told(check_model(input, model))
 }
 
-// Which part of book or sheet is handed back, from a verdict's number and lines.
+// Which part of proof or model is handed back, from a verdict's number and lines.
 #[no_mangle]
 pub extern "C" fn jemuling_hand_back(number: u64, lines: usize, proof: &[u8], model: &[u8]) -> Told
     ensures { λ t. ⌜ t ≡ evidenceTold (evidence standard number lines (now (proof .entry)) (now (model .entry))) ⌝ }

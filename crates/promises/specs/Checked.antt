@@ -1,4 +1,4 @@
--- The check accepts a book exactly if its lines follow and the last is empty, and a sheet exactly if every clause holds.
+-- The check accepts a proof exactly if its lines follow and the last is empty, and a model exactly if every clause holds.
 use mathlib.Core.Path.{_≡_, refl}
 use mathlib.Core.Bool.{Bool, true, false, _&&_}
 use mathlib.Core.Logic.{_↔_, ⊎-elim}
@@ -87,7 +87,7 @@ whole-few limits few n t =
     leb→le n (limit.proofBytes limits) (and-yes (leb limit.stepBytes n) (leb n (limit.proofBytes limits)) (a .0) .1) in
     omega arith
 
--- ---- the calls, for a question read without fault
+-- ---- the calls, for a problem read without fault
 module _ (input : List ℕ) (p : Problem) (e : read input ≡ sound p) where
   pub proof-exactly : (limits : Limits) → limits .steps ≤ 65536 → (bytes : List ℕ) → proofChecked limits input bytes ≡ Accepted
       ↔ (T (wholeSteps limits (length bytes)) × Refutes (loadableOf p) (length bytes / limit.stepBytes) bytes)
@@ -119,7 +119,7 @@ module _ (input : List ℕ) (p : Problem) (e : read input ≡ sound p) where
     λ h. satisfying-model-checked input bytes p (h .assignment) (h .rest) (h .place) e (h .size) (h .stated) (h .satisfies),
   )
 
-  -- what a check refuses itself: a book by its length; a sheet too short, else by the first field that is refused
+  -- what a check refuses itself: a proof by its length; a model too short, else by the first field that is refused
   pub proof-length-refused : (limits : Limits) (bytes : List ℕ) → wholeSteps limits (length bytes) ≡ false
       → proofChecked limits input bytes ≡ Refused ProofLength (length bytes)
   unfolding proofChecked

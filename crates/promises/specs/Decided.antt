@@ -1,4 +1,4 @@
--- Without limits a course has an empty line exactly if no choice satisfies its question; otherwise the walk's choice does.
+-- Without limits an elimination has an empty line exactly if no assignment satisfies its problem; otherwise the walk's assignment does.
 use mathlib.Core.Path.{_≡_, refl, sym, subst}
 use mathlib.Core.Logic.{_↔_}
 use mathlib.Core.List.{List}
@@ -14,7 +14,7 @@ use Rattle.theory_elimination.specs.Ends.{LastEmpty, EndsRight, elimination-end
 use Rattle.promises.specs.Refuted.{empty-refutes}
 use Rattle.promises.specs.Satisfied.{chosen, walk-satisfies}
 
--- no choice of marks and rational figures satisfies it
+-- no assignment satisfies it
 abbrev pub NoAssignment : Problem → Type 0
 NoAssignment p = (χ : Assignment) → Satisfies χ p → ⊥
 

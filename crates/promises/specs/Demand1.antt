@@ -1,4 +1,4 @@
--- Demand 1, as far as it is about the definition of solving: what it says and leaves in book and sheet, for a question of arbitrary
+-- Demand 1, as far as it is about the definition of solving: what it says and leaves in proof and model, for a problem of arbitrary
 -- bytes and buffers of every length. The checks return an answer alone: they write nothing.
 use mathlib.Core.Path.{_≡_}
 use mathlib.Core.List.{List, _++_}
@@ -27,7 +27,7 @@ untouched f place proof model = record { solved = record { answer = Refused f pl
 
 pub record Demand1 (limits : Limits) (input lentProof lentModel : List ℕ) (ours : Solving) : Type 0 where
   -- "The lent memory, for a question of arbitrary bytes and buffers of every length, ends as document 01 says: book and sheet after a
-  -- verdict,": the lines, zeros, and what lay beyond; the value rule's sheet after "agrees", zeros otherwise, and what lay beyond
+  -- verdict,": the lines, zeros, and what lay beyond; the value rule's model after "agrees", zeros otherwise, and what lay beyond
   pub proof : FullSize limits lentProof lentModel → (p : Problem) → read input ≡ sound p → (v : Verdict) → Comes v (ours .solved .answer)
       → ours .proof ≡ encodeProof (stepsOf (elimination (limited limits) p)) ++ replicate (limit.proofBytes limits
       - limit.stepBytes * length (stepsOf (elimination (limited limits) p))) 0 ++ drop (limit.proofBytes limits) lentProof
@@ -36,7 +36,7 @@ pub record Demand1 (limits : Limits) (input lentProof lentModel : List ℕ) (our
   pub others : FullSize limits lentProof lentModel → (p : Problem) → read input ≡ sound p → (v : Verdict)
       → Comes v (ours .solved .answer) → (v ≡ Satisfiable → ⊥)
       → ours .model ≡ replicate limit.modelBytes 0 ++ drop limit.modelBytes lentModel
-  -- "its old bytes after a faulty question or short buffer,": 1 before 2 before the question's first fault
+  -- "its old bytes after a faulty question or short buffer,": 1 before 2 before the problem's first fault
   pub shortProof : length lentProof < limit.proofBytes limits → ours ≡ untouched refusal.ShortProof 0 lentProof lentModel
   pub shortModel : limit.proofBytes limits ≤ length lentProof → length lentModel < limit.modelBytes
       → ours ≡ untouched refusal.ShortModel 0 lentProof lentModel
@@ -45,7 +45,7 @@ pub record Demand1 (limits : Limits) (input lentProof lentModel : List ℕ) (our
   -- "a zeroed book and the old sheet after a refused course."
   pub refusedElimination : FullSize limits lentProof lentModel → (p : Problem) → read input ≡ sound p → LimitMet (ours .solved .answer)
       → (ours .proof ≡ replicate (limit.proofBytes limits) 0 ++ drop (limit.proofBytes limits) lentProof) × (ours .model ≡ lentModel)
-  -- "and names the first fault in 01's order.": the checks too name the question's before they look at book or sheet
+  -- "and names the first fault in 01's order.": the checks too name the problem's before they look at proof or model
   pub firstFault : (f : Refusal) (place : ℕ) → read input ≡ faulty f place → (bytes : List ℕ)
       → (proofChecked limits input bytes ≡ checked.Refused f place) × (modelChecked input bytes ≡ checked.Refused f place)
   -- no buffer grows or shrinks

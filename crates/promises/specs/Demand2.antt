@@ -1,4 +1,4 @@
--- Demand 2, sentence by sentence, about the definitions of the course and of the checks.
+-- Demand 2, sentence by sentence, about the definitions of the elimination and of the checks.
 use mathlib.Core.Path.{_≡_, refl}
 use mathlib.Core.Logic.{_↔_, _⊎_}
 use mathlib.Core.List.{List, []}
@@ -27,12 +27,12 @@ use Rattle.promises.specs.HandedBack.{model-handed-back, proof-handed-ba
 
 pub record Demand2 (input : List ℕ) (p : Problem) : Type 0 where
   -- "Our book is the course of the published Davis-Putnam and Fourier-Motzkin rules as 01 sets it out: each line is the clause or
-  -- resolvent it names,": a piece, the one that it names, or the result of two earlier lines of its turn; no two are equal
+  -- resolvent it names,": a part, the one that it names, or the resolvent of two earlier lines of its round; no two are equal
   pub lines : (stops : Stops) → Each (Justified order (loadableOf p)) [] (stepsOf (elimination stops p))
   pub parts : All (PartAmong 0 (p .booleans) (p .clauses)) (loadableOf p)
   pub distinct : (stops : Stops) → Each Fresh [] (stepsOf (elimination stops p))
-  -- "and none is left out.": of all pieces and all results in 01's order, each before the one that ended the course is dropped by tidying
-  -- or equals a line, and all are if none ended it; the pairs count the results so far
+  -- "and none is left out.": of all parts and all resolvents in 01's order, each before the one that ended the elimination is dropped by
+  -- normalizing or equals a line, and all are if none ended it; the pairs count the resolvents so far
   pub complete : (stops : Stops) → Complete stops order (loadableOf p) (elimination stops p)
   -- "The check accepts a book exactly if its lines follow and the last is empty, a sheet exactly if every clause holds,"
   pub proof : (limits : Limits) → limits .steps ≤ 65536 → (bytes : List ℕ) → proofChecked limits input bytes ≡ Accepted

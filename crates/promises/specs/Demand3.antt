@@ -1,4 +1,4 @@
--- Demand 3, sentence by sentence, about the definition of solving: for every question Q read without fault, full-size buffers
+-- Demand 3, sentence by sentence, about the definition of solving: for every problem Q read without fault, full-size buffers
 -- whatever they hold, and every limit N of lines up to 65,536. Document 01's limit is 1,024, and N × N / 4 is then 262,144.
 use mathlib.Core.Path.{_≡_, sym, subst}
 use mathlib.Core.Logic.{_↔_}

@@ -1,4 +1,5 @@
--- "the common denominator (the least)": whatever number the figures on our sheet can be written over, the sheet's denominator divides it.
+-- "the common denominator (the least)": whatever number the rational variables on our model can be written over, the model's denominator
+-- divides it.
 use mathlib.Core.Path.{_≡_, sym, _∙_}
 use mathlib.Core.Logic.{⊎-elim}
 use mathlib.Core.List.{List, [], _++_, append-nil}
@@ -30,7 +31,7 @@ use Rattle.theory_bytes.specs.Written.{written-fits}
 use Rattle.promises.specs.Satisfied.{chosen}
 use Rattle.promises.specs.Words.{modelOf, OurModel}
 
--- of r figures
+-- of r rational variables
 abbrev pub LeastOf : ℕ → Assignment → Type 0
 LeastOf r χ = (m : ℕ) → ((f : ℕ) → f < r → Over χ m f) → χ .denominator ∣ m
 
@@ -41,7 +42,7 @@ module _ (p : Problem) (w : WellFormed p) where
   abbrev r : ℕ
   r = p .rationals
 
-  -- ---- the walk's choice: what the question does not have is 0 in it
+  -- ---- the walk's assignment: what the problem does not have is 0 in it
   abbrev steps : List Step
   steps = stepsOf (elimination unlimited p)
 
@@ -60,7 +61,7 @@ module _ (p : Problem) (w : WellFormed p) where
   assignment-least m h = walk-least (lines steps) m
       (λ f. ⊎-elim (λ z. over-zero χ m f (absent f (omega arith))) (λ z. h f (omega arith)) (eq-zero-or-pos (r - f)))
 
-  -- ---- the choice that the rule's sheet states
+  -- ---- the assignment that the rule's model states
   positive : 1 ≤ χ .denominator
   unfolding walk
   positive = walk-unset order (lines steps) 0 order order-aligned .positive

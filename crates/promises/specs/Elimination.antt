@@ -1,4 +1,4 @@
--- The laws of the course, of a question's own.
+-- The laws of the elimination, of a problem's own.
 use mathlib.Core.List.{[]}
 use Rattle.rules.specs.Problem.{Problem}
 use Rattle.rules.specs.Elimination.{Stops, order, loadableOf, elimination}

@@ -1,4 +1,4 @@
--- What solving hands back is accepted: its sheet after "agrees", the used lines of its book after "cannot agree".
+-- What solving hands back is accepted: its model after "agrees", the used lines of its proof after "cannot agree".
 use mathlib.Core.Path.{_≡_, refl, _∙_, subst}
 use mathlib.Core.List.{List, [], _++_, map, append-assoc, append-nil}
 use mathlib.Core.Option.{Option, none, some}
@@ -31,7 +31,7 @@ use Rattle.promises.specs.Outcomes.{unstopped-fits}
 use Rattle.promises.specs.Reported.{left, reported-lines, proof-holds}
 
 module _ (limits : Limits) (input : List ℕ) (p : Problem) (e : read input ≡ sound p) where
-  -- ---- the sheet
+  -- ---- the model
   same-problem : (q : Problem) → read input ≡ sound q → q ≡ p
   same-problem q f = cc
 
@@ -70,7 +70,7 @@ module _ (limits : Limits) (input : List ℕ) (p : Problem) (e : read input ≡ 
       by (ended overflow steps n) c h = absurd h
       by (ended outOfSteps steps n) c h = absurd h
 
-  -- ---- the book
+  -- ---- the proof
   module _ (few : limits .steps ≤ 65536) (proof : List ℕ) where
     used : (steps : List Step) → All (λ s. Formed (s .line)) steps → take (limit.stepBytes * length steps) (encodeProof steps ++ replicate
         (limit.proofBytes limits - limit.stepBytes * length steps) 0 ++ drop (limit.proofBytes limits) proof) ≡ encodeProof steps

@@ -151,7 +151,7 @@ module _ (parts : List Step) (known : AllEncodable parts) where
                 rw j (then (a .0) (a .1) .1 (a .2) ∙ ap Fails (q (a .0))),
           )
 
--- ---- the calls, for a question read without fault
+-- ---- the calls, for a problem read without fault
 module _ (input : List ℕ) (p : Problem) (e : read input ≡ sound p) where
   pub model-fails : (bytes : List ℕ) (χ : Assignment) (rest : List ℕ) (place : ℕ) → limit.modelBytes ≤ length bytes
       → model (p .booleans) (p .rationals) bytes 0 ≡ got χ rest place

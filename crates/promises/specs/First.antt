@@ -1,4 +1,4 @@
--- Which of "wide" and "full" comes: the one of the first event that stops the course.
+-- Which of "wide" and "full" comes: the one of the first event that stops the elimination.
 use mathlib.Core.Path.{_≡_, refl}
 use mathlib.Core.Bool.{Bool, true, false}
 use mathlib.Core.Logic.{_↔_, inl, inr}
@@ -19,7 +19,7 @@ use Rattle.promises.specs.Words.{IsRefused, firstStop}
 use Rattle.promises.specs.Outcomes.{walkModel, concluded-running, answerOf, finished-not-stopped}
 use Rattle.promises.specs.Reported.{elimination-cut}
 
--- how a course has ended, and what stopped it
+-- how an elimination has ended, and what stopped it
 abbrev EndOf : State → Option End → Type 0
 EndOf (running steps n) o = o ≡ none
 EndOf (ended empty steps n) o = o ≡ none

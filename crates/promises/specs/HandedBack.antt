@@ -115,7 +115,7 @@ unfolding answerNumber
 comes-number v (Decided u n) e = ap verdictNumber e
 comes-number v (Refused f n) e = absurd e
 
--- ---- a verdict comes only for a question read without fault, and full-size buffers
+-- ---- a verdict comes only for a problem read without fault, and full-size buffers
 pub record Read (limits : Limits) (input proof model : List ℕ) : Type 0 where
   pub problem : Problem
   pub reads : read input ≡ sound problem
@@ -179,7 +179,7 @@ module _ (limits : Limits) (input proof model : List ℕ) where
       inr (rw (k .1) (demand3 limits few input (r .problem) (r .reads) proof model (r .full) .accepted c)))
       (of-proof limits (answerNumber (ours .solved .answer)) (answerValue (ours .solved .answer)) (ours .proof) (ours .model) n e)
 
-  -- after "agrees" it is the sheet, after "cannot agree" the used lines
+  -- after "agrees" it is the model, after "cannot agree" the used lines
   module _ (small : limits .steps ≤ 65536) where
     held : (p : Problem) → read input ≡ sound p → FullSize limits proof model → answerValue (ours .solved .answer) ≤ limits .steps
     unfolding elimination

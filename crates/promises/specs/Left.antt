@@ -25,7 +25,7 @@ module _ (limits : Limits) (input proof′ model : List ℕ) where
   abbrev ours : Solving
   ours = solve limits input proof′ model
 
-  -- ---- a question read without fault
+  -- ---- a problem read without fault
   module _ (full : FullSize limits proof′ model) (p : Problem) (e : read input ≡ sound p) where
     by : (P : Solving → Type 0) → P (left limits (concluded p (elimination (limited limits) p)) proof′ model) → P ours
     by P h = subst P (sym (solve-is limits input p e proof′ model full)) h
@@ -53,7 +53,7 @@ module _ (limits : Limits) (input proof′ model : List ℕ) where
         by (λ s. LimitMet (s .solved .answer) → (s .proof ≡ replicate (limit.proofBytes limits) 0 ++ drop (limit.proofBytes limits) proof′)
         × (s .model ≡ model)) (memory.stopped-zeroes limits p proof′ model)
 
-  -- ---- a fault before the course
+  -- ---- a fault before the elimination
   faulted-is : (f : Refusal) (place : ℕ) → lent limits input proof′ model ≡ faulted f place → ours ≡ record {
     solved = record { answer = Refused f place; pairs = 0 };
     proof = proof′;

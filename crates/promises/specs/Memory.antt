@@ -33,7 +33,7 @@ use Rattle.promises.specs.Decided.{running-satisfies}
 use Rattle.promises.specs.Words.{FullSize, Comes, LimitMet}
 use Rattle.promises.specs.Outcomes.{finished, walkModel, concluded-running, answerOf, finished-not-stopped}
 
--- ---- a refused course, and a verdict
+-- ---- a refused elimination, and a verdict
 module _ (limits : Limits) (p : Problem) (proof model : List ℕ) where
   zeroed-by : (s : State) → LimitMet (answerOf (concluded p s)) → (proofAfter limits (concluded p s) proof
       ≡ replicate (limit.proofBytes limits) 0 ++ drop (limit.proofBytes limits) proof) × (modelAfter (concluded p s) model ≡ model)

@@ -1,4 +1,4 @@
--- What solving comes to for a question read without fault, by the state in which its course ends.
+-- What solving comes to for a problem read without fault, by the state in which its elimination ends.
 use mathlib.Core.Path.{_≡_, refl, sym, ap, _∙_, subst}
 use mathlib.Core.Logic.{_↔_, inl, inr, ⊎-elim}
 use mathlib.Core.List.{List, map}
@@ -21,7 +21,7 @@ use Rattle.promises.specs.Satisfied.{chosen}
 use Rattle.promises.specs.Decided.{NoAssignment, running-satisfies, empty-none}
 use Rattle.promises.specs.Words.{SomeAssignment, modelOf, GivesModel, Comes, LimitMet}
 
--- ---- where the course runs to its end, by the sheet of its walk
+-- ---- where the elimination runs to its end, by the model of its walk
 abbrev pub finished : List Step → ℕ → Option (List ℕ) → Outcome
 finished steps n none = decided Unwritten steps n noModel
 finished steps n (some bytes) = decided Satisfiable steps n bytes
@@ -66,17 +66,17 @@ finished-not-stopped steps n none (inr h) = h
 finished-not-stopped steps n (some bytes) (inl h) = h
 finished-not-stopped steps n (some bytes) (inr h) = h
 
--- a course that runs to its end fits the limits
+-- an elimination that runs to its end fits the limits
 pub unstopped-fits : (limits : Limits) (p : Problem) (steps : List Step) (n : ℕ)
     → elimination (limited limits) p ≡ running steps n → Fits limits p
 unstopped-fits limits p steps n e = ⊎-elim (λ f. f) (λ h. absurd (subst Stopped e h)) (fits-or-stopped limits p)
 
--- ---- the answer, by the state in which the limited course ends
+-- ---- the answer, by the state in which the limited elimination ends
 module _ (limits : Limits) (p : Problem) (w : WellFormed p) where
   abbrev answer : State → Answer
   answer s = answerOf (concluded p s)
 
-  -- where it fits, its lines are those of the course without limits
+  -- where it fits, its lines are those of the elimination without limits
   pub model-is : (steps : List Step) (n : ℕ) → elimination (limited limits) p ≡ running steps n → Fits limits p
       → modelOf p ≡ walkModel p steps
   unfolding modelOf stepsOf

@@ -1,4 +1,4 @@
--- A course with an empty line refutes its question: every line holds wherever the question is satisfied, and the empty one nowhere.
+-- An elimination with an empty line refutes its problem: every line holds wherever the problem is satisfied, and the empty one nowhere.
 use mathlib.Core.Path.{_≡_, subst}
 use mathlib.Core.Logic.{inl, inr}
 use mathlib.Core.List.{List, [], _∷_, _++_}
@@ -25,7 +25,7 @@ use Rattle.theory_elimination.specs.Sound.{Sound, resolve-sound, loadable-sound
 use Rattle.theory_elimination.specs.Pairable.{resolvable}
 
 module _ (χ : Assignment) (d : 0 < χ .denominator) where
-  -- holds, and has the form of the course's lines
+  -- holds, and has the form of the elimination's lines
   abbrev Right : Line → Type 0
   Right l = T (lineHolds χ l) × Sound l
 

@@ -1,4 +1,4 @@
--- What solving reports and leaves in the book: the course's lines and pairs.
+-- What solving reports and leaves in the proof: the elimination's lines and pairs.
 use mathlib.Core.Path.{_≡_, refl, ap}
 use mathlib.Core.List.{List, _++_}
 use mathlib.Core.Option.{Option, none, some}
@@ -74,7 +74,7 @@ pub elimination-cut : (limits : Limits) (p : Problem)
 unfolding elimination
 elimination-cut limits p = eliminate-cut (limited limits) order (loadableOf p)
 
--- ---- the book after a verdict
+-- ---- the proof after a verdict
 abbrev proofOf : Limits → List Step → List ℕ → List ℕ
 proofOf limits steps proof =
     encodeProof steps ++ replicate (limit.proofBytes limits - limit.stepBytes * length steps) 0 ++ drop (limit.proofBytes limits) proof

@@ -1,4 +1,4 @@
--- A course that runs to its end without an empty line: the walk's choice satisfies the question.
+-- An elimination that runs to its end without an empty line: the walk's assignment satisfies the problem.
 use mathlib.Core.Path.{_≡_, subst}
 use mathlib.Core.Bool.{not}
 use mathlib.Core.List.{List}
@@ -26,13 +26,13 @@ use Rattle.theory_elimination.specs.Ends.{EndsRight, elimination-ends}
 use Rattle.theory_elimination.specs.Taken.{lines}
 use Rattle.theory_elimination.specs.Saturated.{elimination-loaded, elimination-saturated}
 
--- the choice of the walk over these lines
+-- the assignment of the walk over these lines
 abbrev pub chosen : List Step → Assignment
 chosen steps = walk order (lines steps) .assignment
 
 module _ (p : Problem) (w : WellFormed p) (stops : Stops) (steps : List Step) (n : ℕ)
     (e : eliminate stops order (loadableOf p) ≡ running steps n) where
-  -- every line of the book holds
+  -- every line of the proof holds
   proof-holds : LinesHold (chosen steps) (lines steps)
   unfolding stepsOf
   proof-holds =
@@ -43,7 +43,7 @@ module _ (p : Problem) (w : WellFormed p) (stops : Stops) (steps : List Step) (n
       (all-mapped (λ l. T (not (isEmpty l))) (λ x. x .line) steps (subst EndsRight e (elimination-ends stops order (loadableOf p))))
       (all-pairs-map _≡_ Covers equal-covers (lines steps) order (elimination-saturated stops order (loadableOf p) steps n e))
 
-  -- so does every piece, which one of them equals
+  -- so does every part, which one of them equals
   parts-hold : StepsHold (chosen steps) (loadableOf p)
   parts-hold =
       let b = proof-holds in

@@ -27,11 +27,11 @@ use Rattle.theory_elimination.specs.Events.{Event}
 use Rattle.theory_elimination.specs.Cut.{stopAt}
 use Rattle.theory_checks.specs.Following.{Follows}
 
--- "one does", for: some choice satisfies Q
+-- "one does", for: some assignment satisfies Q
 abbrev pub SomeAssignment : Problem → Type 0
 SomeAssignment p = (χ : Assignment) × Satisfies χ p
 
--- what 01's value rule gives for Q: a sheet, or none where it says "unwritten"
+-- what 01's value rule gives for Q: a model, or none where it says "unwritten"
 unfoldable pub modelOf : Problem → Option (List ℕ)
 modelOf p = written (p .booleans) (p .rationals) (walk order (map (λ s. s .line) (stepsOf (elimination unlimited p))))
 
@@ -62,7 +62,7 @@ pub record FullSize (limits : Limits) (proof model : List ℕ) : Type 0 where
   pub proofSize : limit.proofBytes limits ≤ length proof
   pub modelSize : limit.modelBytes ≤ length model
 
--- "ours is that sheet, and the choice on it satisfies Q": `ours` is what solving leaves, `lentModel` what the lent sheet held before
+-- "ours is that sheet, and the choice on it satisfies Q": `ours` is what solving leaves, `lentModel` what the lent model held before
 pub record OurModel (p : Problem) (ours : Solving) (lentModel : List ℕ) : Type 0 where
   pub bytes : List ℕ
   pub size : length bytes ≡ limit.modelBytes
@@ -74,7 +74,7 @@ pub record OurModel (p : Problem) (ours : Solving) (lentModel : List ℕ) : Type
   pub stated : model (p .booleans) (p .rationals) bytes 0 ≡ got assignment rest place
   pub satisfies : Satisfies assignment p
 
--- "every clause holds": bytes enough for a sheet, and the choice that they write satisfies Q
+-- "every clause holds": bytes enough for a model, and the assignment that they write satisfies Q
 pub record WritesAssignment (p : Problem) (bytes : List ℕ) : Type 0 where
   pub size : limit.modelBytes ≤ length bytes
   pub assignment : Assignment

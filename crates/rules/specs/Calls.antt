@@ -26,7 +26,7 @@ use Rattle.rules.specs.Values.{walk}
 use Rattle.rules.specs.Model.{written, model}
 use Rattle.rules.specs.Checker.{checkProof, checkClauses}
 
--- ---- a question, or its first fault 3 to 13
+-- ---- a problem, or its first fault 3 to 13
 pub data Reading : Type 0 where
   faulty : Refusal → ℕ → Reading
   sound : Problem → Reading
@@ -45,7 +45,7 @@ read input =
     ]
 
 -- ---- what solving comes to
--- a fault 1 to 13; 14 or 15 with the lines held and the pairs tried; or a verdict with the book's lines, the pairs and the sheet
+-- a fault 1 to 13; 14 or 15 with the lines held and the pairs tried; or a verdict with the proof's lines, the pairs and the model
 pub data Outcome : Type 0 where
   faulted : Refusal → ℕ → Outcome
   stopped : Refusal → ℕ → ℕ → Outcome
@@ -54,7 +54,7 @@ pub data Outcome : Type 0 where
 unfoldable pub noModel : List ℕ
 noModel = replicate limit.modelBytes 0
 
--- after the course: "Without an empty line, turns are walked backwards."
+-- after the elimination: "Without an empty line, turns are walked backwards."
 unfoldable pub concluded : Problem → State → Outcome
 concluded p (ended overflow steps pairs) = stopped refusal.Overflow (length steps) pairs
 concluded p (ended outOfSteps steps pairs) = stopped refusal.OutOfSteps (length steps) pairs
@@ -69,7 +69,7 @@ unfoldable pub outcome : Limits → List ℕ → Outcome
 outcome limits input = elim (read input) [ faulty f place ↦ faulted f place | sound p ↦ concluded p (elimination (limited limits) p) ]
 
 -- ---- solving
--- 1 and 2, before the question is looked at
+-- 1 and 2, before the problem is looked at
 unfoldable pub lent : Limits → List ℕ → List ℕ → List ℕ → Outcome
 lent limits input proof model =
     elim (ltb (length proof) (limit.proofBytes limits)) [
@@ -83,7 +83,7 @@ said (faulted f place) = record { answer = answer.Refused f place; pairs = 0 }
 said (stopped f steps pairs) = record { answer = answer.Refused f steps; pairs = pairs }
 said (decided v steps pairs bytes) = record { answer = answer.Decided v (length steps); pairs = pairs }
 
--- what the book holds then: 1 to 13 "alter no byte"; 14 and 15 "zero the book's 65,536 bytes and leave the sheet"; "The book's unused
+-- what the proof holds then: 1 to 13 "alter no byte"; 14 and 15 "zero the book's 65,536 bytes and leave the sheet"; "The book's unused
 -- lines are 0"; "Bytes beyond 65,536 and 64 keep their content."
 unfoldable pub proofAfter : Limits → Outcome → List ℕ → List ℕ
 proofAfter limits (faulted f place) old = old
@@ -91,7 +91,7 @@ proofAfter limits (stopped f steps pairs) old = replicate (limit.proofBytes limi
 proofAfter limits (decided v steps pairs bytes) old =
     encodeProof steps ++ replicate (limit.proofBytes limits - limit.stepBytes * length steps) 0 ++ drop (limit.proofBytes limits) old
 
--- what the sheet holds then: the same; "the sheet's 64 bytes are 0 unless "agrees""
+-- what the model holds then: the same; "the sheet's 64 bytes are 0 unless "agrees""
 unfoldable pub modelAfter : Outcome → List ℕ → List ℕ
 modelAfter (faulted f place) old = old
 modelAfter (stopped f steps pairs) old = old

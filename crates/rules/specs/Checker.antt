@@ -1,4 +1,4 @@
--- The check of a book and of a sheet, for a question read without fault.
+-- The check of a proof and of a model, for a problem read without fault.
 use mathlib.Core.Bool.{Bool, true, false, cond, _&&_, _||_}
 use mathlib.Core.List.{List, [], _∷_, _++_}
 use mathlib.Core.Option.{Option, none, some}
@@ -18,7 +18,7 @@ use Rattle.rules.specs.Resolve.{resolve}
 use Rattle.rules.specs.Steps.{Step, resolved, encodeStep}
 use Rattle.rules.specs.Elimination.{overflows, loadableOf}
 
--- ---- a book
+-- ---- a proof
 -- "by a mark at most one parent has a condition"
 unfoldable pub pairable : Variable → Line → Line → Bool
 pairable (rational f) u l = true
@@ -34,11 +34,11 @@ derived v (some u) (some l) =
       | false ↦ none
     ]
 
--- the figure or mark that a line's first two bytes name
+-- the variable that a line's first two bytes name
 unfoldable pub variableNamed : ℕ → ℕ → Option Variable
 variableNamed how which = cond (eqb how 1) (some (rational which)) (cond (eqb how 2) (some (boolean which)) none)
 
--- the result that these bytes name, by their first six: its line is computed from its parents
+-- the resolvent that these bytes name, by their first six: its line is computed from its parents
 unfoldable pub resolventNamed : List Line → List ℕ → Option Step
 resolventNamed earlier bytes =
     let first = fieldAt layout.stepFirst 2 bytes in
@@ -77,7 +77,7 @@ checkSteps parts (suc k) earlier ends bytes =
 unfoldable pub checkProof : Problem → List ℕ → Checked
 checkProof p bytes = checkSteps (loadableOf p) (length bytes / limit.stepBytes) [] false bytes
 
--- ---- a sheet
+-- ---- a model
 -- "accepted, or the first clause that fails", from clause k on
 unfoldable pub checkClauses : Assignment → ℕ → List Clause → Checked
 checkClauses χ k [] = Accepted

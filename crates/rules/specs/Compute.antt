@@ -54,7 +54,7 @@ unfolding any all filter concat same tabulate put gcdWithin gcd gcdAll lcm sum s
     refusalNumber verdictNumber answerNumber answerValue checkedNumber checkedValue evidenceNumber evidenceLength
 definitions = tt
 
--- the answer with its pairs; the lines' origins; and the sheet's booleans, numerators and denominator (0 without a sheet)
+-- the answer with its pairs; the lines' origins; and the model's booleans, numerators and denominator (0 without a model)
 pub record Shown : Type 0 where
   pub solved : Solved
   pub origins : List Origin
@@ -78,7 +78,7 @@ satisfiable steps pairs os booleans numerators denominator =
 abbrev pub unsatisfiable : ℕ → ℕ → List Origin → Shown
 unsatisfiable steps pairs os = bare (record { answer = Decided Unsatisfiable steps; pairs = pairs }) os
 
--- the sheet read back, for b marks and r figures
+-- the model read back, for b Boolean variables and r rational variables
 abbrev pub withModel : Solved → List Origin → ℕ → ℕ → List ℕ → Shown
 withModel a os b r bytes =
     elim (model b r bytes 0) [

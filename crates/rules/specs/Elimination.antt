@@ -1,4 +1,4 @@
--- The course: loading, then a turn for each figure and mark, to its end or to the first event that ends it.
+-- The elimination ("the course"): loading, then a round ("turn") for each variable, to its end or to the first event that ends it.
 use mathlib.Core.Bool.{Bool, true, false, not, _&&_}
 use mathlib.Core.List.{List, [], _∷_, _++_, map}
 use mathlib.Core.Option.{Option, none, some}
@@ -14,7 +14,7 @@ use Rattle.rules.specs.Split.{partsOf, splitsOf}
 use Rattle.rules.specs.Resolve.{resolve}
 use Rattle.rules.specs.Steps.{Step, loaded, resolved, row}
 
--- ---- turns
+-- ---- rounds
 -- "Turn numbers run from 0 to 39: turns 0 to 7 belong to the figures and 8 to 39 to the marks."
 unfoldable pub order : List Variable
 order = tabulate limit.rationals rational ++ tabulate limit.allBooleans boolean
@@ -24,8 +24,8 @@ unfoldable pub roundOf : List Variable → Line → ℕ
 roundOf [] l = 0
 roundOf (v ∷ vs) l = elim (contains v l) [ true ↦ 0 | false ↦ suc (roundOf vs l) ]
 
--- ---- what may end the course
--- a test of a result's amounts and of the count of lines held
+-- ---- what may end the elimination
+-- a test of a resolvent's amounts and of the count of lines held
 pub record Stops : Type 0 where
   pub atLine : Line → Bool
   pub atSteps : ℕ → Bool
@@ -46,13 +46,13 @@ unlimited = record { atLine = λ l. false; atSteps = λ held. false }
 pub data End : Type 0 where
   empty overflow outOfSteps : End
 
--- the course at a point: the lines held and the pairs tried, and whether it has ended there
+-- the elimination at a point: the lines held and the pairs tried, and whether it has ended there
 pub data State : Type 0 where
   running : List Step → ℕ → State
   ended : End → List Step → ℕ → State
 
 -- ---- one line more
--- wide; equal to an earlier line; one too many; empty: the first of them that is true decides
+-- overflowing, equal to an earlier line, one too many ("full"), empty: the first of them that is true decides
 unfoldable pub placed : Bool → Bool → Bool → Bool → Step → List Step → ℕ → State
 placed true known many blank s steps n = ended overflow steps n
 placed false true many blank s steps n = running steps n
@@ -64,8 +64,8 @@ placed false false false false s steps n = running (steps ++ (s ∷ [])) n
 unfoldable pub covered : Line → List Step → Bool
 covered l steps = any (λ s. sameLine (s .line) l) steps
 
--- ---- a turn's pairs
--- a line with its number in the book
+-- ---- a round's pairs
+-- a line with its number in the proof
 pub record Numbered : Type 0 where
   pub number : ℕ
   pub line : Line
@@ -85,7 +85,7 @@ unfoldable pub pairUp : List Numbered → List Numbered → List Pair
 pairUp [] ls = []
 pairUp (u ∷ us) ls = map (λ l. record { upper = u; lower = l }) ls ++ pairUp us ls
 
--- turn t's pairs: "its lines with it positive (upper bounds) are paired ... with the lines with it negative"
+-- round t's pairs: "its lines with it positive (upper bounds) are paired ... with the lines with it negative"
 unfoldable pub sideOf : (Variable → Line → Bool) → List Variable → Variable → ℕ → List Step → List Numbered
 sideOf side variables v t steps = select (λ l. side v l && eqb (roundOf variables l) t) 0 steps
 
@@ -93,12 +93,12 @@ unfoldable pub roundPairs : List Variable → Variable → ℕ → List Step →
 roundPairs variables v t steps = pairUp (sideOf positively variables v t steps) (sideOf negatively variables v t steps)
 
 -- ---- loading
--- the pieces of clause c, from piece p on
+-- the parts of clause c, from part p on
 unfoldable pub partSteps : ℕ → ℕ → List Line → List Step
 partSteps c p [] = []
 partSteps c p (l ∷ ls) = record { origin = loaded c p; line = l } ∷ partSteps c (suc p) ls
 
--- the pieces of all clauses, in order, from clause c and link k on
+-- the parts of all clauses, in order, from clause c and split variable k on
 unfoldable pub loadable : ℕ → ℕ → List Clause → List Step
 loadable c k [] = []
 loadable c k (x ∷ xs) = partSteps c 0 (partsOf k x) ++ loadable (suc c) (k + splitsOf x) xs
@@ -107,9 +107,9 @@ loadable c k (x ∷ xs) = partSteps c 0 (partsOf k x) ++ loadable (suc c) (k + s
 unfoldable pub loadableOf : Problem → List Step
 loadableOf p = loadable 0 (p .booleans) (p .clauses)
 
--- ---- the course
+-- ---- the elimination
 module _ (stops : Stops) where
-  -- a line put to the tests; that it is wide is asked of results alone
+  -- a line put to the tests; that it overflows ("wide") is asked of resolvents alone
   unfoldable pub add : Bool → Step → List Step → ℕ → State
   add overflowing s steps n = placed overflowing (covered (s .line) steps) (stops .atSteps (length steps)) (isEmpty (s .line)) s steps n
 
@@ -119,7 +119,7 @@ module _ (stops : Stops) where
   load (s ∷ ss) (ended e steps n) = ended e steps n
   load (s ∷ ss) (running steps n) = load ss (add false s steps n)
 
-  -- a pair's result: dropped by tidying, or put to the tests; the pair counts either way
+  -- a pair's resolvent: dropped by normalizing, or put to the tests; the pair counts either way
   unfoldable pub tried : Variable → Pair → Option Line → List Step → ℕ → State
   tried v p none steps n = running steps n
   tried v p (some l) steps n =
@@ -130,7 +130,7 @@ module _ (stops : Stops) where
   tryAll v (p ∷ ps) (ended e steps n) = ended e steps n
   tryAll v (p ∷ ps) (running steps n) = tryAll v ps (tried v p (resolve v (p .upper .line) (p .lower .line)) steps (suc n))
 
-  -- the turns from t on, of these figures and marks; `variables` is the whole order
+  -- the rounds from t on, of these variables; `variables` is the whole order
   unfoldable pub rounds : List Variable → ℕ → List Variable → State → State
   rounds variables t [] state = state
   rounds variables t (v ∷ vs) (ended e steps n) = ended e steps n
@@ -139,6 +139,6 @@ module _ (stops : Stops) where
   unfoldable pub eliminate : List Variable → List Step → State
   eliminate variables parts = rounds variables 0 variables (load parts (running [] 0))
 
--- a question's course
+-- a problem's elimination
 unfoldable pub elimination : Stops → Problem → State
 elimination stops p = eliminate stops order (loadableOf p)

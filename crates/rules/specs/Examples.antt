@@ -1,4 +1,4 @@
--- Document 01's starred examples 1 to 10, each variant, computed from the question's bytes.
+-- Document 01's starred examples 1 to 10, each variant, computed from the problem's bytes.
 use mathlib.Core.Path.{_≡_, refl}
 use mathlib.Core.Bool.{false}
 use mathlib.Core.List.{List, [], _∷_, map}
@@ -13,7 +13,7 @@ use Rattle.rules.specs.Print.{ascii, printed}
 use Rattle.rules.specs.Write.{atMost, below, clauseOf, alone, problemOf}
 use Rattle.rules.specs.Compute.{definitions, Shown, bare, satisfiable, unsatisfiable, shown}
 
--- an example: a question, and what document 01 says of it
+-- an example: a problem, and what document 01 says of it
 pub record Example : Type 0 where
   pub input : List ℕ
   pub shows : Shown

@@ -1,4 +1,4 @@
--- A line's content, its figures and marks, and when it holds: of one type for loaded pieces, results and what a book states.
+-- A line's content, its variables, and when it holds: of one type for loaded parts, resolvents and what a proof states.
 use mathlib.Core.Bool.{Bool, true, false, not, _&&_, _||_, Bool·beq}
 use mathlib.Core.List.{List, [], _∷_}
 use mathlib.Core.Option.{Option, none, some}
@@ -11,7 +11,7 @@ use Rattle.rules.specs.Arithmetic.{isPositive, isNegative, equal}
 use Rattle.rules.specs.Problem.{Constraint}
 use Rattle.rules.specs.Meaning.{Assignment, constraintHolds}
 
--- a set of marks, the question's and the links: mark i is a member if place i says so
+-- a set of Boolean variables, the problem's and the split variables: Boolean variable i is a member if place i says so
 abbrev pub Booleans : Type 0
 Booleans = List Bool
 
@@ -29,20 +29,20 @@ union [] t = t
 union (a ∷ s) [] = a ∷ s
 union (a ∷ s) (b ∷ t) = (a || b) ∷ union s t
 
--- some mark is a member of both
+-- some Boolean variable is a member of both
 unfoldable pub meet : Booleans → Booleans → Bool
 meet [] t = false
 meet (a ∷ s) [] = false
 meet (a ∷ s) (b ∷ t) = a && b || meet s t
 
--- positive marks, negative marks, and at most one condition
+-- positive Boolean variables, negative Boolean variables, and at most one constraint
 pub record Line : Type 0 where
   pub positive : Booleans
   pub negative : Booleans
   pub constraint : Option Constraint
 
 -- ---- when it holds
--- some member is yes under the choice
+-- some member is yes under the assignment
 unfoldable pub someYes : Booleans → (ℕ → Bool) → Bool
 someYes [] assignment = false
 someYes (a ∷ s) assignment = a && assignment 0 || someYes s (λ i. assignment (suc i))
@@ -58,17 +58,17 @@ unfoldable pub lineHolds : Assignment → Line → Bool
 lineHolds χ l = aLiteralHolds χ l || theConstraintHolds χ (l .constraint)
 
 -- ---- its variables
--- a figure or a mark, by its number
+-- a rational or a Boolean variable, by its number
 pub data Variable : Type 0 where
   rational : ℕ → Variable
   boolean : ℕ → Variable
 
--- a figure's coefficient, 0 without a condition
+-- a rational variable's coefficient, 0 without a constraint
 unfoldable pub coefficient : ℕ → Option Constraint → ℤ
 coefficient f none = pos 0
 coefficient f (some c) = getD (c .coefficients) f (pos 0)
 
--- the line has it positive (a figure: an upper bound), negative, or either
+-- the line has it positive (a rational variable: an upper bound), negative, or either
 unfoldable pub positively : Variable → Line → Bool
 positively (rational f) l = isPositive (coefficient f (l .constraint))
 positively (boolean i) l = getD (l .positive) i false

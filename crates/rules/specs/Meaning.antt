@@ -1,4 +1,4 @@
--- The question's meaning: when a choice of marks and of rational figures satisfies it.
+-- The problem's meaning: when an assignment ("a choice") of Boolean and rational variables ("marks" and "figures") satisfies it.
 use mathlib.Core.Bool.{Bool, not, cond, _||_}
 use Prim.Native.Nat.{ℕ, _≤_}
 use lib.IntN.{ℤ, pos, _*ℤ_}
@@ -7,8 +7,8 @@ use Rattle.rules.specs.Lists.{any, all}
 use Rattle.rules.specs.Arithmetic.{sum, related}
 use Rattle.rules.specs.Problem.{Literal, Constraint, Clause, Problem}
 
--- a choice: a yes or no for each mark, a whole numerator for each figure, and one whole denominator, of any size; what stands
--- beyond a question's marks and figures makes no difference
+-- an assignment: a yes or no for each Boolean variable, a whole numerator for each rational variable, and one whole denominator, of any
+-- size; what stands beyond a problem's variables makes no difference
 pub record Assignment : Type 0 where
   pub booleans : ℕ → Bool
   pub numerators : ℕ → ℤ

@@ -1,4 +1,4 @@
--- The sheet: its 64 bytes, "unwritten", and a sheet read back.
+-- The model ("the sheet"): its 64 bytes, "unwritten", and a model read back.
 use mathlib.Core.Bool.{Bool, true, false, cond, _&&_, _||_}
 use mathlib.Core.List.{List, _∷_, _++_}
 use mathlib.Core.Option.{Option, none, some}
@@ -28,11 +28,11 @@ encodeModel b r χ =
 unfoldable pub tooLarge : ℕ → Assignment → Bool
 tooLarge r χ = ltb limit.amount (χ .denominator) || any (λ z. ltb limit.amount (natAbs z)) (tabulate r (χ .numerators))
 
--- the sheet of a walk, or none: "unwritten"
+-- the model of a walk, or none: "unwritten"
 unfoldable pub written : ℕ → ℕ → Walked → Option (List ℕ)
 written b r w = elim (w .exceeded || tooLarge r (w .assignment)) [ true ↦ none | false ↦ some (encodeModel b r (w .assignment)) ]
 
--- ---- a sheet to check
+-- ---- a model to check
 -- 17: "count differs, mark not 0 or 1, denominator outside 1 to 1,000,000,000, numerator outside the amounts' range; first byte of the
 -- first such field"
 unfoldable pub model : ℕ → ℕ → Reader Assignment

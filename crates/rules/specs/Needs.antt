@@ -1,4 +1,4 @@
--- What a course needs: the premise under which demand 3 promises a verdict.
+-- What an elimination needs: the premise under which demand 3 promises a verdict.
 use mathlib.Core.Bool.{not}
 use mathlib.Core.List.{List, [], _∷_, _++_}
 use mathlib.Core.Option.{Option, none, some}
@@ -14,7 +14,7 @@ use Rattle.rules.specs.Steps.{Step}
 use Rattle.rules.specs.Elimination.{State, running, ended, Pair, order, overflows, unlimited, roundPairs, loadableOf, load, tried}
 use Rattle.rules.specs.Elimination.{tryAll, elimination}
 
--- the lines that a course holds, and the pairs that it has tried
+-- the lines that an elimination holds, and the pairs that it has tried
 unfoldable pub stepsOf : State → List Step
 stepsOf (running steps n) = steps
 stepsOf (ended e steps n) = steps
@@ -27,7 +27,7 @@ pairsOf (ended e steps n) = n
 unfoldable pub needs : Problem → ℕ
 needs p = length (stepsOf (elimination unlimited p))
 
--- every tidied result that it comes to, also one that an earlier line covers
+-- every normalized resolvent that it comes to, also one that an earlier line covers
 unfoldable pub listed : Option Line → List Line
 listed none = []
 listed (some l) = l ∷ []

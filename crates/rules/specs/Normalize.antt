@@ -1,4 +1,4 @@
--- Tidying: a clause or a result is dropped, or brought to one form.
+-- Normalizing ("tidying"): a clause or a resolvent is dropped, or brought to one form.
 use mathlib.Core.Bool.{Bool, true, false, Bool·beq}
 use mathlib.Core.List.{List, [], _∷_, map}
 use mathlib.Core.Option.{Option, none, some}
@@ -9,7 +9,7 @@ use Rattle.rules.specs.Arithmetic.{gcdAll, related, isZero}
 use Rattle.rules.specs.Problem.{Literal, Constraint, Clause}
 use Rattle.rules.specs.Lines.{Booleans, noBooleans, including, meet, Line}
 
--- "a literal written twice counts as one": the marks of one sign, as a set
+-- "a literal written twice counts as one": the Boolean variables of one sign, as a set
 unfoldable pub membersOf : Bool → List Literal → Booleans
 membersOf negated [] = noBooleans
 membersOf negated (l ∷ ls) =
@@ -33,13 +33,13 @@ settled c =
       | false ↦ kept (reduced c)
     ]
 
--- a tidied clause
+-- a normalized clause
 pub record Normal : Type 0 where
   pub positive : Booleans
   pub negative : Booleans
   pub constraints : List Constraint
 
--- the conditions that stay, or none where one is always true; "Conditions that repeat are kept."
+-- the constraints that stay, or none where one is always true; "Conditions that repeat are kept."
 unfoldable pub settledAll : List Constraint → Option (List Constraint)
 settledAll [] = some []
 settledAll (c ∷ cs) =
@@ -49,7 +49,7 @@ settledAll (c ∷ cs) =
       | kept d ↦ elim (settledAll cs) [ none ↦ none | some ds ↦ some (d ∷ ds) ]
     ]
 
--- a clause tidied, or none where it is dropped; "A mark in both signs: the clause is dropped."
+-- a clause normalized, or none where it is dropped; "A mark in both signs: the clause is dropped."
 unfoldable pub normalClause : Clause → Option Normal
 normalClause c =
     let p = membersOf false (c .literals) in
@@ -66,7 +66,7 @@ normalClause c =
       ]
     ]
 
--- a result tidied, or none where it is dropped
+-- a resolvent normalized, or none where it is dropped
 unfoldable pub settledLine : Line → Settled → Option Line
 settledLine l always = none
 settledLine l never = some (record { positive = l .positive; negative = l .negative; constraint = none })

@@ -1,4 +1,4 @@
--- What the program prints for a question on standard input: lines of words, each with a newline.
+-- What the program prints for a problem on standard input: lines of words, each with a newline.
 use mathlib.Core.Bool.{true, false}
 use mathlib.Core.List.{List, [], _∷_, _++_, map}
 use Prim.Native.Nat.{ℕ, zero, suc, _+_, _*_, _/_, _%_}
@@ -56,7 +56,8 @@ printModel bytes =
     printLine (ascii "marks") (decimal b ∷ [])
     ++ concat (tabulate b (λ i. printLine (decimal (fieldAt (layout.modelFlags + i) 1 bytes)) []))
     ++ printLine (ascii "figures") (decimal r ∷ [])
-    ++ concat (tabulate r (λ f. printLine (signedDecimal (fromUnsigned (fieldAt (layout.modelNumerators b + 4 * f) 4 bytes))) (denominator ∷ [])))
+    ++ concat (tabulate r
+    (λ f. printLine (signedDecimal (fromUnsigned (fieldAt (layout.modelNumerators b + 4 * f) 4 bytes))) (denominator ∷ [])))
 
 -- "refused with number, place, pairs"
 unfoldable pub printRefusal : Refusal → ℕ → ℕ → List ℕ

@@ -1,4 +1,4 @@
--- The question: its parts, and its bytes read field by field to the first fault 4 to 12 with its place.
+-- The problem ("the question"): what it consists of, and its bytes read field by field to the first fault 4 to 12 with its place.
 use mathlib.Core.Bool.{Bool, true, false, _||_}
 use mathlib.Core.List.{List, [], _∷_, _++_}
 use Prim.Native.Nat.{ℕ, zero, suc, _+_, _*_, _-_, _%_}
@@ -10,13 +10,13 @@ use Rattle.rules_types.specs.declared.answers.Refusal.the-variants as refusal
 use Rattle.rules_types.specs.Limits as limit
 use Rattle.rules.specs.Bytes.{fromUnsigned}
 
--- ---- a question's parts
--- a mark, or a mark negated
+-- ---- what a problem consists of
+-- a Boolean variable, or a Boolean variable negated
 pub record Literal : Type 0 where
   pub boolean : ℕ
   pub negated : Bool
 
--- a condition: sum of coefficient × figure, ≤ or (strict) <, bound; eight coefficients, 0 from r on
+-- a constraint ("condition"): sum of coefficient × rational variable, ≤ or (strict) <, bound; eight coefficients, 0 from r on
 pub record Constraint : Type 0 where
   pub strict : Bool
   pub coefficients : List ℤ

@@ -1,4 +1,4 @@
--- The result of a pair, by a figure (Fourier-Motzkin) or by a mark (Davis-Putnam).
+-- The resolvent of a pair (its "result"), by a rational variable (Fourier-Motzkin) or by a Boolean variable (Davis-Putnam).
 use mathlib.Core.Bool.{_||_}
 use mathlib.Core.Option.{Option, none, some}
 use Prim.Native.Nat.{ℕ}
@@ -24,12 +24,12 @@ combinationOf f none l = none
 combinationOf f (some u) none = none
 combinationOf f (some u) (some l) = some (combination f u l)
 
--- "the condition where one line has one (in the course neither does)"; of two the first, which no course and no check comes to
+-- "the condition where one line has one (in the course neither does)"; of two the first, which no elimination and no check comes to
 unfoldable pub oneOf : Option Constraint → Option Constraint → Option Constraint
 oneOf none l = l
 oneOf (some u) l = some u
 
--- before it is tidied: "both lines' literals"; "the literals of both without it"
+-- before it is normalized: "both lines' literals"; "the literals of both without it"
 unfoldable pub resolvent : Variable → Line → Line → Line
 resolvent (rational f) u l =
     record {

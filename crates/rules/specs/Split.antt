@@ -10,8 +10,8 @@ use Rattle.rules.specs.Problem.{Constraint, Clause}
 use Rattle.rules.specs.Lines.{Booleans, noBooleans, including, Line}
 use Rattle.rules.specs.Normalize.{Normal, normalClause}
 
--- the pieces with conditions c and cs, k being the next link: "Piece 0 has the literals, condition 0 and its link; each later piece
--- has the previous link negated, its condition and, except the last, the next link."
+-- the parts with constraints c and cs, k being the next split variable: "Piece 0 has the literals, condition 0 and its link; each later
+-- piece has the previous link negated, its condition and, except the last, the next link."
 unfoldable pub chain : ℕ → Booleans → Booleans → Constraint → List Constraint → List Line
 chain k p n c [] = record { positive = p; negative = n; constraint = some c } ∷ []
 chain k p n c (d ∷ ds) =
@@ -24,14 +24,14 @@ parts k c =
       | d ∷ ds ↦ chain k (c .positive) (c .negative) d ds
     ]
 
--- of a clause as read: its pieces, and how many links they take; one that is dropped has none
+-- of a clause as read: its parts, and how many split variables they take; one that is dropped has none
 unfoldable pub partsOf : ℕ → Clause → List Line
 partsOf k c = elim (normalClause c) [ none ↦ [] | some n ↦ parts k n ]
 
 unfoldable pub splitsOf : Clause → ℕ
 splitsOf c = elim (normalClause c) [ none ↦ 0 | some n ↦ length (n .constraints) - 1 ]
 
--- 13: "over 16; first byte of the clause passing it", with k links before these clauses
+-- 13: "over 16; first byte of the clause passing it", with k split variables before these clauses
 unfoldable pub overSplit : ℕ → List Clause → Option ℕ
 overSplit k [] = none
 overSplit k (c ∷ cs) = let n = k + splitsOf c in elim (ltb limit.splits n) [ true ↦ some (c .start) | false ↦ overSplit n cs ]

@@ -1,4 +1,4 @@
--- The book: a line with its origin, and its 64 bytes.
+-- The proof ("the book"): a step is a line with its origin, and has 64 bytes.
 use mathlib.Core.Bool.{cond}
 use mathlib.Core.List.{List, [], _∷_, _++_}
 use mathlib.Core.Option.{Option, none, some}
@@ -10,7 +10,7 @@ use Rattle.rules.specs.Bytes.{toBytes, amountBytes, padded}
 use Rattle.rules.specs.Problem.{Constraint}
 use Rattle.rules.specs.Lines.{Booleans, Line, Variable, rational, boolean}
 
--- a clause's piece, both by number; or the result of two lines, by number, by a figure or mark
+-- a clause's part, both by number; or the resolvent of two lines, by number, by a variable
 pub data Origin : Type 0 where
   loaded : ℕ → ℕ → Origin
   resolved : Variable → ℕ → ℕ → Origin

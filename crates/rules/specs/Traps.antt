@@ -15,7 +15,7 @@ use Rattle.rules.specs.Calls.{proofChecked}
 use Rattle.rules.specs.Write.{atMost, below, clauseOf, alone, problemOf}
 use Rattle.rules.specs.Compute.{definitions, satisfiable, unsatisfiable, shown}
 
--- a line without literals whose condition is coefficient × x ≤ bound
+-- a line without literals whose constraint is coefficient × x ≤ bound
 abbrev stepOf : Origin → ℤ → ℤ → Step
 stepOf o c k =
     record {
@@ -37,7 +37,7 @@ unfolding definitions
 strict-if-the-lower-is = refl
 
 -- "scaling by a negative coefficient without turning the relation": of x ≤ 5 and -x ≤ -4 the pair taken the wrong way round would state
--- -2x ≤ -9, which x = 4 refutes; a book that says so fails there
+-- -2x ≤ -9, which x = 4 refutes; a proof that says so fails there
 pub first-parent-is-the-upper : proofCheck
     (problemOf 0 1 (alone (atMost (pos 1 ∷ []) (pos 5)) ∷ alone (atMost (negsuc 0 ∷ []) (negsuc 3)) ∷ []))
     (encodeProof (stepOf (loaded 0 0) (pos 1) (pos 5) ∷ stepOf (loaded 1 0) (negsuc 0) (negsuc 3) ∷ stepOf (resolved (rational 0) 1 0)
@@ -65,7 +65,7 @@ pub the-upper-end-is-closer : shown (problemOf 0 1 (alone (atMost (pos 2 ∷ [])
 unfolding definitions
 the-upper-end-is-closer = refl
 
--- "reusing one link in two clauses": x ≤ 1 or -x ≤ -9; -x ≤ -8 or x ≤ 2. With one link for both no x would do.
+-- "reusing one link in two clauses": x ≤ 1 or -x ≤ -9; -x ≤ -8 or x ≤ 2. With one split variable for both no x would do.
 pub each-clause-has-its-split-variables : shown (problemOf 0 1 (clauseOf [] (atMost (pos 1 ∷ []) (pos 1) ∷ atMost (negsuc 0 ∷ [])
     (negsuc 8) ∷ []) ∷ clauseOf [] (atMost (negsuc 0 ∷ []) (negsuc 7) ∷ atMost (pos 1 ∷ []) (pos 2) ∷ []) ∷ []))
     ≡ satisfiable 6 5 (loaded 0 0 ∷ loaded 0 1 ∷ loaded 1 0 ∷ loaded 1 1 ∷ resolved (rational 0) 0 2 ∷ resolved (rational 0) 3

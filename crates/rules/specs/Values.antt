@@ -1,4 +1,4 @@
--- The walk backwards: a yes or no for each mark, a fraction for each figure.
+-- The walk backwards: a yes or no for each Boolean variable, a fraction for each rational variable.
 use mathlib.Core.Bool.{Bool, true, false, not, _&&_, _||_}
 use mathlib.Core.List.{List, [], _∷_}
 use mathlib.Core.Option.{none, some}
@@ -67,8 +67,8 @@ value (present l true) absent = plus l (pos 1)
 value (present l true) (present u false) = u
 value (present l true) (present u true) = midpoint l u
 
--- ---- a figure
--- what a condition bounds figure f by, the other figures as chosen: (bound - the other terms) / coefficient
+-- ---- a rational variable
+-- what a constraint bounds rational variable f by, the other rational variables as chosen: (bound - the other terms) / coefficient
 unfoldable pub boundOf : Assignment → ℕ → Constraint → Fraction
 boundOf χ f c =
     quotient (c .bound *ℤ pos (χ .denominator) -ℤ sum (set (c .coefficients) f (pos 0)) (χ .numerators))
@@ -95,7 +95,7 @@ tightest before (g ∷ gs) = tighter before (g .at) (g .strict) (tightest before
 unfoldable pub rationalValue : Assignment → ℕ → List Line → Fraction
 rationalValue χ f ls = value (tightest (λ x y. less y x) (gather negatively χ f ls)) (tightest less (gather positively χ f ls))
 
--- ---- a mark
+-- ---- a Boolean variable
 -- "A mark is yes exactly if some line of its turn containing it positively has nothing else that holds."
 unfoldable pub withoutBoolean : ℕ → Line → Line
 withoutBoolean i l = record { positive = excluding i (l .positive); negative = excluding i (l .negative); constraint = l .constraint }
@@ -103,8 +103,8 @@ withoutBoolean i l = record { positive = excluding i (l .positive); negative = e
 unfoldable pub booleanValue : Assignment → ℕ → List Line → Bool
 booleanValue χ i ls = any (λ l. positively (boolean i) l && not (lineHolds χ (withoutBoolean i l))) ls
 
--- ---- the choice so far, with one figure or mark more
--- all figures over their least common denominator
+-- ---- the assignment so far, with one variable more
+-- all rational variables over their least common denominator
 unfoldable pub withRational : ℕ → Fraction → Assignment → Assignment
 withRational f x χ =
     let d = lcm (χ .denominator) (x .denominator) in
@@ -129,16 +129,16 @@ exceeds (rational f) ls χ =
 exceeds (boolean i) ls χ = false
 
 -- ---- the walk
--- the choice reached, and whether a gathered bound or a value was beyond
+-- the assignment reached, and whether a gathered bound or a value was beyond
 pub record Walked : Type 0 where
   pub assignment : Assignment
   pub exceeded : Bool
 
--- no marks yes, all figures 0
+-- no Boolean variables yes, all rational variables 0
 unfoldable pub start : Assignment
 start = record { booleans = λ i. false; numerators = λ f. pos 0; denominator = 1 }
 
--- "turns are walked backwards": those from t on, of these figures and marks, the last of them first
+-- "turns are walked backwards": those from t on, of these variables, the last of them first
 module _ (variables : List Variable) (lines : List Line) where
   unfoldable pub walkFrom : ℕ → List Variable → Walked
   walkFrom t [] = record { assignment = start; exceeded = false }

@@ -1,4 +1,4 @@
--- Questions written clause by clause, as the examples do, to their bytes.
+-- Problems written clause by clause, as the examples do, to their bytes.
 use mathlib.Core.List.{List, [], _∷_, _++_}
 use Prim.Native.Nat.{ℕ}
 use lib.IntN.{ℤ}
@@ -6,14 +6,14 @@ use lib.ListN.{length}
 use Rattle.rules.specs.Lists.{concat}
 use Rattle.rules.specs.Bytes.{toBytes, amountBytes}
 
--- a condition: relation byte, coefficients, bound
+-- a constraint: relation byte, coefficients, bound
 abbrev pub atMost : List ℤ → ℤ → List ℕ
 atMost cs k = 1 ∷ amountBytes cs ++ amountBytes (k ∷ [])
 
 abbrev pub below : List ℤ → ℤ → List ℕ
 below cs k = 2 ∷ amountBytes cs ++ amountBytes (k ∷ [])
 
--- a clause of literal bytes and conditions; of one condition alone
+-- a clause of literal bytes and constraints; of one constraint alone
 abbrev pub clauseOf : List ℕ → List (List ℕ) → List ℕ
 clauseOf literals constraints = length literals ∷ literals ++ (length constraints ∷ concat constraints)
 

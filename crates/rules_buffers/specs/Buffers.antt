@@ -1,4 +1,4 @@
--- Whole calls on lent buffers: what they say, and every byte of book and sheet afterwards.
+-- Whole calls on lent buffers: what they say, and every byte of proof and model afterwards.
 use mathlib.Core.Path.{_≡_, refl}
 use mathlib.Core.List.{List, [], _∷_, _++_}
 use Prim.Native.Nat.{ℕ}
@@ -73,7 +73,7 @@ pub seven-handed-back : evidence standard (verdictNumber Unsatisfiable) 5 lentPr
 unfolding definitions
 seven-handed-back = refl
 
--- ---- "agrees", with a mark and a figure: a; x < 5; -x < -4
+-- ---- "agrees", with a Boolean variable and a rational variable: a; x < 5; -x < -4
 abbrev half : List ℕ
 half = problemOf 1 1 (clauseOf (0 ∷ []) [] ∷ alone (below (pos 1 ∷ []) (pos 5)) ∷ alone (below (negsuc 0 ∷ []) (negsuc 3)) ∷ [])
 
@@ -103,7 +103,7 @@ unfolding definitions
 half-handed-back = refl
 
 -- ---- refusals
--- 14 zeroes the book and leaves the sheet: example 10
+-- 14 zeroes the proof and leaves the model: example 10
 abbrev ten : List ℕ
 ten = problemOf 0 3
     (alone (atMost (pos 1000000000 ∷ pos 3 ∷ pos 0 ∷ []) (pos 0)) ∷ alone (atMost (negsuc 999999998 ∷ pos 0 ∷ pos 1 ∷ []) (pos 0)) ∷ [])
@@ -117,7 +117,7 @@ pub ten-solved : solve standard ten lentProof lentModel
 unfolding definitions
 ten-solved = refl
 
--- a fault of the question alters nothing, and comes after 1 and 2: seventeen marks
+-- a fault of the problem alters nothing, and comes after 1 and 2: seventeen Boolean variables
 pub faulty-solved : solve standard (17 ∷ []) lentProof lentModel
     ≡ record { solved = record { answer = Refused refusal.Booleans 0; pairs = 0 }; proof = lentProof; model = lentModel }
 unfolding definitions

@@ -16,25 +16,25 @@ use Rattle.rules_types.specs.declared.answers.Evidence.the-variants.{OfP
 
 -- document 01's word after each
 unfoldable pub refusalNumber : Refusal → ℕ
-refusalNumber ShortProof = 1  -- book
-refusalNumber ShortModel = 2  -- sheet
-refusalNumber LongProblem = 3  -- long
-refusalNumber Truncated = 4  -- short
-refusalNumber Booleans = 5  -- marks
-refusalNumber Rationals = 6  -- figures
-refusalNumber Clauses = 7  -- clauses
-refusalNumber Literal = 8  -- literal
-refusalNumber Constraints = 9  -- conditions
-refusalNumber Relation = 10  -- relation
-refusalNumber Amount = 11  -- amount
-refusalNumber Trailing = 12  -- tail
-refusalNumber Splits = 13  -- links
-refusalNumber Overflow = 14  -- wide
-refusalNumber OutOfSteps = 15  -- full
-refusalNumber ProofLength = 16  -- claim
-refusalNumber BadModel = 17  -- slip
+refusalNumber ShortProof = 1  -- "book"
+refusalNumber ShortModel = 2  -- "sheet"
+refusalNumber LongProblem = 3  -- "long"
+refusalNumber Truncated = 4  -- "short"
+refusalNumber Booleans = 5  -- "marks"
+refusalNumber Rationals = 6  -- "figures"
+refusalNumber Clauses = 7  -- "clauses"
+refusalNumber Literal = 8  -- "literal"
+refusalNumber Constraints = 9  -- "conditions"
+refusalNumber Relation = 10  -- "relation"
+refusalNumber Amount = 11  -- "amount"
+refusalNumber Trailing = 12  -- "tail"
+refusalNumber Splits = 13  -- "links"
+refusalNumber Overflow = 14  -- "wide"
+refusalNumber OutOfSteps = 15  -- "full"
+refusalNumber ProofLength = 16  -- "claim"
+refusalNumber BadModel = 17  -- "slip"
 
--- agrees, cannot agree, unwritten
+-- "agrees", "cannot agree", "unwritten"
 unfoldable pub verdictNumber : Verdict → ℕ
 verdictNumber Satisfiable = 64
 verdictNumber Unsatisfiable = 65
@@ -60,7 +60,7 @@ checkedValue checked.Accepted = 0
 checkedValue (checked.Fails n) = n
 checkedValue (checked.Refused f p) = p
 
--- a part of the book, a part of the sheet
+-- the first bytes of the proof, of the model
 unfoldable pub evidenceNumber : Evidence → ℕ
 evidenceNumber (OfProof n) = 69
 evidenceNumber (OfModel n) = 70

@@ -50,7 +50,7 @@ amount = 1000000000
 abbrev pub steps : ℕ
 steps = 1024
 
--- the limits of a caller who lends the whole book, and the bytes of a book of N lines
+-- the limits of a caller who lends the whole proof, and the bytes of a proof of so many steps
 abbrev pub standard : Limits
 standard = record { steps = steps }
 

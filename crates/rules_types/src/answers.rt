@@ -49,7 +49,7 @@ impl Refusal {
     }
 }
 
-// What solving found: agrees, cannot agree, unwritten.
+// What solving found: "agrees", "cannot agree", "unwritten".
 pub enum Verdict {
     Satisfiable,
     Unsatisfiable,

@@ -2,7 +2,7 @@
 ghost use mathlib.Core.Path.{_≡_};
 ghost use Rattle.rules_types.specs.Limits.{amount, steps, allBooleans, rounds, standard, proofBytes, Bytes, Counts, OfClause};
 
-// What may differ from caller to caller: the most steps that a proof holds (lines of the book, N).
+// What may differ from caller to caller: the most steps that a proof holds.
 pub struct Limits {
     pub steps: u32,
 }

@@ -1,5 +1,5 @@
--- The check accepts the proof of a course that ends with an empty line: its lines are sound, and their amounts in range, so the laws of
--- the course and of the bytes meet.
+-- The check accepts the proof of an elimination that ends with an empty line: its lines are sound, and their amounts in range, so the laws
+-- of the elimination and of the bytes meet.
 use mathlib.Core.Path.{_≡_, subst}
 use mathlib.Core.List.{List, [], _∷_, _++_}
 use Prim.Native.Nat.{ℕ, _≤_}
@@ -30,7 +30,7 @@ use Rattle.theory_elimination.specs.Ends.{EndsRight, elimination-ends}
 use Rattle.theory_bytes.specs.Lines.{Encodable, AllEncodable}
 use Rattle.theory_checks.specs.ProofAccepted.{Pairable, Refutation, proof-accepted}
 
--- ---- the lines of a limited course come back from their bytes
+-- ---- the lines of a limited elimination come back from their bytes
 module _ (p : Problem) (w : WellFormed p) where
   pub parts-encodable : AllEncodable (loadableOf p)
   parts-encodable = all-map (λ s. LineForm _ (s .line)) (λ s. Encodable (s .line)) (loadableOf p)
@@ -47,7 +47,7 @@ module _ (p : Problem) (w : WellFormed p) where
             overflows-no m .0 t;
       }) parts-encodable
 
--- ---- a course's pairs are such as the check allows
+-- ---- an elimination's pairs are such as the check allows
 each-pairable : (earlier ss : List Step) → All (λ s. Sound (s .line)) earlier → All (λ s. Sound (s .line)) ss
     → Each (Pairable order) earlier ss
 each-pairable earlier [] h k = tt
@@ -58,7 +58,7 @@ each-pairable earlier (s ∷ ss) h k = (
   each-pairable (earlier ++ (s ∷ [])) ss (all-append (λ s. Sound (s .line)) earlier (s ∷ []) h (k .0, tt)) (k .1),
 )
 
--- ---- the proof of a course that ends so
+-- ---- the proof of an elimination that ends so
 module _ (limits : Limits) (q : List ℕ) (p : Problem) (e : read q ≡ sound p) (few : limits .steps ≤ 65536)
     (steps : List Step) (n : ℕ) (f : elimination (limited limits) p ≡ ended empty steps n) where
   held : length steps ≤ limits .steps

@@ -1,5 +1,5 @@
--- When a line of a book follows, said of its 64 bytes: they are a piece's, or those of a result of two earlier lines. The check finds just
--- these.
+-- When a line of a proof follows, said of its 64 bytes: they are a part's, or those of a resolvent of two earlier lines. The check finds
+-- just these.
 use mathlib.Core.Path.{_≡_, refl, ap, _∙_, subst}
 use mathlib.Core.Bool.{Bool, not, cond, _&&_}
 use mathlib.Core.Logic.{_⊎_, inl, inr, ⊎-elim}
@@ -45,7 +45,7 @@ pub record ResolventIn (earlier : List Line) (bytes : List ℕ) (l : Line) : Typ
   pub fits : T (not (overflows l))
   pub written : encodeStep (record { origin = resolved variable first second; line = l }) ≡ bytes
 
--- "A book's line follows if all 64 bytes are a loaded piece, or" such a result
+-- "A book's line follows if all 64 bytes are a loaded piece, or" such a resolvent
 abbrev pub Follows : List Step → List Line → List ℕ → Line → Type 0
 Follows parts earlier bytes l = Any (λ s. (encodeStep s ≡ bytes) × (s .line ≡ l)) parts ⊎ ResolventIn earlier bytes l
 
@@ -65,7 +65,7 @@ module _ (bytes : List ℕ) (l : Line) where
       ⊎-elim (λ t. inl (same-yes eqb eqb→eq (encodeStep s) bytes t, inside (rw (is-true equal t, lineAmong) at h)))
       (λ t. inr (among-follows ss (rw (is-false equal t, lineAmong) at h))) (split equal)
 
-  -- ---- the result that the bytes name
+  -- ---- the resolvent that the bytes name
   module _ (earlier : List Line) where
     abbrev first : ℕ
     first = fieldAt 2 2 bytes

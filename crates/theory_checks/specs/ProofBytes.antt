@@ -1,4 +1,4 @@
--- Every element of a course's proof is a byte: the variables of the order have numbers below 256.
+-- Every element of an elimination's proof is a byte: the variables of the order have numbers below 256.
 use mathlib.Core.Path.{_≡_, subst}
 use mathlib.Core.Logic.{inl, inr}
 use mathlib.Core.List.{List, [], _∷_, _++_}
@@ -60,7 +60,7 @@ loadable-which c k (x ∷ xs) =
     all-append WhichByte (partSteps c 0 (partsOf k x)) (loadable (suc c) (k + splitsOf x) xs) (parts-which c 0 (partsOf k x))
     (loadable-which (suc c) (k + splitsOf x) xs)
 
--- ---- so of a course
+-- ---- so of an elimination
 module _ (p : Problem) where
   justified-which : (earlier : List Step) (s : Step) → Justified order (loadableOf p) earlier s → WhichByte s
   unfolding loadableOf

@@ -1,4 +1,4 @@
--- What holds of every piece and is kept by resolving holds of every line of a course.
+-- What holds of every part and is kept by resolving holds of every line of an elimination.
 use mathlib.Core.Path.{_≡_, subst}
 use mathlib.Core.Bool.{Bool, true, false, not}
 use mathlib.Core.List.{List, [], _∷_}
@@ -24,7 +24,7 @@ module _ (P : Line → Type 0) where
   line-at steps i l a h = all-place (λ s. P (s .line)) (λ s. s .line ≡ l) steps i (λ s p e. subst P e p) h a
 
   module _ (stops : Stops) where
-    -- a line that does not stop the course
+    -- a line that does not stop the elimination
     add-lines : (w : Bool) (s : Step) (steps : List Step) (n : ℕ) → (T (not w) → P (s .line)) → AllLines steps
         → AllLines (stepsOf (add stops w s steps n))
     unfolding add placed stepsOf
@@ -32,7 +32,7 @@ module _ (P : Line → Type 0) where
     add-lines false s steps n h k =
         add-steps AllLines stops false s steps n k (λ m. all-append (λ s. P (s .line)) steps (s ∷ []) k (h tt, tt))
 
-    -- `closed`: of two lines on the two sides of a variable, so is the result that does not stop the course
+    -- `closed`: of two lines on the two sides of a variable, so is the resolvent that does not stop the elimination
     pub elimination-closed-unstopped : (variables : List Variable) (parts : List Step)
         → ((v : Variable) (u l m : Line) → P u → P l → T (positively v u) → T (negatively v l) → resolve v u l ≡ some m
         → T (not (stops .atLine m)) → P m) → AllLines parts
@@ -50,7 +50,7 @@ module _ (P : Line → Type 0) where
               (line-at steps (p .lower .number) (p .lower .line) (q .lower .at) h) (q .upper .sided) (q .lower .sided) r) h;
         }) tt
 
-    -- so is every result
+    -- so is every resolvent
     pub elimination-closed : (variables : List Variable) (parts : List Step)
         → ((v : Variable) (u l m : Line) → P u → P l → T (positively v u) → T (negatively v l) → resolve v u l ≡ some m → P m)
         → AllLines parts → AllLines (stepsOf (eliminate stops variables parts))

@@ -1,4 +1,4 @@
--- However a course ends, it leaves nothing out of what it takes up.
+-- However an elimination ends, it leaves nothing out of what it takes up.
 use mathlib.Core.Path.{_≡_, refl, sym, ap, _∙_, subst}
 use mathlib.Core.Bool.{Bool, true, false, not, _&&_}
 use mathlib.Core.List.{List, [], _∷_, _++_, map}
@@ -45,7 +45,7 @@ module _ (stops : Stops) where
       ran-append stops Whatever (some (s .line) ∷ []) (partLines ss) steps false n next (load stops ss next) (add-ran stops Whatever s steps
       false false n n tt (λ t. absurd t) (omega arith)) (load-after ss next (λ mid k. load-ran ss mid k))
 
--- ---- a turn
+-- ---- a round
 module _ (variables : List Variable) where
   abbrev Late : ℕ → Step → Type 0
   Late t s = t < roundOf variables (s .line)
@@ -80,7 +80,7 @@ module _ (variables : List Variable) where
         (omega (arith, k .lower .round)) (k .lower .sided)))
         (try-after ps next (tried-pairs variables v t ps stops p m steps (suc n) (h .1)) (λ mid j q. try-ran ps mid j q))
 
-  -- ---- lines of later turns are in no pair of this one
+  -- ---- lines of later rounds are in no pair of this one
   select-same : (test : Line → Bool) (n : ℕ) (steps more : List Step) → All (λ s. T (not (test (s .line)))) more
       → select test n (steps ++ more) ≡ select test n steps
   unfolding select
@@ -109,7 +109,7 @@ module _ (variables : List Variable) where
       → roundPairs variables v t now ≡ roundPairs variables v t steps
   same-at-end t v steps now g = ap (roundPairs variables v t) (g .is) ∙ same-pairs t v steps (g .more) (g .of)
 
-  -- ---- the turns
+  -- ---- the rounds
   module _ (stops : Stops) where
     abbrev end : ℕ → List Variable → State → State
     end t vs state = rounds stops variables t vs state
@@ -122,7 +122,7 @@ module _ (variables : List Variable) where
         (stepsOf (end (suc t) vs (running mid k)))) mid true k (end (suc t) vs (running mid k)) (f mid k)
     rounds-after t vs (ended e mid k) f = rounds-ended stops e mid k variables (suc t) vs
 
-    -- the pairs of the turn, among the lines at the end
+    -- the pairs of the round, among the lines at the end
     at-end : (t : ℕ) (v : Variable) (ys : List (Option Line)) (steps : List Step) (n : ℕ) (final : State)
         → Ran stops (Late t) true (map (ofPair v) (roundPairs variables v t steps) ++ ys) steps n final
         → Ran stops (Late t) true (map (ofPair v) (roundPairs variables v t (stepsOf final)) ++ ys) steps n final
@@ -143,7 +143,7 @@ module _ (variables : List Variable) where
         (try-ran stops t v (drop-at variables t v vs e) ps steps n (round-pairs variables v t steps))
         (rounds-after t vs next (λ mid k. rounds-ran (suc t) vs mid k (drop-next variables t v vs e))))
 
--- ---- the whole course
+-- ---- the whole elimination
 module _ (stops : Stops) (variables : List Variable) (parts : List Step) where
   abbrev Rounds : State → State → Type 0
   Rounds start final = After stops (Late variables 0) true (resolvents variables (stepsOf final)) start final

@@ -1,4 +1,4 @@
--- No line of a course has a Boolean variable in both signs, if no piece has; so no line stands on both sides of its turn.
+-- No line of an elimination has a Boolean variable in both signs, if no part has; so no line stands on both sides of its round.
 use mathlib.Core.List.{List}
 use lib.Dec.{T}
 use Rattle.rules.specs.Lines.{meet, Line, Variable, rational, boolean, coefficient, positively, negatively}

@@ -1,4 +1,4 @@
--- A course under any stops is the course without limits, cut at the first event at which one of them stops it.
+-- An elimination under any stops is the elimination without limits, cut at the first event at which one of them stops it.
 use mathlib.Core.Path.{_≡_, refl, sym, ap, _∙_}
 use mathlib.Core.Bool.{Bool, true, false, _&&_}
 use mathlib.Core.List.{List, [], _∷_, _++_}
@@ -13,7 +13,7 @@ use Rattle.rules.specs.Elimination.{add, load, tried, tryAll, rounds, eliminate
 use Rattle.theory_elimination.specs.States.{load-ended, try-ended, rounds-ended}
 use Rattle.theory_elimination.specs.Events.{Event, loadEvents, resolventEvents, tryEvents, roundEvents, events}
 
--- the first of: wide, dropped (which stops nothing), one too many
+-- the first of: overflowing, dropped (which stops nothing), one too many
 unfoldable pub stopOf : Bool → Bool → Bool → Option End
 stopOf true known many = some overflow
 stopOf false true many = none
@@ -27,7 +27,7 @@ unfoldable pub endedAt : Option End → Event → State → State
 endedAt none e state = state
 endedAt (some end) e state = ended end (e .steps) (e .pairs)
 
--- the course ended at the first event that stops it, or else the state that it comes to
+-- the elimination ended at the first event that stops it, or else the state that it comes to
 unfoldable pub cut : Stops → List Event → State → State
 cut stops [] state = state
 cut stops (e ∷ es) state = endedAt (stopAt stops e) e (cut stops es state)
@@ -37,7 +37,7 @@ unfolding cut
 cut-append stops [] fs state = refl
 cut-append stops (e ∷ es) fs state = ap (endedAt (stopAt stops e) e) (cut-append stops es fs state)
 
--- a stage of the course that keeps an end may be run before the cut
+-- a stage of the elimination that keeps an end may be run before the cut
 through-end : (stage : State → State) → ((e : End) (steps : List Step) (n : ℕ) → stage (ended e steps n) ≡ ended e steps n)
     → (o : Option End) (e : Event) (state after : State) → stage state ≡ after → stage (endedAt o e state) ≡ endedAt o e after
 unfolding endedAt

@@ -1,4 +1,4 @@
--- How a course ends: no line that it holds is empty, but the last one where it ended so.
+-- How an elimination ends: no line that it holds is empty, but the last one where it ended so.
 use mathlib.Core.Path.{_≡_, refl}
 use mathlib.Core.Bool.{Bool, false, not}
 use mathlib.Core.List.{List, [], _∷_, _++_}

@@ -1,4 +1,4 @@
--- What the course without limits comes to: every piece and every tidied result, with the lines held and the pairs tried then.
+-- What the elimination without limits comes to: every part and every normalized resolvent, with the lines held and the pairs tried then.
 use mathlib.Core.Bool.{Bool, true, false}
 use mathlib.Core.List.{List, [], _∷_, _++_}
 use mathlib.Core.Option.{Option, none, some}
@@ -8,7 +8,7 @@ use Rattle.rules.specs.Resolve.{resolve}
 use Rattle.rules.specs.Steps.{Step}
 use Rattle.rules.specs.Elimination.{unlimited, State, running, ended, Pair, roundPairs, add, load, tried, tryAll}
 
--- a piece, or a result, whose amounts are asked; the pairs count its own
+-- a part, or a resolvent, whose amounts are asked; the pairs count its own
 pub record Event : Type 0 where
   pub isResolvent : Bool
   pub line : Line

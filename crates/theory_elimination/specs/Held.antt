@@ -1,4 +1,4 @@
--- A limited course never holds more lines than its limit, and only limits end a course as wide or full.
+-- A limited elimination never holds more lines than its limit, and only limits end an elimination by overflow or out of steps.
 use mathlib.Core.Bool.{Bool, false}
 use mathlib.Core.List.{List}
 use Prim.Native.Nat.{ℕ, suc, _≤_}

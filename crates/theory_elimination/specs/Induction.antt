@@ -1,4 +1,4 @@
--- Induction along a course, under any stops: what holds at the start and is kept by each piece and each pair holds at its end.
+-- Induction along an elimination, under any stops: what holds at the start and is kept by each part and each pair holds at its end.
 use mathlib.Core.Path.{_≡_, refl}
 use mathlib.Core.Bool.{false}
 use mathlib.Core.Logic.{inl, inr}
@@ -15,7 +15,7 @@ use Rattle.theory_saturation.specs.Rounds.{drop-next}
 use Rattle.theory_elimination.specs.States.{add-cases}
 use Rattle.theory_elimination.specs.Pairs.{PairOf, round-pairs, pair-append}
 
--- the step by which a pair's result is added
+-- the step by which a pair's resolvent is added
 abbrev pub resolventOf : Variable → Pair → Line → Step
 resolventOf v p l = record { origin = resolved v (p .upper .number) (p .lower .number); line = l }
 
@@ -31,7 +31,7 @@ module _ (stops : Stops) (variables : List Variable) (parts : List Step) (P : St
         → resolve v (p .upper .line) (p .lower .line) ≡ some l → P (running steps n)
         → P (add stops (stops .atLine l) (resolventOf v p l) steps (suc n))
 
--- ---- the pairs of a turn stay pairs while it runs
+-- ---- the pairs of a round stay pairs while it runs
 abbrev pub PairsIn : List Variable → Variable → ℕ → List Pair → State → Type 0
 PairsIn variables v t ps (running steps n) = All (PairOf variables v t steps) ps
 PairsIn variables v t ps (ended e steps n) = Unit {0}

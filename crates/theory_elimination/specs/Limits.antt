@@ -1,4 +1,5 @@
--- Limits: the limited course is the course without limits exactly if that fits them; otherwise it ends as wide or full.
+-- Limits: the limited elimination is the elimination without limits exactly if that fits them; otherwise it ends by overflow or out of
+-- steps.
 use mathlib.Core.Path.{_≡_, refl, _∙_, subst}
 use mathlib.Core.Bool.{Bool, true, false, not, _&&_}
 use mathlib.Core.Logic.{_⊎_, inl, inr, ⊎-elim}

@@ -1,4 +1,4 @@
--- The book only grows, so a line that the course without limits adds finds fewer lines than the course needs.
+-- The proof only grows, so a line that the elimination without limits adds finds fewer lines than the elimination needs.
 use mathlib.Core.Bool.{false, not}
 use mathlib.Core.List.{List, [], _∷_, _++_}
 use mathlib.Core.Option.{Option, none, some}

@@ -1,4 +1,4 @@
--- No line of a question's course has a coefficient from rational variable r on.
+-- No line of a problem's elimination has a coefficient from rational variable r on.
 use mathlib.Core.Path.{_≡_, refl, _∙_}
 use mathlib.Core.Logic.{_⊎_, ⊎-elim}
 use mathlib.Core.List.{List, [], _∷_}
@@ -96,7 +96,7 @@ module _ (r : ℕ) where
       all-append (λ s. NarrowLine (s .line)) (partSteps c 0 (partsOf k x)) (loadable (suc c) (k + splitsOf x) xs)
       (partSteps-all NarrowLine c 0 (partsOf k x) (clause-few k x (h .0))) (loadable-few (suc c) (k + splitsOf x) xs (h .1))
 
-  -- ---- and so of the results
+  -- ---- and so of the resolvents
   absent : (l : Line) (f : ℕ) → coefficient f (l .constraint) ≡ pos 0 → T (contains (rational f) l) → ⊥
   unfolding isZero
   absent l f e t = rw (contains-rational f l, e) at t

@@ -1,4 +1,4 @@
--- Each line of a course is the piece or the result that it names, of lines before it.
+-- Each line of an elimination is the part or the resolvent that it names, of lines before it.
 use mathlib.Core.Path.{_≡_, refl}
 use mathlib.Core.Bool.{Bool, false, not}
 use mathlib.Core.Logic.{_⊎_, inl, inr}
@@ -28,8 +28,8 @@ pub each-append : (P : List Step → Step → Type 0) (earlier ss : List Step) (
 each-append P earlier [] s h k = (rw (append-nil earlier) at k, tt)
 each-append P earlier (x ∷ ss) s h k = (h .0, each-append P (earlier ++ (x ∷ [])) ss s (h .1) (rw (append-assoc earlier (x ∷ []) ss) k))
 
--- the result of two earlier lines by the figure or mark that it names, the first with it positive and the second with it negative, both of
--- its turn
+-- the resolvent of two earlier lines by the variable that it names, the first with it positive and the second with it negative, both of
+-- its round
 pub record Derived (variables : List Variable) (earlier : List Step) (s : Step) : Type 0 where
   pub variable : Variable
   pub round : ℕ
@@ -47,7 +47,7 @@ pub record Derived (variables : List Variable) (earlier : List Step) (s : Step) 
   pub ofLower : roundOf variables lower ≡ round
   pub result : resolve variable upper lower ≡ some (s .line)
 
--- one of the pieces, or such a result
+-- one of the parts, or such a resolvent
 abbrev pub Justified : List Variable → List Step → List Step → Step → Type 0
 Justified variables parts earlier s = Any (λ x. x ≡ s) parts ⊎ Derived variables earlier s
 

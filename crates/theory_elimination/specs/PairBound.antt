@@ -1,5 +1,5 @@
--- Pairs: a course that ends with at most N lines has tried at most N × N / 4 pairs. A line has one turn, so the uppers and lowers of all
--- turns together are no more than the lines; u × l is at most the square of (u + l) / 2, and squares of parts add up to at most the
+-- Pairs: an elimination that ends with at most N lines has tried at most N × N / 4 pairs. A line has one round, so the uppers and lowers of
+-- all rounds together are no more than the lines; u × l is at most the square of (u + l) / 2, and squares of summands add up to at most the
 -- square of the whole.
 use mathlib.Core.Path.{_≡_, refl, _∙_, subst}
 use mathlib.Core.Bool.{Bool, true, false, cond, _&&_}
@@ -27,7 +27,7 @@ use Rattle.theory_elimination.specs.Consistent.{consistent-one-side, eli
 use Rattle.theory_elimination.specs.Held.{limited-held}
 use Rattle.theory_elimination.specs.Induction.{resolventOf}
 
--- ---- how many pairs a turn has
+-- ---- how many pairs a round has
 select-length : (test : Line → Bool) (n : ℕ) (ss : List Step) → length (select test n ss) ≡ count (λ s. test (s .line)) ss
 unfolding select count
 select-length test n [] = refl
@@ -73,7 +73,7 @@ module _ (stops : Stops) where
   load-pairs (s ∷ ss) (ended e steps n) = refl
   load-pairs (s ∷ ss) (running steps n) = load-pairs ss (add stops false s steps n) ∙ add-pairs false s steps n
 
--- ---- a turn's lines
+-- ---- a round's lines
 module _ (variables : List Variable) where
   abbrev ofRound : ℕ → Step → Bool
   ofRound t s = eqb (roundOf variables (s .line)) t
@@ -81,7 +81,7 @@ module _ (variables : List Variable) where
   abbrev fromRound : ℕ → Step → Bool
   fromRound t s = leb t (roundOf variables (s .line))
 
-  -- uppers and lowers of turn t are different lines of it
+  -- uppers and lowers of round t are different lines of it
   sides : (v : Variable) (t : ℕ) (steps : List Step) → All (λ s. Consistent (s .line)) steps
       → length (sideOf positively variables v t steps) + length (sideOf negatively variables v t steps) ≤ count (ofRound t) steps
   unfolding sideOf
@@ -98,7 +98,7 @@ module _ (variables : List Variable) where
       (λ s a. and-yes (positively v (s .line)) (ofRound t s) a .1)
       (λ s a. and-yes (negatively v (s .line)) (ofRound t s) a .1))
 
-  -- a line from turn t on is of turn t or from the next one on
+  -- a line from round t on is of round t or from the next one on
   part-of : (t : ℕ) (steps : List Step) → count (ofRound t) steps + count (fromRound (suc t)) steps ≤ count (fromRound t) steps
   part-of t steps =
       count-apart (ofRound t) (fromRound (suc t)) (fromRound t) steps
@@ -107,7 +107,7 @@ module _ (variables : List Variable) where
       (λ s a. le→leb t (roundOf variables (s .line)) (omega (arith, eqb→eq (roundOf variables (s .line)) t a)))
       (λ s a. le→leb t (roundOf variables (s .line)) (omega (arith, leb→le (suc t) (roundOf variables (s .line)) a)))
 
-  -- 4 × the pairs of this turn, and of the later ones
+  -- 4 × the pairs of this round, and of the later ones
   step : (n mid final u l c c′ m m′ : ℕ) → mid ≤ n + u * l → u + l ≤ c → c ≤ c′ → c′ + m′ ≤ m → 4 * final ≤ 4 * mid + m′ * m′
       → 4 * final ≤ 4 * n + m * m
   step n mid final u l c c′ m m′ h k e g r =

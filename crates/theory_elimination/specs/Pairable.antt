@@ -1,4 +1,5 @@
--- In a mark's turn no line has a condition: the figures' turns come first. So a course never pairs two conditions by a mark.
+-- In a Boolean variable's round no line has a constraint: the rational variables' rounds come first. So an elimination never pairs two
+-- constraints by a Boolean variable.
 use mathlib.Core.Path.{_≡_}
 use mathlib.Core.Bool.{not}
 use mathlib.Core.Logic.{⊎-elim}

@@ -1,4 +1,4 @@
--- The pairs of a turn: each is two lines of the book, of that turn, one with the turn's variable positive and one with it negative.
+-- The pairs of a round: each is two lines of the proof, of that round, one with the round's variable positive and one with it negative.
 use mathlib.Core.Path.{_≡_, refl}
 use mathlib.Core.Bool.{Bool, _&&_}
 use mathlib.Core.List.{List, [], _∷_, _++_, map}
@@ -12,7 +12,7 @@ use Rattle.rules.specs.Elimination.{Numbered, Pair, roundOf, select, pairUp, si
 use Rattle.theory_lists.specs.Places.{AtPlace, place-append}
 use Rattle.theory_lists.specs.All.{All, all-map, all-append, kept-one}
 
--- line i of the book
+-- line i of the proof
 abbrev pub LineAt : List Step → ℕ → Line → Type 0
 LineAt steps i l = AtPlace (λ s. s .line ≡ l) steps i
 
@@ -51,7 +51,7 @@ module _ (P Q : Numbered → Type 0) where
       all-append (λ (p : Pair). P (p .upper) × Q (p .lower)) (map (λ l. record { upper = u; lower = l }) ls) (pairUp us ls)
       (with-upper u ls (h .0) k) (pairUp-all us ls (h .1) k)
 
--- a line of turn t that the book holds, on one side of the turn's variable
+-- a line of round t that the proof holds, on one side of the round's variable
 pub record Of (variables : List Variable) (v : Variable) (t : ℕ) (side : Variable → Line → Bool) (steps : List Step)
     (x : Numbered) : Type 0 where
   pub at : LineAt steps (x .number) (x .line)
@@ -87,7 +87,7 @@ module _ (variables : List Variable) (v : Variable) (t : ℕ) where
       (pairUp-all (Of variables v t positively steps) (Of variables v t negatively steps) (sideOf positively variables v t steps)
       (sideOf negatively variables v t steps) (side-of positively steps) (side-of negatively steps))
 
-  -- they stay pairs while the book grows
+  -- they stay pairs while the proof grows
   of-append : (side : Variable → Line → Bool) (steps more : List Step) (x : Numbered) → Of variables v t side steps x
       → Of variables v t side (steps ++ more) x
   of-append side steps more x h = record {

@@ -1,4 +1,4 @@
--- Every stage of a course keeps the lines that it starts with, in front.
+-- Every stage of an elimination keeps the lines that it starts with, in front.
 use mathlib.Core.Path.{_≡_, refl, sym, _∙_}
 use mathlib.Core.Bool.{Bool, false}
 use mathlib.Core.List.{List, [], _∷_, _++_, append-assoc, append-nil}
@@ -21,7 +21,7 @@ pub record Prefix (steps : List Step) (state : State) : Type 0 where
 same : (steps : List Step) (state : State) → stepsOf state ≡ steps → Prefix steps state
 same steps state e = record { more = []; is = e ∙ sym (append-nil steps) }
 
--- so the book only grows
+-- so the proof only grows
 pub prefix-longer : {steps : List Step} {state : State} → Prefix steps state → length steps ≤ length (stepsOf state)
 prefix-longer p = rw (p .is, length-append) (omega arith)
 

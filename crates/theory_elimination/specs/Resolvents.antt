@@ -1,4 +1,4 @@
--- The results that demand 3 speaks of are the events of the course that are results.
+-- The resolvents that demand 3 speaks of are the events of the elimination that are resolvents.
 use mathlib.Core.Path.{_≡_, refl, _∙_}
 use mathlib.Core.Bool.{false}
 use mathlib.Core.List.{List, [], _∷_, _++_, map}
@@ -62,7 +62,7 @@ resolvents-are p =
     resolventLines-append (loadEvents (loadableOf p) (running [] 0)) (roundEvents order 0 order next)
     ∙ (λ i. load-resolvents (loadableOf p) (running [] 0) i ++ round-resolvents order 0 order next i)
 
--- ---- a fact of every result, along the events
+-- ---- a fact of every resolvent, along the events
 module _ (P : Line → Type 0) where
   abbrev OfResolvent : Event → Type 0
   OfResolvent e = T (e .isResolvent) → P (e .line)

@@ -1,4 +1,4 @@
--- At its end without an empty line a course holds every piece and is saturated: of every turn all pairs are dropped or equal a line.
+-- At its end without an empty line an elimination holds every part and is saturated: of every round all pairs are dropped or equal a line.
 use mathlib.Core.Path.{_≡_, subst}
 use mathlib.Core.List.{List, [], _∷_, map}
 use mathlib.Core.Option.{some}
@@ -14,7 +14,7 @@ use Rattle.theory_saturation.specs.Saturation.{AllPairs}
 use Rattle.theory_elimination.specs.Taken.{lines, InProof, ofPair, resolventsFrom, resolvents, partLines, Complete}
 use Rattle.theory_elimination.specs.Complete.{elimination-complete}
 
--- the results of one turn
+-- the resolvents of one round
 rounds-resolvents : (variables : List Variable) (steps : List Step) (t i : ℕ) (vs : List Variable) (v : Variable) → At vs i v
     → All (InProof steps) (resolventsFrom variables t vs steps)
     → All (InProof steps) (map (ofPair v) (roundPairs variables v (t + i) steps))

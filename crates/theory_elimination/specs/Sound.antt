@@ -1,4 +1,4 @@
--- Sound lines: every line of a question's course has the book's form, no constant condition, and no mark in both signs.
+-- Sound lines: every line of a problem's elimination has the proof's form, no constant constraint, and no Boolean variable in both signs.
 use mathlib.Core.Path.{_≡_}
 use mathlib.Core.List.{List}
 use mathlib.Core.Option.{some}

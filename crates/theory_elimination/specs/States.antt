@@ -1,4 +1,4 @@
--- The course at a point: the ends of adding a line, and an end stays.
+-- The elimination at a point: the ends of adding a line, and an end stays.
 use mathlib.Core.Path.{_≡_, refl}
 use mathlib.Core.Bool.{Bool, true, false, not}
 use mathlib.Core.List.{List, [], _∷_, _++_}
@@ -28,7 +28,7 @@ module _ (stops : Stops) (e : End) (steps : List Step) (n : ℕ) where
   rounds-ended variables t [] = refl
   rounds-ended variables t (v ∷ vs) = refl
 
--- a line that is added: wide, known, one too many, empty or held, for any claim of the course then
+-- a line that is added: overflowing, known, one too many, empty or held, for any claim of the elimination then
 module _ (P : State → Type 0) (s : Step) (steps : List Step) (n : ℕ) where
   placed-cases : (w known many blank : Bool) → (T w → P (ended overflow steps n)) → (T known → P (running steps n))
       → (T many → P (ended outOfSteps steps n))

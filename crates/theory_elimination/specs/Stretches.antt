@@ -1,4 +1,4 @@
--- A stretch of a course: all of some lines taken up, or those up to the one that ended it; and one stretch after another.
+-- A stretch of an elimination: all of some lines taken up, or those up to the one that ended it; and one stretch after another.
 use mathlib.Core.Path.{_≡_, refl, sym, ap, _∙_, subst}
 use mathlib.Core.Bool.{Bool, true, false, not}
 use mathlib.Core.Logic.{inl}
@@ -53,7 +53,7 @@ module _ (stops : Stops) (P : Step → Type 0) where
     pub grown : Grown P steps now
     pub found : All (InProof now) xs
 
-  -- one of it ended the course, after the others before it
+  -- one of it ended the elimination, after the others before it
   pub record Broke (e : End) (xs : List (Option Line)) (steps now : List Step) : Type 0 where
     pub grown : Grown P steps now
     pub done : List (Option Line)
@@ -63,7 +63,7 @@ module _ (stops : Stops) (P : Step → Type 0) where
     pub found : All (InProof now) done
     pub because : Because stops e now last
 
-  -- results count as pairs, pieces do not
+  -- resolvents count as pairs, parts do not
   abbrev pub cost : Bool → ℕ → ℕ
   cost true k = k
   cost false k = 0

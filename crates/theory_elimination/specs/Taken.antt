@@ -1,4 +1,4 @@
--- What a course takes up, in its order: every piece, then the results of the pairs of each turn; and that none of it is left out.
+-- What an elimination takes up, in its order: every part, then the resolvents of the pairs of each round; and that none of it is left out.
 use mathlib.Core.Path.{_≡_}
 use mathlib.Core.Bool.{not}
 use mathlib.Core.List.{List, [], _∷_, _++_, map}
@@ -16,7 +16,7 @@ use Rattle.theory_saturation.specs.Covered.{Found}
 abbrev pub lines : List Step → List Line
 lines steps = map (λ s. s .line) steps
 
--- dropped by tidying, or equal to a line of the book
+-- dropped by normalizing, or equal to a line of the proof
 abbrev pub InProof : List Step → Option Line → Type 0
 InProof steps o = Found _≡_ (lines steps) o
 
@@ -24,7 +24,7 @@ InProof steps o = Found _≡_ (lines steps) o
 abbrev pub ofPair : Variable → Pair → Option Line
 ofPair v p = resolve v (p .upper .line) (p .lower .line)
 
--- the results of the turns from t on, of the pairs among these lines
+-- the resolvents of the rounds from t on, of the pairs among these lines
 abbrev pub resolventsFrom : List Variable → ℕ → List Variable → List Step → List (Option Line)
 resolventsFrom variables t [] steps = []
 resolventsFrom variables t (v ∷ vs) steps = map (ofPair v) (roundPairs variables v t steps) ++ resolventsFrom variables (suc t) vs steps
@@ -39,13 +39,13 @@ abbrev pub taken : List Variable → List Step → List Step → List (Option Li
 taken variables parts steps = partLines parts ++ resolvents variables steps
 
 -- ---- none is left out
--- why a line ends a course: nothing is in it; a limit stops at it; it equals no line of the book, and a limit stops at one more
+-- why a line ends an elimination: nothing is in it; a limit stops at it; it equals no line of the proof, and a limit stops at one more
 abbrev pub Because : Stops → End → List Step → Line → Type 0
 Because stops empty steps l = T (isEmpty l)
 Because stops overflow steps l = T (stops .atLine l)
 Because stops outOfSteps steps l = T (not (covered l steps)) × T (stops .atSteps (length steps))
 
--- a course that one of the lines ended: all before that one are in the book, and the pairs are the results up to it
+-- an elimination that one of the lines ended: all before that one are in the proof, and the pairs are the resolvents up to it
 pub record Unfinished (stops : Stops) (variables : List Variable) (parts : List Step) (e : End) (steps : List Step) (n : ℕ) : Type 0 where
   pub done : List (Option Line)
   pub last : Line
@@ -55,7 +55,7 @@ pub record Unfinished (stops : Stops) (variables : List Variable) (parts : List 
   pub because : Because stops e steps last
   pub count : n ≡ suc (length done) - length parts
 
--- one that ran to its end: all are in the book, and the pairs are all results
+-- one that ran to its end: all are in the proof, and the pairs are all resolvents
 abbrev pub Complete : Stops → List Variable → List Step → State → Type 0
 Complete stops variables parts (running steps n) = All (InProof steps) (taken variables parts steps)
     × (n ≡ length (resolvents variables steps))

@@ -1,1 +1,1 @@
-// Laws of the course: specs/. There is no code here.
+// Laws of the elimination: specs/. There is no code here.

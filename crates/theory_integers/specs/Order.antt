@@ -80,7 +80,7 @@ pub +-cancelˡ-≤ : (c a b : ℤ) → (c +ℤ a) ≤ℤ (c +ℤ b) → a ≤ℤ
 pub +-cancelˡ-< : (c a b : ℤ) → (c +ℤ a) <ℤ (c +ℤ b) → a <ℤ b
 +-cancelˡ-< c a b h = <-by (v a) (v b) (omega (arith, <-from (v c ⊕ v a) (v c ⊕ v b) h))
 
--- ---- negation turns the order
+-- ---- negation reverses the order
 pub neg-mono-≤ : {a b : ℤ} → a ≤ℤ b → negℤ b ≤ℤ negℤ a
 neg-mono-≤ {a} {b} h = ≤-by (⊝ (v b)) (⊝ (v a)) (omega linear)
 

@@ -62,7 +62,7 @@ pub *-nonneg : {a b : ℤ} → pos 0 ≤ℤ a → pos 0 ≤ℤ b → pos 0 ≤�
 pub *-positive : {a b : ℤ} → pos 0 <ℤ a → pos 0 <ℤ b → pos 0 <ℤ (a *ℤ b)
 *-positive {a} {b} z h = rw (*-zeroʳ a) at (*-monoˡ-< z h)
 
--- a negative factor turns the order
+-- a negative factor reverses the order
 pub *-antimonoˡ-≤ : {c a b : ℤ} → c ≤ℤ pos 0 → a ≤ℤ b → (c *ℤ b) ≤ℤ (c *ℤ a)
 *-antimonoˡ-≤ {c} {a} {b} z h =
     let n : pos 0 ≤ℤ negℤ c = ≤-by (# 0) (⊝ (v c)) (omega (arith, ≤-from (v c) (# 0) z)) in

@@ -92,7 +92,7 @@ yes-union (a ∷ s) [] f = sym (or-false (someYes (a ∷ s) f))
 yes-union (a ∷ s) (b ∷ t) f =
     rw (yes-union s t (λ i. f (suc i))) (and-or-both a b (f 0) (someYes s (λ i. f (suc i))) (someYes t (λ i. f (suc i))))
 
--- two sets under each of two choices: the literals of two lines
+-- two sets under each of two assignments: the literals of two lines
 pub unions-yes : (s t s′ t′ : Booleans) (f g : ℕ → Bool) → someYes (union s t) f || someYes (union s′ t′) g ≡ (someYes s f || someYes s′ g)
     || (someYes t f || someYes t′ g)
 unions-yes s t s′ t′ f g = rw (yes-union s t f, yes-union s′ t′ g) (or-or-comm (someYes s f) (someYes t f) (someYes s′ g) (someYes t′ g))

@@ -56,7 +56,7 @@ covers-refl l = record { only = λ w h. h; gives = λ χ z h. h }
 pub equal-covers : (j r : Line) → j ≡ r → Covers j r
 equal-covers j r e = subst (λ (m : Line). Covers j m) e (covers-refl j)
 
--- ---- what the course drops as known equals a line
+-- ---- what the elimination drops as known equals a line
 pub covered-steps : (r : Line) (steps : List Step) → T (covered r steps) → Any (λ s. s .line ≡ r) steps
 unfolding covered
 covered-steps r steps t = any-map (λ s. T (sameLine (s .line) r)) (λ s. s .line ≡ r) steps (λ s h. sameLine-yes (s .line) r h)

@@ -1,4 +1,4 @@
--- A line of the course that is not empty contains a variable of its order; so the theorem stands for such lines and 01's order.
+-- A line of the elimination that is not empty contains a variable of its order; so the theorem stands for such lines and 01's order.
 use mathlib.Core.Bool.{Bool, true, false, not, _||_, _&&_}
 use mathlib.Core.Logic.{_⊎_, inl, inr, ⊎-elim}
 use mathlib.Core.List.{List, [], _∷_, _++_}

@@ -1,5 +1,5 @@
--- The denominator that the walk reaches is the least: whatever number its figures can be written over is a multiple of it. The values are
--- reduced, so a number over which one more can be written is a multiple of its denominator, and of the least one before.
+-- The denominator that the walk reaches is the least: whatever number its rational variables can be written over is a multiple of it. The
+-- values are reduced, so a number over which one more can be written is a multiple of its denominator, and of the least one before.
 use mathlib.Core.Path.{_≡_, refl, ap, _∙_}
 use mathlib.Core.Bool.{Bool, true, false}
 use mathlib.Core.List.{List, [], _∷_}
@@ -25,7 +25,7 @@ use Rattle.theory_saturation.specs.Gathered.{rational-sound, rational-co
 use Rattle.theory_saturation.specs.Aligned.{Aligned, aligned-cons, order-aligned}
 use Rattle.theory_saturation.specs.Unset.{Unset, walk-unset}
 
--- figure f can be written over m: m times it is whole
+-- rational variable f can be written over m: m times it is whole
 abbrev pub Over : Assignment → ℕ → ℕ → Type 0
 Over χ m f = χ .denominator ∣ natAbs (χ .numerators f) * m
 
@@ -37,7 +37,7 @@ pub over-zero : (χ : Assignment) (m f : ℕ) → χ .numerators f ≡ pos 0 →
 over-zero χ m f e = let z : natAbs (χ .numerators f) ≡ 0 = ap natAbs e in let w : 0 * m ≡ 0 = omega arith in
     rw (z, w) (dvd-zero (χ .denominator))
 
--- ---- one figure more
+-- ---- one rational variable more
 -- z / d is z × k over d × k
 cancelled : (z : ℤ) (d k m : ℕ) → 0 < d * k → d * k ∣ natAbs (z *ℤ pos k) * m → d ∣ natAbs z * m
 cancelled z d k m p h =

@@ -1,4 +1,4 @@
--- What solving comes to, by the sizes of the lent buffers and by what reading says of the question.
+-- What solving comes to, by the sizes of the lent buffers and by what reading says of the problem.
 use mathlib.Core.Path.{_≡_, _∙_}
 use mathlib.Core.List.{List}
 use Prim.Native.Nat.{ℕ, _≤_, _<_}

@@ -1,4 +1,4 @@
--- Each line that is loaded is the piece that its origin names, with the links of its clause.
+-- Each line that is loaded is the part that its origin names, with the split variables of its clause.
 use mathlib.Core.Path.{_≡_, refl, ap, _∙_}
 use mathlib.Core.List.{List, [], _∷_}
 use mathlib.Core.Option.{some}
@@ -16,7 +16,7 @@ use Rattle.theory_lists.specs.Places.{element-any, element-all}
 use Rattle.theory_splitting.specs.WellFormed.{WellFormedClause, splitsIn, WellFormed}
 use Rattle.theory_splitting.specs.SplitClause.{splits-apart}
 
--- a piece of these, the first of which is named `from`
+-- a part of these, the first of which is named `from`
 pub record PartOf (c from : ℕ) (ls : List Line) (s : Step) : Type 0 where
   pub part : ℕ
   pub origin : s .origin ≡ loaded c (from + part)
@@ -36,7 +36,7 @@ parts-named c from (l ∷ ls) = (
       }) (parts-named c (suc from) ls),
 )
 
--- a piece of one of these clauses, the first of which is clause c and has links from k on
+-- a part of one of these clauses, the first of which is clause c and has split variables from k on
 pub record PartAmong (c k : ℕ) (clauses : List Clause) (s : Step) : Type 0 where
   pub number : ℕ
   pub clause : Clause
@@ -69,8 +69,8 @@ pub loadable-parts : (p : Problem) → All (PartAmong 0 (p .booleans) (p .clause
 unfolding loadableOf
 loadable-parts p = loadable-named 0 (p .booleans) (p .clauses)
 
--- ---- so the links of different clauses never meet
--- a later clause's links begin after this one's
+-- ---- so the split variables of different clauses never meet
+-- a later clause's split variables begin after this one's
 split-variables-before : (clauses : List Clause) (i j : ℕ) (x : Clause) → getElem? clauses i ≡ some x → i < j
     → splitsIn (take i clauses) + splitsOf x ≤ splitsIn (take j clauses)
 split-variables-before [] i j x e h = absurd (let z : _≡_ {A = ℕ} 0 1 = cc in omega arith)
@@ -79,7 +79,7 @@ split-variables-before (c ∷ cs) zero (suc j) x e h = let q : c ≡ x = cc in r
 split-variables-before (c ∷ cs) (suc i) zero x e h = absurd (omega arith)
 split-variables-before (c ∷ cs) (suc i) (suc j) x e h = let r = split-variables-before cs i j x e (omega arith) in omega arith
 
--- what occurs in pieces of two clauses is a variable of the problem
+-- what occurs in parts of two clauses is a variable of the problem
 pub split-variables-apart : (p : Problem) → WellFormed p
     → (s t : Step) (h : PartAmong 0 (p .booleans) (p .clauses) s) (k : PartAmong 0 (p .booleans) (p .clauses) t) → h .number < k .number
     → (i : ℕ) → T (contains (boolean i) (s .line)) → T (contains (boolean i) (t .line)) → i < p .booleans

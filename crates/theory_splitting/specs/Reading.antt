@@ -105,7 +105,7 @@ within-splits k (c ∷ cs) z e =
     ⊎-elim (λ t. absurd (some-not-none (c .start) (rw (is-true L t, overSplit) at e)))
     (λ t. omega (arith, within-splits n cs (nltb→le limit.splits n t) (rw (is-false L t, overSplit) at e))) (split L)
 
--- ---- questions
+-- ---- problems
 abbrev pub SoundIs : (Problem → Type 0) → Reading → Type 0
 SoundIs P (faulty f place) = Unit {0}
 SoundIs P (sound p) = P p

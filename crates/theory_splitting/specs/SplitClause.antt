@@ -1,4 +1,4 @@
--- Splitting a clause as read keeps the question: the clause holds exactly if some values of its split variables make every part hold.
+-- Splitting a clause as read keeps the problem: the clause holds exactly if some values of its split variables make every part hold.
 use mathlib.Core.Logic.{_↔_, _⊎_, inl, inr, ⊎-elim}
 use mathlib.Core.List.{List, []}
 use mathlib.Core.Option.{Option, none, some}

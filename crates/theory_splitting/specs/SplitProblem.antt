@@ -1,4 +1,4 @@
--- Splitting keeps the question: an assignment satisfies a problem exactly if some values of the split variables make every loadable
+-- Splitting keeps the problem: an assignment satisfies a problem exactly if some values of the split variables make every loadable
 -- line hold.
 use mathlib.Core.Path.{_≡_, sym, _∙_, subst}
 use mathlib.Core.Bool.{Bool}

@@ -1,4 +1,4 @@
--- Amounts in their range: normalizing keeps them there, and the rules' test of a wide line decides it.
+-- Amounts in their range: normalizing keeps them there, and the rules' test that a line overflows decides it.
 use mathlib.Core.Bool.{Bool, not}
 use mathlib.Core.Logic.{_↔_}
 use mathlib.Core.List.{List, [], _∷_}

@@ -103,7 +103,7 @@ rel-*ʳ {c} {a} {b} z h = rw (*-comm a c, *-comm b c) (rel-*ˡ z h)
 pub rel-*-cancelʳ : {s : Bool} {c : ℤ} (a b : ℤ) → pos 0 <ℤ c → Rel s (a *ℤ c) (b *ℤ c) → Rel s a b
 rel-*-cancelʳ {c} a b z h = rel-*-cancelˡ a b z (rw (*-comm a c, *-comm b c) at h)
 
--- ---- negation turns it
+-- ---- negation reverses it
 pub rel-neg : {s : Bool} {a b : ℤ} → Rel s a b → Rel s (negℤ b) (negℤ a)
 rel-neg {s = false} h = record { by = neg-mono-≤ (h .by) }
 rel-neg {s = true} h = record { by = neg-mono-< (h .by) }
