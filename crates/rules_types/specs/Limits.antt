@@ -1,5 +1,4 @@
 -- Document 01's limits. Every other definition names them by these words.
-use mathlib.Core.Path.{_≡_}
 use Prim.Native.Nat.{ℕ, _+_, _*_}
 use Rattle.rules_types.specs.declared.limits.Limits.{Limits}
 
@@ -56,13 +55,3 @@ standard = record { steps = steps }
 
 abbrev pub proofBytes : Limits → ℕ
 proofBytes l = l .steps * stepBytes
-
--- ---- numbers that are these limits
-abbrev pub Bytes : ℕ → ℕ → ℕ → Type 0
-Bytes problem step model = (problem ≡ problemBytes) × (step ≡ stepBytes) × (model ≡ modelBytes)
-
-abbrev pub Counts : ℕ → ℕ → ℕ → Type 0
-Counts b r n = (b ≡ booleans) × (r ≡ rationals) × (n ≡ clauses)
-
-abbrev pub OfClause : ℕ → ℕ → ℕ → Type 0
-OfClause m t s = (m ≡ literals) × (t ≡ constraints) × (s ≡ splits)

@@ -1,6 +1,7 @@
 // The limits of document 01, named once: the reader, the elimination and the checker cite them here.
 ghost use mathlib.Core.Path.{_≡_};
-ghost use Rattle.rules_types.specs.Limits.{amount, steps, allBooleans, rounds, standard, proofBytes, Bytes, Counts, OfClause};
+ghost use Rattle.rules_types.specs.Limits.{problemBytes, stepBytes, modelBytes, booleans, rationals, clauses, literals};
+ghost use Rattle.rules_types.specs.Limits.{constraints, splits, allBooleans, rounds, amount, steps, standard, proofBytes};
 
 // What may differ from caller to caller: the most steps that a proof holds.
 pub struct Limits {
@@ -54,9 +55,11 @@ impl Limits {
 
     // The constants are those of the definitions: proved here once, so that no other proof compares the numbers.
     pub fn stated() -> bool
-        ensures bytes { λ _. do ⌜ Bytes (← ⟦Limits::PROBLEM_BYTES⟧ .entry) (← ⟦Limits::STEP_BYTES⟧ .entry) (← ⟦Limits::MODEL_BYTES⟧ .entry) ⌝ }
-        ensures problem { λ _. do ⌜ Counts (← ⟦Limits::BOOLEANS⟧ .entry) (← ⟦Limits::RATIONALS⟧ .entry) (← ⟦Limits::CLAUSES⟧ .entry) ⌝ }
-        ensures clause { λ _. do ⌜ OfClause (← ⟦Limits::LITERALS⟧ .entry) (← ⟦Limits::CONSTRAINTS⟧ .entry) (← ⟦Limits::SPLITS⟧ .entry) ⌝ }
+        ensures bytes { λ _. do ⌜ ((← ⟦Limits::PROBLEM_BYTES⟧ .entry) ≡ problemBytes) × ((← ⟦Limits::STEP_BYTES⟧ .entry) ≡ stepBytes) ⌝ }
+        ensures model { λ _. do ⌜ (← ⟦Limits::MODEL_BYTES⟧ .entry) ≡ modelBytes ⌝ }
+        ensures problem { λ _. do ⌜ ((← ⟦Limits::BOOLEANS⟧ .entry) ≡ booleans) × ((← ⟦Limits::RATIONALS⟧ .entry) ≡ rationals) ⌝ }
+        ensures clause { λ _. do ⌜ ((← ⟦Limits::CLAUSES⟧ .entry) ≡ clauses) × ((← ⟦Limits::LITERALS⟧ .entry) ≡ literals) ⌝ }
+        ensures split { λ _. do ⌜ ((← ⟦Limits::CONSTRAINTS⟧ .entry) ≡ constraints) × ((← ⟦Limits::SPLITS⟧ .entry) ≡ splits) ⌝ }
         ensures rounds { λ _. do ⌜ ((← ⟦Limits::ALL_BOOLEANS⟧ .entry) ≡ allBooleans) × ((← ⟦Limits::ROUNDS⟧ .entry) ≡ rounds) ⌝ }
         ensures elimination { λ _. do ⌜ ((← ⟦Limits::AMOUNT⟧ .entry) ≡ amount) × ((← ⟦Limits::STEPS⟧ .entry) ≡ steps) ⌝ }
     {
