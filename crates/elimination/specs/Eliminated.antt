@@ -1,10 +1,11 @@
--- What an elimination leaves: the course of the definitions, its steps as the proof's bytes, and what callers of those know.
+-- What an elimination leaves: that of the definitions, its steps as the proof's bytes, and what callers of those know.
 use mathlib.Core.Path.{_≡_, sym, ap, _∙_}
 use mathlib.Core.List.{List, [], _++_, map}
 use Prim.Native.Nat.{ℕ, _*_, _≤_, _<_}
 use lib.IntN.{pos}
 use lib.ListN.{length, getD, drop, take-append-drop}
 use Rattle.rules_types.specs.declared.limits.Limits.{Limits}
+use Rattle.rules_types.specs.Limits as limit
 use Rattle.rules.specs.Problem.{Problem}
 use Rattle.rules.specs.Steps.{Step, encodeProof}
 use Rattle.rules.specs.Needs.{stepsOf, pairsOf}
@@ -18,19 +19,16 @@ use Rattle.lines.specs.Forms.{coefficient-is}
 use Rattle.steps.specs.Places.{stepAt}
 use Rattle.steps.specs.Lines.{lineAt, linesIn, ReadyLines}
 use Rattle.placing.specs.declared.place.Point.{Point}
-use Rattle.steps.specs.Held.{stepFrom, stepsIn, length-stepsIn, Held}
-use Rattle.placing.specs.Point.{stateAt, Leads, leads-trans, pairs-at, Reaches}
+use Rattle.steps.specs.Held.{stepFrom, stepsIn, length-stepsIn, Held, lines-stepsIn, held-ready, held-bytes}
+use Rattle.placing.specs.Point.{stateAt, Leads, leads-trans, progressOf, progress-at, pairs-at, Reaches, steps-at}
 use Rattle.elimination.specs.Loading.{origin}
-use Rattle.elimination.specs.declared.eliminate.Elimination.{Elimination}
-use Rattle.elimination.specs.Ends.{endBy, endOf, end-at}
-use Rattle.elimination.specs.Bytes.{steps-at, held-bytes, held-lines}
 
-pub record Eliminated (limits : Limits) (p : Problem) (before after : List ℕ) (c : Elimination) : Type 0 where
-  pub end : c .end ≡ endOf (elimination (limited limits) p)
+pub record Eliminated (limits : Limits) (p : Problem) (before after : List ℕ) (c : Point) : Type 0 where
+  pub progress : c .progress ≡ progressOf (elimination (limited limits) p)
   pub steps : c .steps ≡ length (stepsOf (elimination (limited limits) p))
   pub pairs : c .pairs ≡ pairsOf (elimination (limited limits) p)
   pub bytes : after ≡ encodeProof (stepsOf (elimination (limited limits) p)) ++ drop
-      (64 * length (stepsOf (elimination (limited limits) p))) before
+      (limit.stepBytes * length (stepsOf (elimination (limited limits) p))) before
   pub held : Held after (c .steps)
   pub lines : linesIn after (c .steps) ≡ map (λ s. s .line) (stepsOf (elimination (limited limits) p))
   pub ready : ReadyLines after (c .steps)
@@ -60,25 +58,21 @@ module _ {limits : Limits} (problem : Problem) {before middle after : List ℕ} 
       element-all (λ s. NarrowLine (problem .rationals) (s .line)) (stepsIn after (p .steps)) i (f i) (element-tabulate (p .steps) f i h)
       (rw held-steps (elimination-narrow (limited limits) problem w))
 
-  pub eliminated : WellFormed problem → Eliminated limits problem before after (record {
-    end = endBy (p .progress);
-    steps = p .steps;
-    pairs = p .pairs;
-  })
+  pub eliminated : WellFormed problem → Eliminated limits problem before after p
   unfolding lineAt
   eliminated w =
       let h = leads .standing .held in
       let steps = stepsOf (elimination (limited limits) problem) in
       record {
-        end = end-at after p ∙ ap endOf whole;
+        progress = progress-at after p ∙ ap progressOf whole;
         steps = many;
         pairs = sym (pairs-at after p) ∙ ap pairsOf whole;
         bytes =
-            sym (take-append-drop (64 * p .steps) after)
+            sym (take-append-drop (limit.stepBytes * p .steps) after)
             ∙ (λ i. held-bytes after (p .steps) h i ++ leads .rest i)
-            ∙ (λ i. encodeProof (held-steps i) ++ drop (64 * many i) before);
+            ∙ (λ i. encodeProof (held-steps i) ++ drop (limit.stepBytes * many i) before);
         held = h;
-        lines = held-lines after (p .steps) ∙ ap (map (λ s. s .line)) held-steps;
-        ready = λ i k. h .steps i k .ready;
+        lines = lines-stepsIn after (p .steps) ∙ ap (map (λ s. s .line)) held-steps;
+        ready = held-ready h;
         narrow = λ i k f l. sym (coefficient-is (lineAt after i) (h .steps i k .ready .shaped) f) ∙ few w i k f l;
       }

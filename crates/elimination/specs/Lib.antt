@@ -1,5 +1,3 @@
 pub mod LoadedParts
 pub mod Loading
-pub mod Ends
-pub mod Bytes
 pub mod Eliminated

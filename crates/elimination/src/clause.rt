@@ -2,45 +2,49 @@
 use placing::place::Point;
 use placing::place::is_running;
 use placing::place::place;
-use problem_parts::parts::begin;
+use problem_parts::parts::Parts;
 use problem_parts::parts::next;
 use rules_types::limits::Limits;
+use steps::origin::Origin;
+use steps::origin::Step;
 ghost use mathlib.Core.Path.{_≡_};
-ghost use Prim.Native.Nat.{_≤_, _<_};
-ghost use Rattle.rules.specs.Split.{partsOf, splitsOf};
-ghost use Rattle.rules.specs.Elimination.{limited, partSteps, load};
-ghost use Rattle.problem_scan.specs.Values.{clauseAt};
-ghost use Rattle.problem_scan.specs.Sound.{SoundClause};
-ghost use Rattle.placing.specs.Point.{stateAt, Standing, Reaches};
+ghost use Prim.Native.Nat.{_+_, _≤_, _<_};
+ghost use lib.ListN.{length};
+ghost use Rattle.rules_types.specs.Limits.{rationals, splits, mostSteps};
+ghost use Rattle.problem_parts.specs.Parts.{partsFrom, SoundParts};
+ghost use Rattle.placing.specs.Point.{Standing};
 ghost use Rattle.placing.specs.declared.place.Progress.the-variants.{Running};
+ghost use Rattle.elimination.specs.LoadedParts.{LoadsParts};
 
-// "Pieces load in order." "Loading drops equal lines too." `split` is the clause's first split variable.
-pub fn load_clause(
+// "Pieces load in order." "Loading drops equal lines too."
+pub fn load_parts(
     q: &[u8],
-    at: usize,
     r: u8,
-    split: usize,
+    first: Parts,
     clause: u64,
     proof: &mut [u8],
     from: Point,
     limits: Limits,
 ) -> Point
-    requires { ⌜ r ≤ 8 ⌝ }
-    requires { ⌜ SoundClause (now q) r at ⌝ }
-    requires { ⌜ split ≤ 32 ⌝ }
-    requires { ⌜ splitsOf (clauseAt (now q) r at) ≤ 16 ⌝ }
-    requires { ⌜ clause < 65536 ⌝ }
+    requires { ⌜ r ≤ rationals ⌝ }
+    requires { ⌜ SoundParts (now q) r first ⌝ }
+    requires { ⌜ length (partsFrom (now q) r first) ≤ splits + 1 ⌝ }
+    requires { ⌜ clause < mostSteps ⌝ }
     requires { ⌜ Standing limits (now proof) (from .steps) ⌝ }
     requires { ⌜ from .progress ≡ Running ⌝ }
-    ensures { λ p. ⌜ Reaches limits (now (proof .entry)) from (now (proof .exit)) p (load (limited limits) (partSteps clause 0 (partsOf split (clauseAt (now (q .entry)) r at))) (stateAt (now (proof .entry)) from)) ⌝ }
+    ensures { λ p. ⌜ LoadsParts limits clause (partsFrom (now (q .entry)) r first) (now (proof .entry)) from (now (proof .exit)) p ⌝ }
 {
-    let mut parts = begin(q, at, r, split);
+    let mut parts = first;
     let mut p = from;
     let mut j: u64 = 0;
     while parts.more {
         let part = next(q, r, parts);
         let line = part.line;
-        p = place(proof, p, limits, line, 0, 0, clause, j);
+        let step = Step {
+            origin: Origin::loaded(clause, j),
+            line: line,
+        };
+        p = place(proof, p, step, limits);
         let progress = p.progress;
         if !is_running(progress) {
             return p;

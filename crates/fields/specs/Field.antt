@@ -13,7 +13,7 @@ use lib.Dec.{T}
 use lib.ListN.{length, set, take, drop, length-append, length-take, length-drop, take-append-drop}
 use lib.Seq.{drop-drop, take-at, drop-at, length-take-le, sets-eq}
 use Rattle.theory_integers.specs.Difference.{v, #, _⊖_, ≡-by}
-use Rattle.rules.specs.Bytes.{toBytes, fromBytes, fromUnsigned, toUnsigned, fieldAt}
+use Rattle.rules.specs.Bytes.{toBytes, fromUnsigned, toUnsigned}
 use Rattle.theory_bytes.specs.Amounts.{fromUnsigned-high}
 
 -- the bytes written over those from a place on
@@ -55,16 +55,6 @@ module _ (at n : ℕ) (s : List ℕ) where
 -- ---- what was stored: as long as before, read at its place, and joined with what is stored next to it
 pub length-stored : (at : ℕ) (bytes s : List ℕ) → at + length bytes ≤ length s → length (stored at bytes s) ≡ length s
 length-stored at bytes s h = simp (length-append, length-take, length-drop) (omega arith)
-
-pub fieldAt-stored : (at : ℕ) (bytes s : List ℕ) → at ≤ length s → fieldAt at (length bytes) (stored at bytes s) ≡ fromBytes bytes
-unfolding fieldAt
-fieldAt-stored at bytes s h =
-    let n : length (take at s) ≡ at = length-take-le at s h in
-    ap fromBytes (rw (
-      append-assoc,
-      drop-at (take at s) (bytes ++ drop (at + length bytes) s) at n,
-      take-at bytes (drop (at + length bytes) s) (length bytes) refl,
-    ))
 
 pub stored-++ : (at : ℕ) (front back s : List ℕ) → at ≤ length s
     → stored (at + length front) back (stored at front s) ≡ stored at (front ++ back) s

@@ -1,8 +1,10 @@
-// Little-endian fields of bytes: unsigned numbers of two and four bytes, and amounts, which are signed, of four.
+// Fields of bytes, little-endian: unsigned numbers of one, two and four bytes, and amounts, which are signed, of four; and stores of
+// bytes and of zeros.
 use machine::sign::size;
 ghost use mathlib.Core.Path.{_≡_};
-ghost use Prim.Native.Nat.{_+_, _*_, _≤_, _<_, _^_};
+ghost use Prim.Native.Nat.{_+_, _*_, _-_, _≤_, _<_, _^_};
 ghost use lib.IntN.{natAbs};
+ghost use lib.ListN.{length, replicate};
 ghost use Rattle.rules.specs.Bytes.{toBytes, fromUnsigned, toUnsigned, fieldAt};
 ghost use Rattle.fields.specs.Field.{stored};
 
@@ -11,6 +13,13 @@ fn joined(b0: u8, b1: u8, b2: u8, b3: u8) -> u64
     ensures { λ r. ⌜ r ≡ b0 + 256 * b1 + 65536 * b2 + 16777216 * b3 ⌝ }
 {
     b0 as u64 + 256 * (b1 as u64) + 65536 * (b2 as u64) + 16777216 * (b3 as u64)
+}
+
+pub fn u8_at(s: &[u8], at: usize) -> u8
+    requires { do ⌜ at + 1 ≤ (← ⟦s.len()⟧) ⌝ }
+    ensures { λ r. ⌜ r ≡ fieldAt at 1 (now (s .entry)) ⌝ }
+{
+    s[at]
 }
 
 pub fn u16_at(s: &[u8], at: usize) -> u64
@@ -90,4 +99,29 @@ pub fn put_amount(s: &mut [u8], at: usize, z: i64)
     ensures { λ _. ⌜ now (s .exit) ≡ stored at (toBytes 4 (toUnsigned z)) (now (s .entry)) ⌝ }
 {
     put_u32(s, at, unsigned(z));
+}
+
+// Other bytes over those from a place on.
+pub fn put_bytes(s: &mut [u8], at: usize, bytes: &[u8])
+    requires { ⌜ at + length (now bytes) ≤ length (now s) ⌝ }
+    ensures { λ _. ⌜ now (s .exit) ≡ stored at (now (bytes .entry)) (now (s .entry)) ⌝ }
+{
+    let mut j: usize = 0;
+    while j < bytes.len() {
+        s[at + j] = bytes[j];
+        j += 1;
+    }
+}
+
+// Zeros over the bytes from one place up to another.
+pub fn put_zeros(s: &mut [u8], from: usize, to: usize)
+    requires { ⌜ from ≤ to ⌝ }
+    requires { ⌜ to ≤ length (now s) ⌝ }
+    ensures { λ _. ⌜ now (s .exit) ≡ stored from (replicate (to - from) 0) (now (s .entry)) ⌝ }
+{
+    let mut j = from;
+    while j < to {
+        s[j] = 0;
+        j += 1;
+    }
 }

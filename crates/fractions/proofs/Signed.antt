@@ -49,7 +49,7 @@ same z h = toZ-ofZ (fits-size z (omega arith))
 
 pub ruleset signed = (product-fits, sum-fits, quotient-fits, negation-fits, zero-minus, denominators-fit, twice-fits, natural, denominator)
 
--- a call's result, or a field, by the range that comes with it
+-- what a call returned, or a field, by the range that comes with it
 pub returned : (z : ℤ) → mag z < 2 ^ 63 → toZ w64 (ofZ w64 z) ≡ z
 returned z h = toZ-ofZ (record { sfits = h })
 

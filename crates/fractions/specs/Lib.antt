@@ -1,4 +1,4 @@
 pub mod Meaning
 pub mod Range
 pub mod Enough
-pub mod Kept
+pub mod NotBeyond

@@ -20,15 +20,15 @@ pub struct Fraction {
 }
 
 impl Fraction {
-    // n / d in lowest terms.
-    pub fn reduced(n: i64, d: u64) -> Fraction
-        requires { ⌜ Ratio n d ⌝ }
-        ensures { λ r. ⌜ meaning r ≡ reduce n d ⌝ }
+    // In lowest terms.
+    fn reduce(self) -> Fraction
+        requires { ⌜ Ratio (self .numerator) (self .denominator) ⌝ }
+        ensures { λ r. ⌜ meaning r ≡ reduce (self .numerator) (self .denominator) ⌝ }
     {
-        let g = gcd(size(n), d);
+        let g = gcd(size(self.numerator), self.denominator);
         Fraction {
-            numerator: divided(n, g),
-            denominator: d / g,
+            numerator: divided(self.numerator, g),
+            denominator: self.denominator / g,
         }
     }
 
@@ -39,9 +39,17 @@ impl Fraction {
     {
         let e = size(a) * d;
         if a < 0 {
-            return Fraction::reduced(negated(n), e);
+            let turned = Fraction {
+                numerator: negated(n),
+                denominator: e,
+            };
+            return turned.reduce();
         }
-        Fraction::reduced(n, e)
+        let x = Fraction {
+            numerator: n,
+            denominator: e,
+        };
+        x.reduce()
     }
 
     pub fn less(self, other: Fraction) -> bool
@@ -55,11 +63,14 @@ impl Fraction {
         requires { ⌜ Small (meaning self) × Small (meaning other) ⌝ }
         ensures { λ r. ⌜ meaning r ≡ midpoint (meaning self) (meaning other) ⌝ }
     {
-        let n = sum(
-            cross(self.numerator, other.denominator),
-            cross(other.numerator, self.denominator),
-        );
-        Fraction::reduced(n, twice(self.denominator, other.denominator))
+        let x = Fraction {
+            numerator: sum(
+                cross(self.numerator, other.denominator),
+                cross(other.numerator, self.denominator),
+            ),
+            denominator: twice(self.denominator, other.denominator),
+        };
+        x.reduce()
     }
 
     // With 1, 0 or -1 added.
@@ -67,8 +78,11 @@ impl Fraction {
         requires { ⌜ Small (meaning self) × (natAbs z ≤ 1) ⌝ }
         ensures { λ r. ⌜ meaning r ≡ plus (meaning self) z ⌝ }
     {
-        let n = sum(self.numerator, cross(z, self.denominator));
-        Fraction::reduced(n, self.denominator)
+        let x = Fraction {
+            numerator: sum(self.numerator, cross(z, self.denominator)),
+            denominator: self.denominator,
+        };
+        x.reduce()
     }
 
     pub fn plus_one(self) -> Fraction

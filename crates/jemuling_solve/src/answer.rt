@@ -8,7 +8,6 @@ use rules_types::answers::Answer;
 use rules_types::answers::Solved;
 use rules_types::answers::Verdict;
 use rules_types::limits::Limits;
-ghost use Prim.Native.Nat.{_≤_};
 
 // "refused with number, place, pairs"
 pub fn print_refusal(number: u8, place: usize, pairs: u64) {

@@ -5,8 +5,14 @@ use crate::text::Text;
 use crate::text::print_count;
 use fields::amount_at;
 use fields::u32_at;
+use rules_types::layout::MODEL_BOOLEANS;
+use rules_types::layout::MODEL_FLAGS;
+use rules_types::layout::model_denominator;
+use rules_types::layout::model_numerators;
+use rules_types::layout::model_rationals;
 use rules_types::limits::Limits;
 ghost use Prim.Native.Nat.{_+_, _*_, _≤_};
+ghost use Rattle.rules_types.specs.Layout.{modelFlags, modelNumerators};
 
 // 0 or 1
 fn print_boolean(value: u8) {
@@ -15,11 +21,12 @@ fn print_boolean(value: u8) {
     line.print();
 }
 
-fn print_booleans(model: &[u8], b: usize)
-    requires { do ⌜ 1 + b ≤ (← ⟦model.len()⟧) ⌝ }
+fn print_booleans(model: &[u8], b: u8)
+    requires { do ⌜ modelFlags + b ≤ (← ⟦model.len()⟧) ⌝ }
 {
-    for i in 0..b {
-        print_boolean(model[1 + i]);
+    let count = b as usize;
+    for i in 0..count {
+        print_boolean(model[MODEL_FLAGS + i]);
     }
 }
 
@@ -30,13 +37,15 @@ fn print_rational(numerator: i64, denominator: u64) {
     line.print();
 }
 
-// The common denominator stands at this place, the numerators after it.
-fn print_rationals(model: &[u8], at: usize, r: usize)
-    requires { do ⌜ at + 4 + 4 * r ≤ (← ⟦model.len()⟧) ⌝ }
+// The numerators, each with the common denominator.
+fn print_rationals(model: &[u8], b: u8, r: u8)
+    requires { do ⌜ modelNumerators b + 4 * r ≤ (← ⟦model.len()⟧) ⌝ }
 {
-    let denominator = u32_at(model, at);
-    for i in 0..r {
-        print_rational(amount_at(model, at + 4 + 4 * i), denominator);
+    let denominator = u32_at(model, model_denominator(b));
+    let at = model_numerators(b);
+    let count = r as usize;
+    for i in 0..count {
+        print_rational(amount_at(model, at + 4 * i), denominator);
     }
 }
 
@@ -44,10 +53,10 @@ pub fn print_model(model: &[u8]) {
     if model.len() < Limits::MODEL_BYTES {
         return;
     }
-    let b = at_most(model[0], Limits::BOOLEANS);
+    let b = at_most(model[MODEL_BOOLEANS], Limits::BOOLEANS);
     print_count(b"marks", b as u64);
     print_booleans(model, b);
-    let r = at_most(model[1 + b], Limits::RATIONALS);
+    let r = at_most(model[model_rationals(b)], Limits::RATIONALS);
     print_count(b"figures", r as u64);
-    print_rationals(model, 2 + b, r);
+    print_rationals(model, b, r);
 }

@@ -6,9 +6,10 @@ pub fn widened(b: u8) -> u64 {
 }
 
 // A byte, or the most that it may be.
-pub fn at_most(b: u8, most: usize) -> usize
+pub fn at_most(b: u8, most: usize) -> u8
+    requires { ⌜ most ≤ 255 ⌝ }
     ensures { λ r. ⌜ r ≤ most ⌝ }
 {
     let n = b as usize;
-    if n < most { n } else { most }
+    if n < most { b } else { most as u8 }
 }

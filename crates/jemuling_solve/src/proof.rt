@@ -2,19 +2,22 @@
 use crate::numbers::widened;
 use crate::text::Text;
 use crate::text::print_count;
-use fields::u16_at;
 use rules_types::limits::Limits;
-ghost use Prim.Native.Nat.{_+_, _*_, _≤_};
+use steps::access::first_at;
+use steps::access::how_at;
+use steps::access::second_at;
+use steps::access::which_at;
+ghost use Rattle.steps.specs.Places.{HasStep};
 
-// The step whose bytes start at this place.
-fn print_step(proof: &[u8], at: usize)
-    requires { do ⌜ at + 6 ≤ (← ⟦proof.len()⟧) ⌝ }
+// The origin of step i.
+fn print_step(proof: &[u8], i: usize)
+    requires { ⌜ HasStep (now proof) i ⌝ }
 {
     let start = Text::empty();
-    let how = start.decimal(widened(proof[at]));
-    let which = how.then(widened(proof[at + 1]));
-    let first = which.then(u16_at(proof, at + 2));
-    let second = first.then(u16_at(proof, at + 4));
+    let how = start.decimal(widened(how_at(proof, i)));
+    let which = how.then(widened(which_at(proof, i)));
+    let first = which.then(first_at(proof, i));
+    let second = first.then(second_at(proof, i));
     second.print();
 }
 
@@ -22,6 +25,6 @@ pub fn print_proof(proof: &[u8]) {
     let count = proof.len() / Limits::STEP_BYTES;
     print_count(b"lines", count as u64);
     for i in 0..count {
-        print_step(proof, Limits::STEP_BYTES * i);
+        print_step(proof, i);
     }
 }

@@ -1,31 +1,32 @@
 -- A line's tests by its words: coefficients, masks, relation.
 use mathlib.Core.Path.{_≡_, refl, sym, ap, _∙_}
-use mathlib.Core.Bool.{Bool, true, false, not, _&&_, _||_, and-assoc, and-false, or-assoc, or-false}
+use mathlib.Core.Bool.{Bool, true, false, not, _&&_, _||_, or-assoc, or-false}
 use mathlib.Core.List.{List, [], _∷_, _++_}
 use mathlib.Core.Option.{some}
 use Prim.Native.Nat.{ℕ, zero, suc, _+_, _/_, _%_, _^_, _≤_, _<_}
 use native.Mathlib.Nat.{mod-lt, div-one}
 use native.Mathlib.Omega.{arith}
 use lib.IntN.{ℤ, pos}
-use lib.Dec.{eqb, eqb·suc-zero, eqb·zero-suc, eqb·suc-suc}
+use lib.Dec.{eqb, eqb·suc-zero, eqb·suc-suc}
 use lib.ListN.{length, getD, replicate}
 use lib.Bits.{bitOr}
 use lib.Count.{trailingZeros, under}
 use mir.Syntax.{w64}
 use mir.Val.{SFits, ofZ, toZ}
 use mir.Facts.{toZ-ofZ}
-use Rattle.rules.specs.Lists.{any, same, tabulate}
-use Rattle.rules.specs.Arithmetic.{equal, isZero}
+use Rattle.rules_types.specs.Limits as limit
+use Rattle.rules.specs.Lists.{any, tabulate}
+use Rattle.rules.specs.Arithmetic.{isZero}
 use Rattle.rules.specs.Problem.{inRange}
 use Rattle.rules.specs.Lines as rules
-use Rattle.rules.specs.Lines.{Variable, rational, boolean, contains, coefficient, isEmpty, noConstraint, sameConstraint, sameLine}
+use Rattle.rules.specs.Lines.{Variable, rational, boolean, contains, coefficient, isEmpty, noConstraint}
 use Rattle.rules.specs.Steps.{row}
 use Rattle.rules.specs.Elimination.{order, roundOf, overflows}
 use Rattle.theory_resolution.specs.Members.{has-union}
 use Rattle.theory_resolution.specs.Variables.{contains-rational, contains-boolean}
 use Rattle.theory_lists.specs.All.{getD-replicate-same}
 use Rattle.lines.specs.declared.line.Line.{Line}
-use Rattle.masks.specs.Mask.{bits, has-bits, union-bits, shifted, none-bits, same-digit, same-bits}
+use Rattle.masks.specs.Mask.{bits, has-bits, union-bits, shifted, none-bits}
 use Rattle.lines.specs.Line.{constraintOf, constraintIn, meaning, Shaped}
 
 -- a relation, by its three numbers
@@ -49,10 +50,10 @@ pub constraint-is : (l : Line) → 0 < l .relation → meaning l .constraint ≡
 unfolding meaning
 constraint-is l h = constraint-at (l .relation) (l .coefficients) (l .bound) h
 
-coefficient-at : (r : ℕ) (cs : List ℤ) (b : ℤ) (f : ℕ) → (r ≡ 0 → cs ≡ replicate 8 (pos 0))
+coefficient-at : (r : ℕ) (cs : List ℤ) (b : ℤ) (f : ℕ) → (r ≡ 0 → cs ≡ replicate limit.rationals (pos 0))
     → coefficient f (constraintOf r cs b) ≡ getD cs f (pos 0)
 unfolding coefficient constraintOf
-coefficient-at zero cs b f h = sym (getD-replicate-same 8 f (pos 0)) ∙ ap (λ (s : List ℤ). getD s f (pos 0)) (sym (h refl))
+coefficient-at zero cs b f h = sym (getD-replicate-same limit.rationals f (pos 0)) ∙ ap (λ (s : List ℤ). getD s f (pos 0)) (sym (h refl))
 coefficient-at (suc r) cs b f h = refl
 
 pub coefficient-is : (l : Line) → Shaped l → (f : ℕ) → coefficient f (meaning l .constraint) ≡ getD (l .coefficients) f (pos 0)
@@ -72,47 +73,15 @@ none-at (suc r) cs b = sym (eqb·suc-zero r)
 pub empty-is : (l : Line) → l .positive < 2 ^ 32 → l .negative < 2 ^ 32 → isEmpty (meaning l) ≡ eqb (l .positive) 0
     && eqb (l .negative) 0 && eqb (l .relation) 0
 unfolding meaning isEmpty
-empty-is l h k = rw (none-bits 32 (l .positive) h, none-bits 32 (l .negative) k, none-at (l .relation) (l .coefficients) (l .bound))
-
--- ---- equal lines
-same-at : (r : ℕ) (cs : List ℤ) (b : ℤ) (s : ℕ) (ds : List ℤ) (d : ℤ) → r ≤ 2 → s ≤ 2 → (r ≡ 0 → cs ≡ replicate 8 (pos 0))
-    → (s ≡ 0 → ds ≡ replicate 8 (pos 0)) → (r ≡ 0 → b ≡ pos 0) → (s ≡ 0 → d ≡ pos 0)
-    → sameConstraint (constraintOf r cs b) (constraintOf s ds d) ≡ equal b d && (eqb r s && same equal cs ds)
-unfolding sameConstraint constraintOf equal same
-same-at zero cs b zero ds d l m h i j k = rw (h refl, i refl, j refl, k refl)
-same-at zero cs b (suc s) ds d l m h i j k = rw (eqb·zero-suc s) (sym (and-false (equal b d)))
-same-at (suc r) cs b zero ds d l m h i j k = rw (eqb·suc-zero r) (sym (and-false (equal b d)))
-same-at (suc r) cs b (suc s) ds d l m h i j k =
-    rw (eqb·suc-suc r s, same-digit r s (omega arith) (omega arith)) (and-assoc (equal b d) (eqb r s) (same equal cs ds))
-
-regroup : (a e s p n : Bool) → (a && (e && s)) && p && n ≡ a && (e && (p && (n && s)))
-regroup false e s p n = refl
-regroup true false s p n = refl
-regroup true true true false n = refl
-regroup true true true true false = refl
-regroup true true true true true = refl
-regroup true true false false n = refl
-regroup true true false true false = refl
-regroup true true false true true = refl
-
--- the bound first: it tells most lines apart
-pub same-is : (l m : Line) → Shaped l → Shaped m → l .positive < 2 ^ 32 → l .negative < 2 ^ 32 → m .positive < 2 ^ 32 → m .negative < 2 ^ 32
-    → sameLine (meaning l) (meaning m) ≡ equal (l .bound) (m .bound) && (eqb (l .relation) (m .relation)
-    && (eqb (l .positive) (m .positive) && (eqb (l .negative) (m .negative) && same equal (l .coefficients) (m .coefficients))))
-unfolding meaning sameLine
-same-is l m h k a b c d =
+empty-is l h k =
     rw (
-      same-at (l .relation) (l .coefficients) (l .bound) (m .relation) (m .coefficients) (m .bound) (h .related) (k .related)
-          (h .coefficients) (k .coefficients) (h .bound) (k .bound),
-      same-bits 32 (l .positive) (m .positive) a c,
-      same-bits 32 (l .negative) (m .negative) b d,
+      none-bits limit.allBooleans (l .positive) h,
+      none-bits limit.allBooleans (l .negative) k,
+      none-at (l .relation) (l .coefficients) (l .bound),
     )
-    (regroup (equal (l .bound) (m .bound)) (eqb (l .relation) (m .relation)) (same equal (l .coefficients) (m .coefficients))
-    (eqb (l .positive) (m .positive)) (eqb (l .negative) (m .negative)))
 
 -- ---- amounts
--- rows of zeros, and so of equal numbers
-row-at : (r : ℕ) (cs : List ℤ) (b : ℤ) → (r ≡ 0 → cs ≡ replicate 8 (pos 0)) → (r ≡ 0 → b ≡ pos 0)
+row-at : (r : ℕ) (cs : List ℤ) (b : ℤ) → (r ≡ 0 → cs ≡ replicate limit.rationals (pos 0)) → (r ≡ 0 → b ≡ pos 0)
     → row (constraintOf r cs b) ≡ cs ++ (b ∷ [])
 unfolding row constraintOf
 row-at zero cs b h k = rw (h refl, k refl)
@@ -160,13 +129,14 @@ rounds-rational (suc n) f [] vs l h e = absurd (omega arith)
 rounds-rational (suc n) f (c ∷ cs) vs l h e = round-step (f 0) (tabulate n (λ i. f (suc i)) ++ vs) l
     ∙ rw (e 0, rounds-rational n (λ i. f (suc i)) cs vs l (omega arith) (λ i. e (suc i)))
 
-contains-bits : (l : Line) (i : ℕ) → i < 32 → contains (boolean i) (meaning l) ≡ eqb (bitOr (l .positive) (l .negative) / 2 ^ i % 2) 1
+contains-bits : (l : Line) (i : ℕ) → i < limit.allBooleans
+    → contains (boolean i) (meaning l) ≡ eqb (bitOr (l .positive) (l .negative) / 2 ^ i % 2) 1
 unfolding meaning
 contains-bits l i h =
     contains-boolean i (meaning l)
-    ∙ sym (has-union (bits 32 (l .positive)) (bits 32 (l .negative)) i)
-    ∙ ap (λ (s : rules.Booleans). getD s i false) (union-bits 32 (l .positive) (l .negative))
-    ∙ has-bits 32 (bitOr (l .positive) (l .negative)) i h
+    ∙ sym (has-union (bits limit.allBooleans (l .positive)) (bits limit.allBooleans (l .negative)) i)
+    ∙ ap (λ (s : rules.Booleans). getD s i false) (union-bits limit.allBooleans (l .positive) (l .negative))
+    ∙ has-bits limit.allBooleans (bitOr (l .positive) (l .negative)) i h
 
 rounds-boolean : (k : ℕ) (f : ℕ → Variable) (m : ℕ) (l : rules.Line) → ((i : ℕ) → i < k → contains (f i) l ≡ eqb (m / 2 ^ i % 2) 1)
     → roundOf (tabulate k f) l ≡ trailingZeros k m
@@ -186,23 +156,14 @@ rounds-boolean (suc k) f m l e =
     by (suc zero) h = refl
     by (suc (suc d)) h = absurd (omega arith)
 
-pub round-is : (l : Line) → Shaped l → length (l .coefficients) ≡ 8
-    → roundOf order (meaning l) ≡ leading (l .coefficients) (trailingZeros 32 (bitOr (l .positive) (l .negative)))
+pub round-is : (l : Line) → Shaped l → length (l .coefficients) ≡ limit.rationals
+    → roundOf order (meaning l) ≡ leading (l .coefficients) (trailingZeros limit.allBooleans (bitOr (l .positive) (l .negative)))
 unfolding order
 round-is l h n =
-    rounds-rational 8 rational (l .coefficients) (tabulate 32 boolean) (meaning l) n
+    rounds-rational limit.rationals rational (l .coefficients) (tabulate limit.allBooleans boolean) (meaning l) n
     (λ f. contains-rational f (meaning l) ∙ ap (λ (z : ℤ). not (isZero z)) (coefficient-is l h f))
     ∙ ap (λ (r : ℕ). leading (l .coefficients) r)
-    (rounds-boolean 32 boolean (bitOr (l .positive) (l .negative)) (meaning l) (λ i k. contains-bits l i k))
-
-pub leading-≤ : (cs : List ℤ) (rest : ℕ) → leading cs rest ≤ length cs + rest
-unfolding leading
-leading-≤ [] rest = omega arith
-leading-≤ (c ∷ cs) rest = by (not (isZero c)) (leading-≤ cs rest)
-  where
-    by : (b : Bool) → leading cs rest ≤ length cs + rest → here b (leading cs rest) ≤ suc (length cs) + rest
-    by true h = omega arith
-    by false h = omega arith
+    (rounds-boolean limit.allBooleans boolean (bitOr (l .positive) (l .negative)) (meaning l) (λ i k. contains-bits l i k))
 
 -- where a scan has found it, and after all
 pub leading-at : (cs : List ℤ) (i rest : ℕ) → ((k : ℕ) → k < i → not (isZero (getD cs k (pos 0))) ≡ false) → i < length cs

@@ -1,3 +1,4 @@
+pub mod Order
 pub mod Line
 pub mod Forms
 pub mod Scan

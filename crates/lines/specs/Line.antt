@@ -6,6 +6,7 @@ use Prim.Native.Nat.{ℕ, zero, suc, _≤_}
 use lib.IntN.{ℤ, pos}
 use lib.Dec.{eqb}
 use lib.ListN.{replicate}
+use Rattle.rules_types.specs.Limits as limit
 use Rattle.rules.specs.Problem.{Constraint}
 use Rattle.rules.specs.Lines as rules
 use Rattle.theory_vectors.specs.Amounts.{Small, Amounts}
@@ -23,15 +24,15 @@ constraintIn l = record { strict = eqb (l .relation) 2; coefficients = l .coeffi
 
 unfoldable pub meaning : Line → rules.Line
 meaning l = record {
-  positive = bits 32 (l .positive);
-  negative = bits 32 (l .negative);
+  positive = bits limit.allBooleans (l .positive);
+  negative = bits limit.allBooleans (l .negative);
   constraint = constraintOf (l .relation) (l .coefficients) (l .bound);
 }
 
 -- "Without a condition, coefficients and bound are 0."
 pub record Shaped (l : Line) : Type 0 where
   pub related : l .relation ≤ 2
-  pub coefficients : l .relation ≡ 0 → l .coefficients ≡ replicate 8 (pos 0)
+  pub coefficients : l .relation ≡ 0 → l .coefficients ≡ replicate limit.rationals (pos 0)
   pub bound : l .relation ≡ 0 → l .bound ≡ pos 0
 
 -- a line that a proof can hold

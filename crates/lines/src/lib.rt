@@ -1,3 +1,4 @@
 // Lines in machine words.
 pub mod line;
+pub mod order;
 pub mod row;

@@ -1,16 +1,16 @@
 // A line of the proof in machine words: two masks of Boolean variables, and a constraint.
-use crate::row::equal;
 use crate::row::leading;
 use crate::row::overflowing_row;
-use crate::row::same_row;
 use machine::sign::in_range;
 use machine::sign::is_negative;
 use machine::sign::is_positive;
 use masks::lowest;
 use masks::member;
+use rules_types::limits::Limits;
 ghost use mathlib.Core.Path.{_≡_};
 ghost use Prim.Native.Nat.{_<_};
-ghost use Rattle.rules.specs.Lines.{isEmpty, sameLine, positively, negatively, rational, boolean};
+ghost use Rattle.rules_types.specs.Limits.{allBooleans, rationals};
+ghost use Rattle.rules.specs.Lines.{isEmpty, positively, negatively, rational, boolean};
 ghost use Rattle.rules.specs.Elimination.{order, roundOf, overflows};
 ghost use Rattle.lines.specs.Line.{meaning, Shaped};
 
@@ -20,7 +20,7 @@ pub struct Line {
     pub negative: u32,
     // 0 without a constraint, 1 for ≤, 2 for <.
     pub relation: u8,
-    pub coefficients: [i64; 8],
+    pub coefficients: [i64; Limits::RATIONALS],
     pub bound: i64,
 }
 
@@ -39,7 +39,7 @@ impl Line {
 
     // It bounds rational variable f from above.
     pub fn has_positive_rational(self, f: usize) -> bool
-        requires { ⌜ f < 8 ⌝ }
+        requires { ⌜ f < rationals ⌝ }
         requires { ⌜ Shaped self ⌝ }
         ensures { λ r. ⌜ r ≡ positively (rational f) (meaning self) ⌝ }
     {
@@ -48,7 +48,7 @@ impl Line {
 
     // It bounds rational variable f from below.
     pub fn has_negative_rational(self, f: usize) -> bool
-        requires { ⌜ f < 8 ⌝ }
+        requires { ⌜ f < rationals ⌝ }
         requires { ⌜ Shaped self ⌝ }
         ensures { λ r. ⌜ r ≡ negatively (rational f) (meaning self) ⌝ }
     {
@@ -56,39 +56,17 @@ impl Line {
     }
 
     pub fn has_positive_boolean(self, i: usize) -> bool
-        requires { ⌜ i < 32 ⌝ }
+        requires { ⌜ i < allBooleans ⌝ }
         ensures { λ r. ⌜ r ≡ positively (boolean i) (meaning self) ⌝ }
     {
         member(self.positive, i)
     }
 
     pub fn has_negative_boolean(self, i: usize) -> bool
-        requires { ⌜ i < 32 ⌝ }
+        requires { ⌜ i < allBooleans ⌝ }
         ensures { λ r. ⌜ r ≡ negatively (boolean i) (meaning self) ⌝ }
     {
         member(self.negative, i)
-    }
-
-    pub fn equals(self, other: Line) -> bool
-        requires { ⌜ Shaped self ⌝ }
-        requires { ⌜ Shaped other ⌝ }
-        ensures { λ r. ⌜ r ≡ sameLine (meaning self) (meaning other) ⌝ }
-    {
-        if !equal(self.bound, other.bound) {
-            return false;
-        }
-        if self.relation != other.relation {
-            return false;
-        }
-        if self.positive != other.positive {
-            return false;
-        }
-        if self.negative != other.negative {
-            return false;
-        }
-        let us = self.coefficients;
-        let ls = other.coefficients;
-        same_row(us, ls)
     }
 
     // The place of its first variable in the order of rounds: rational variables, then Boolean ones.

@@ -141,7 +141,7 @@ gcd-distance x y = ⊎-elim
         dvd-antisymm (gcd-greatest d (gcd-dvdˡ x (y - x)) p)
         (gcd-greatest (gcd x y) (gcd-dvdˡ x y) (dvd-sub (gcd x y) (gcd-dvdʳ x y) (gcd-dvdˡ x y)))
 
--- ---- a turn: from x, which is odd, and y to the lesser of x and y's odd part, and their difference
+-- ---- a pass of the loop: from x, which is odd, and y to the lesser of x and y's odd part, and their difference
 module _ (x y : ℕ) (odd : x % 2 ≡ 1) where
   pub pass-odd : 0 < y → y < 2 ^ 64 → min x (oddPart y) % 2 ≡ 1
   pass-odd h l = ⊎-elim

@@ -1,6 +1,6 @@
--- Sets of Boolean variables as numbers of 32 bits: variable i is a member if digit i is 1.
+-- Sets of Boolean variables as numbers: variable i is a member if digit i is 1.
 use mathlib.Core.Path.{_≡_, refl, sym, ap, _∙_}
-use mathlib.Core.Bool.{Bool, true, false, not, cond, _||_, _&&_, Bool·beq}
+use mathlib.Core.Bool.{Bool, true, false, not, cond, _||_, _&&_}
 use mathlib.Core.List.{[], _∷_}
 use Prim.Native.Nat.{ℕ, zero, suc, _+_, _*_, _-_, _/_, _%_, _^_, _≤_, _<_, max, min}
 use native.Mathlib.Nat.{mod-lt, pow-succ', div-one, div-div-eq-div-mul}
@@ -10,9 +10,9 @@ use borrow.Author.Tests.{eq-eqb, ne-eqb}
 use lib.Dec.{T, eqb, eqb→eq}
 use lib.ListN.{length, getD}
 use lib.Bits.{bitOr, bitAnd, or-step, or-zero-r, and-step, and-lt}
-use mir.Facts.{and-yes, yes-and}
+use Rattle.rules_types.specs.Limits as limit
 use Rattle.theory_lists.specs.Tests.{tests-agree, of-true}
-use Rattle.rules.specs.Lists.{any, same}
+use Rattle.rules.specs.Lists.{any}
 use Rattle.rules.specs.Lines.{Booleans, union, meet, including, excluding}
 use Rattle.rules.specs.Steps.{mask}
 
@@ -20,6 +20,10 @@ use Rattle.rules.specs.Steps.{mask}
 unfoldable pub bits : ℕ → ℕ → Booleans
 bits zero n = []
 bits (suc k) n = eqb (n % 2) 1 ∷ bits k (n / 2)
+
+-- every variable
+abbrev pub allBits : ℕ
+allBits = 2 ^ limit.allBooleans - 1
 
 pub length-bits : (k n : ℕ) → length (bits k n) ≡ k
 unfolding bits
@@ -113,28 +117,6 @@ meet-any (suc k) a b =
 pub meet-bits : (k a b : ℕ) → a < 2 ^ k → b < 2 ^ k → meet (bits k a) (bits k b) ≡ not (eqb (bitAnd a b) 0)
 meet-bits k a b h l = meet-any k a b ∙ any-bits k (bitAnd a b) (and-lt k a b h l)
 
-pub same-digit : (x y : ℕ) → x < 2 → y < 2 → Bool·beq (eqb x 1) (eqb y 1) ≡ eqb x y
-same-digit x y h k = digit (λ x. Bool·beq (eqb x 1) (eqb y 1) ≡ eqb x y) x h (digit (λ y. Bool·beq false (eqb y 1) ≡ eqb 0 y) y k refl refl)
-    (digit (λ y. Bool·beq true (eqb y 1) ≡ eqb 1 y) y k refl refl)
-
-pub same-bits : (k a b : ℕ) → a < 2 ^ k → b < 2 ^ k → same Bool·beq (bits k a) (bits k b) ≡ eqb a b
-unfolding bits same
-same-bits zero a b h l = sym (eq-eqb a b (omega arith))
-same-bits (suc k) a b h l =
-    rw (
-      same-digit (a % 2) (b % 2) (digit-< a) (digit-< b),
-      same-bits k (a / 2) (b / 2) (omega (arith, pow-succ' 2 k)) (omega (arith, pow-succ' 2 k)),
-    )
-    (agree (eqb (a % 2) (b % 2) && eqb (a / 2) (b / 2)) a b to from)
-  where
-    to : T (eqb (a % 2) (b % 2) && eqb (a / 2) (b / 2)) → a ≡ b
-    to t = let r = and-yes (eqb (a % 2) (b % 2)) (eqb (a / 2) (b / 2)) t in
-        omega (arith, eqb→eq (a % 2) (b % 2) (r .0), eqb→eq (a / 2) (b / 2) (r .1))
-
-    from : a ≡ b → T (eqb (a % 2) (b % 2) && eqb (a / 2) (b / 2))
-    from e = yes-and (eqb (a % 2) (b % 2)) (eqb (a / 2) (b / 2)) (of-true (eqb (a % 2) (b % 2)) (eq-eqb (a % 2) (b % 2) (omega arith)))
-        (of-true (eqb (a / 2) (b / 2)) (eq-eqb (a / 2) (b / 2) (omega arith)))
-
 -- without one member: its power is taken away, or is not there
 pub shifted : (n i : ℕ) → n / 2 ^ suc i ≡ n / 2 / 2 ^ i
 shifted n i = rw (pow-succ' 2 i, ← div-div-eq-div-mul n 2 (2 ^ i))
@@ -165,9 +147,9 @@ excluding-other (suc k) n zero e = let o : eqb (n % 2) 1 ≡ false = rw (div-one
 excluding-other (suc k) n (suc i) e = ap (λ (s : Booleans). eqb (n % 2) 1 ∷ s) (excluding-other k (n / 2) i (rw (← shifted n i) e))
 
 -- a power of two of 32 bits, as a shift makes it
-pub shift-is : (i : ℕ) → i < 32 → 1 * 2 ^ i % 4294967296 ≡ 2 ^ i
+pub shift-is : (i : ℕ) → i < limit.allBooleans → 1 * 2 ^ i % 4294967296 ≡ 2 ^ i
 shift-is i h =
-    let l : 2 ^ i * 2 ≤ 2 ^ 32 = omega (arith, pow-succ' 2 i, pow-mono {i = suc i} {j = 32} h) in
+    let l : 2 ^ i * 2 ≤ 2 ^ 32 = omega (arith, pow-succ' 2 i, pow-mono {i = suc i} {j = limit.allBooleans} h) in
     let p : 0 < 2 ^ i = omega (arith, pow-mono {i = 0} {j = i} (omega arith)) in
     omega arith
 

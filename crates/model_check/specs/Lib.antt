@@ -1,4 +1,4 @@
-pub mod Scan
+pub mod Any
 pub mod Sum
 pub mod Failing
 pub mod Check

@@ -7,6 +7,8 @@ use native.Mathlib.Omega.{arith}
 use lib.IntN.{ℤ, pos, natAbs, _+ℤ_, _*ℤ_}
 use lib.Dec.{eqb}
 use lib.ListN.{getD, replicate}
+use Rattle.rules_types.specs.Limits as limit
+use Rattle.rules_types.specs.Layout as layout
 use Rattle.theory_integers.specs.Ring.{+-identityʳ, +-identityˡ, +-assoc}
 use Rattle.theory_integers.specs.Size.{abs-+-≤}
 use Rattle.rules.specs.Arithmetic.{sum, related}
@@ -14,12 +16,12 @@ use Rattle.rules.specs.Meaning.{constraintHolds}
 use Rattle.theory_vectors.specs.Amounts.{Small}
 use Rattle.theory_vectors.specs.Dot.{sum-values, sum-coefficients}
 use Rattle.rows.specs.Products.{product-≤}
-use Rattle.problem_scan.specs.Values.{valuesAt, behind, behind-is, amountAt, boundOf, constraintAt}
+use Rattle.problem_scan.specs.Values.{valuesAt, behind, amountAt, constraintAt}
 use Rattle.problem_scan.specs.Sound.{Each, Amount, each-first, each-rest}
 use Rattle.problem_clauses.specs.Passes.{values-next, behind-next}
 use Rattle.models.specs.declared.model.Model.{Model}
 use Rattle.models.specs.Model.{value, assignment}
-use Rattle.model_check.specs.Scan.{step-within}
+use Rattle.model_check.specs.Any.{step-within}
 
 -- ---- zeros behind the coefficients add 0
 pub sum-padded : (cs : List ℤ) (n : ℕ) (x : ℕ → ℤ) → sum (cs ++ replicate n (pos 0)) x ≡ sum cs x
@@ -101,10 +103,12 @@ module _ (q : List ℕ) (numerators : List ℤ) (from count at left i : ℕ) (to
             ∙ ap (λ (k : ℕ). z *ℤ value numerators k +ℤ sum rest (λ f. value numerators (i + suc f))) e
 
 -- ---- a constraint, by its sum and its bound × denominator
-module _ (q : List ℕ) (r at : ℕ) (m : Model) (s z b : ℤ) (summed : s ≡ sum (valuesAt (amountAt q) 4 r (at + 1)) (value (m .numerators)))
-    (read : z ≡ amountAt q (at + 1 + r * 4)) (scaled : b ≡ z *ℤ pos (m .denominator)) where
+module _ (q : List ℕ) (r at : ℕ) (m : Model) (s z b : ℤ)
+    (summed : s ≡ sum (valuesAt (amountAt q) 4 r (at + layout.constraintCoefficients)) (value (m .numerators)))
+    (read : z ≡ constraintAt q r at .bound) (scaled : b ≡ z *ℤ pos (m .denominator)) where
   pub holds-is : (t : Bool) → eqb (getD q at 0) 2 ≡ t → related t s b ≡ constraintHolds (assignment m) (constraintAt q r at)
-  unfolding constraintHolds constraintAt assignment boundOf
+  unfolding constraintHolds constraintAt assignment
   holds-is t e =
-      let place : z ≡ amountAt q (behind 4 r (at + 1)) = read ∙ ap (amountAt q) (sym (behind-is 4 r (at + 1))) in
-      rw (← e, ← place, sum-padded (valuesAt (amountAt q) 4 r (at + 1)) (8 - r) (value (m .numerators)), summed, scaled)
+      let cs = valuesAt (amountAt q) 4 r (at + layout.constraintCoefficients) in
+      let padded = sum-padded cs (limit.rationals - r) (value (m .numerators)) in
+      rw (← e, ← read, padded, summed, scaled)

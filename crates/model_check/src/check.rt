@@ -3,27 +3,29 @@ use crate::failing::check_clauses;
 use models::read::read_model;
 use problem_read::read::read;
 use problem_scan::cursor::Scan;
+use problem_scan::cursor::Sizes;
 use rules_types::answers::Checked;
 use rules_types::answers::Refusal;
+use rules_types::layout::FIRST_CLAUSE;
 use rules_types::limits::Limits;
 ghost use mathlib.Core.Path.{_≡_};
 ghost use Rattle.rules.specs.Calls.{modelChecked};
 ghost use Rattle.problem_read.specs.Readable.{Readable};
 
-// Of a question that was read without fault.
-fn check_readable(input: &[u8], bytes: &[u8], b: u8, r: u8, n: u64) -> Checked
-    requires { ⌜ Readable (now input) b r n ⌝ }
+// Of a problem that was read without fault.
+fn check_readable(input: &[u8], bytes: &[u8], sizes: Sizes) -> Checked
+    requires { ⌜ Readable (now input) sizes ⌝ }
     ensures { λ c. ⌜ c ≡ modelChecked (now (input .entry)) (now (bytes .entry)) ⌝ }
 {
     if bytes.len() < Limits::MODEL_BYTES {
         return Checked::Refused(Refusal::ShortModel, 0);
     }
-    let s = read_model(bytes, b, r);
+    let s = read_model(bytes, sizes.booleans, sizes.rationals);
     if !s.sound {
         return Checked::Refused(Refusal::BadModel, s.place);
     }
     let model = s.model;
-    check_clauses(input, 4, r, n, model)
+    check_clauses(input, FIRST_CLAUSE, sizes.rationals, sizes.clauses, model)
 }
 
 pub fn check_model(input: &[u8], bytes: &[u8]) -> Checked
@@ -32,6 +34,6 @@ pub fn check_model(input: &[u8], bytes: &[u8]) -> Checked
     let scan = read(input);
     match scan {
         Scan::Fault(f, place) => Checked::Refused(f, place),
-        Scan::Sound(b, r, n) => check_readable(input, bytes, b, r, n),
+        Scan::Sound(sizes) => check_readable(input, bytes, sizes),
     }
 }

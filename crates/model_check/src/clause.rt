@@ -3,13 +3,16 @@ use crate::constraint::constraint_holds;
 use crate::literal::literal_holds;
 use models::model::Model;
 use problem_clauses::places::count_place;
+use rules_types::layout::constraint_bytes;
 ghost use mathlib.Core.Path.{_≡_};
 ghost use Prim.Native.Nat.{_+_, _*_, _≤_};
 ghost use lib.ListN.{length};
+ghost use Rattle.rules_types.specs.Limits.{rationals};
+ghost use Rattle.rules_types.specs.Layout.{constraintBytes};
 ghost use Rattle.rules.specs.Lists.{any};
 ghost use Rattle.rules.specs.Meaning.{literalHolds, constraintHolds, clauseHolds};
 ghost use Rattle.theory_vectors.specs.Amounts.{Amounts};
-ghost use Rattle.problem_scan.specs.Values.{valuesAt, behind, literalAt, constraintAt, clauseAt};
+ghost use Rattle.problem_scan.specs.Values.{valuesAt, behind, literalAt, constraintAt, constraintsAt, clauseAt};
 ghost use Rattle.problem_scan.specs.Sound.{Each, SoundConstraint, SoundClause};
 ghost use Rattle.models.specs.Model.{assignment};
 
@@ -32,13 +35,13 @@ fn any_literal(q: &[u8], from: usize, count: u8, model: Model) -> bool
 
 // Of so many constraints.
 fn any_constraint(q: &[u8], from: usize, r: u8, count: u8, model: Model) -> bool
-    requires { ⌜ r ≤ 8 ⌝ }
-    requires { ⌜ behind (5 + r * 4) count from ≤ length (now q) ⌝ }
-    requires { ⌜ Each (SoundConstraint (now q) r) (5 + r * 4) count from ⌝ }
+    requires { ⌜ r ≤ rationals ⌝ }
+    requires { ⌜ behind (constraintBytes r) count from ≤ length (now q) ⌝ }
+    requires { ⌜ Each (SoundConstraint (now q) r) (constraintBytes r) count from ⌝ }
     requires { ⌜ Amounts (model .numerators) ⌝ }
-    ensures { λ t. ⌜ t ≡ any (constraintHolds (assignment model)) (valuesAt (constraintAt (now (q .entry)) r) (5 + r * 4) count from) ⌝ }
+    ensures { λ t. ⌜ t ≡ any (constraintHolds (assignment model)) (constraintsAt (now (q .entry)) r count from) ⌝ }
 {
-    let size = 5 + (r as usize) * 4;
+    let size = constraint_bytes(r);
     let mut at = from;
     let mut left = count;
     while 0 < left {
@@ -52,7 +55,7 @@ fn any_constraint(q: &[u8], from: usize, r: u8, count: u8, model: Model) -> bool
 }
 
 pub fn clause_holds(q: &[u8], at: usize, r: u8, model: Model) -> bool
-    requires { ⌜ r ≤ 8 ⌝ }
+    requires { ⌜ r ≤ rationals ⌝ }
     requires { ⌜ SoundClause (now q) r at ⌝ }
     requires { ⌜ Amounts (model .numerators) ⌝ }
     ensures { λ t. ⌜ t ≡ clauseHolds (assignment model) (clauseAt (now (q .entry)) r at) ⌝ }

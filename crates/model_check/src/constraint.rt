@@ -1,11 +1,16 @@
 // Whether a constraint holds: "compares the sum of coefficient × numerator with bound × denominator".
 use fields::amount_at;
 use models::model::Model;
+use problem_clauses::constraint::bound_of;
+use problem_clauses::constraint::is_strict;
 use rows::product::plus_product;
 use rows::product::scaled;
+use rules_types::layout::CONSTRAINT_COEFFICIENTS;
+use rules_types::limits::Limits;
 ghost use mathlib.Core.Path.{_≡_};
 ghost use Prim.Native.Nat.{_+_, _≤_};
 ghost use lib.ListN.{length};
+ghost use Rattle.rules_types.specs.Limits.{rationals};
 ghost use Rattle.rules.specs.Arithmetic.{sum};
 ghost use Rattle.rules.specs.Meaning.{constraintHolds};
 ghost use Rattle.theory_vectors.specs.Amounts.{Amounts};
@@ -14,8 +19,8 @@ ghost use Rattle.problem_scan.specs.Sound.{Each, Amount, SoundConstraint};
 ghost use Rattle.models.specs.Model.{assignment, value};
 
 // Of so many coefficients.
-fn sum(q: &[u8], from: usize, count: u8, numerators: [i64; 8]) -> i64
-    requires { ⌜ count ≤ 8 ⌝ }
+fn sum(q: &[u8], from: usize, count: u8, numerators: [i64; Limits::RATIONALS]) -> i64
+    requires { ⌜ count ≤ rationals ⌝ }
     requires { ⌜ behind 4 count from ≤ length (now q) ⌝ }
     requires { ⌜ Each (Amount (now q)) 4 count from ⌝ }
     requires { ⌜ Amounts numerators ⌝ }
@@ -37,15 +42,15 @@ fn sum(q: &[u8], from: usize, count: u8, numerators: [i64; 8]) -> i64
 }
 
 pub fn constraint_holds(q: &[u8], at: usize, r: u8, model: Model) -> bool
-    requires { ⌜ r ≤ 8 ⌝ }
+    requires { ⌜ r ≤ rationals ⌝ }
     requires { ⌜ SoundConstraint (now q) r at ⌝ }
     requires { ⌜ Amounts (model .numerators) ⌝ }
     ensures { λ t. ⌜ t ≡ constraintHolds (assignment model) (constraintAt (now (q .entry)) r at) ⌝ }
 {
     let numerators = model.numerators;
-    let s = sum(q, at + 1, r, numerators);
-    let b = scaled(amount_at(q, at + 1 + (r as usize) * 4), model.denominator);
-    if q[at] == 2 {
+    let s = sum(q, at + CONSTRAINT_COEFFICIENTS, r, numerators);
+    let b = scaled(bound_of(q, at, r), model.denominator);
+    if is_strict(q, at) {
         return s < b;
     }
     s <= b

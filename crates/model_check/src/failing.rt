@@ -5,6 +5,7 @@ use problem_clauses::places::next;
 use rules_types::answers::Checked;
 ghost use mathlib.Core.Path.{_≡_};
 ghost use Prim.Native.Nat.{_≤_};
+ghost use Rattle.rules_types.specs.Limits.{rationals};
 ghost use Rattle.rules.specs.Checker.{checkClauses};
 ghost use Rattle.theory_vectors.specs.Amounts.{Amounts};
 ghost use Rattle.models.specs.Model.{assignment};
@@ -13,7 +14,7 @@ ghost use Rattle.problem_scan.specs.Sound.{SoundClauses};
 
 // Of so many clauses, numbered from 0.
 pub fn check_clauses(q: &[u8], from: usize, r: u8, count: u64, model: Model) -> Checked
-    requires { ⌜ r ≤ 8 ⌝ }
+    requires { ⌜ r ≤ rationals ⌝ }
     requires { ⌜ SoundClauses (now q) r count from ⌝ }
     requires { ⌜ Amounts (model .numerators) ⌝ }
     ensures { λ c. ⌜ c ≡ checkClauses (assignment model) 0 (clausesAt (now (q .entry)) r count from) ⌝ }

@@ -1,9 +1,11 @@
 // Whether a literal holds.
 use masks::member;
 use models::model::Model;
+use rules_types::limits::Limits;
 ghost use mathlib.Core.Path.{_≡_};
 ghost use mathlib.Core.Bool.{false};
 ghost use lib.ListN.{getD};
+ghost use Rattle.rules_types.specs.Limits.{allBooleans};
 ghost use Rattle.rules.specs.Meaning.{literalHolds};
 ghost use Rattle.masks.specs.Mask.{bits};
 ghost use Rattle.problem_clauses.specs.Literals.{literalOf};
@@ -11,9 +13,9 @@ ghost use Rattle.models.specs.Model.{assignment};
 
 // Whether a Boolean variable is yes; those from 32 on are no.
 fn is_yes(mask: u32, i: usize) -> bool
-    ensures { λ t. ⌜ t ≡ getD (bits 32 mask) i false ⌝ }
+    ensures { λ t. ⌜ t ≡ getD (bits allBooleans mask) i false ⌝ }
 {
-    if 32 <= i {
+    if Limits::ALL_BOOLEANS <= i {
         return false;
     }
     member(mask, i)

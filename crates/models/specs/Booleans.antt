@@ -8,6 +8,7 @@ use borrow.Author.Tests.{le-leb, lt-leb}
 use lib.Dec.{eqb, leb}
 use lib.ListN.{length, drop, getD, set}
 use lib.Seq.{getD-set-same, getD-set-other}
+use Rattle.rules_types.specs.Limits as limit
 use Rattle.rules_types.specs.declared.answers.Refusal.the-variants as refusal
 use Rattle.rules.specs.Problem.{Reader, repeat, field}
 use Rattle.rules.specs.Lines.{Booleans, including}
@@ -34,7 +35,7 @@ bytesAt s count from = valuesAt (λ at. getD s at 0) 1 count from
 pub record ReadBooleans (s : List ℕ) (from count : ℕ) (f : Flags) : Type 0 where
   pub same : repeat count flag (drop from s) from ≡ reading s (f .sound) (f .place) (bytesAt s count from)
   pub end : f .sound ≡ true → f .place ≡ from + count
-  pub members : f .sound ≡ true → (j : ℕ) → getD (bits 32 (f .mask)) j false ≡ eqb (getD (bytesAt s count from) j 0) 1
+  pub members : f .sound ≡ true → (j : ℕ) → getD (bits limit.allBooleans (f .mask)) j false ≡ eqb (getD (bytesAt s count from) j 0) 1
 
 flag-tested : (s : List ℕ) → Tested s flag 1 (λ at. leb (getD s at 0) 1) (λ at. getD s at 0)
 unfolding flag
@@ -64,23 +65,23 @@ module _ (i byte : ℕ) (s : Booleans) where
 -- ---- the loop: the first i bytes are 0 or 1, and those that are 1 are members
 pub record FlagsTo (s : List ℕ) (from i mask : ℕ) : Type 0 where
   pub filled : Filled (λ j. leb (getD s (from + j * 1) 0) 1) (λ j. eqb (getD s (from + j * 1) 0) 1) false i
-      (λ j. getD (bits 32 mask) j false)
+      (λ j. getD (bits limit.allBooleans mask) j false)
 
 module _ {s : List ℕ} {from : ℕ} where
   pub flags-none : FlagsTo s from 0 0
   unfolding bits
-  flags-none = record { filled = filled-none (λ j. getD-replicate-same 32 j false) }
+  flags-none = record { filled = filled-none (λ j. getD-replicate-same limit.allBooleans j false) }
 
-  pub flags-more : {i mask : ℕ} (m : ℕ) → FlagsTo s from i mask → i < 32 → getD s (from + i) 0 ≤ 1
-      → bits 32 m ≡ joined i (getD s (from + i) 0) (bits 32 mask) → FlagsTo s from (i + 1) m
+  pub flags-more : {i mask : ℕ} (m : ℕ) → FlagsTo s from i mask → i < limit.allBooleans → getD s (from + i) 0 ≤ 1
+      → bits limit.allBooleans m ≡ joined i (getD s (from + i) 0) (bits limit.allBooleans mask) → FlagsTo s from (i + 1) m
   flags-more {i} {mask} m f l t e =
       let p : from + i ≡ from + i * 1 = omega arith in
-      let k : i < length (bits 32 mask) = omega (arith, length-bits 32 mask) in
+      let k : i < length (bits limit.allBooleans mask) = omega (arith, length-bits limit.allBooleans mask) in
       record {
         filled = filled-more (f .filled) (rw (sym p) (le-leb (getD s (from + i) 0) 1 t))
-            (rw e (joined-here i (getD s (from + i) 0) (bits 32 mask) k (f .filled .beyond i (omega arith)))
+            (rw e (joined-here i (getD s (from + i) 0) (bits limit.allBooleans mask) k (f .filled .beyond i (omega arith)))
             ∙ ap (λ (at : ℕ). eqb (getD s at 0) 1) p)
-            (λ j o. rw e (joined-other i (getD s (from + i) 0) (bits 32 mask) j o));
+            (λ j o. rw e (joined-other i (getD s (from + i) 0) (bits limit.allBooleans mask) j o));
       }
 
   pub flags-bad : {i mask count : ℕ} → FlagsTo s from i mask → i < count → from + count ≤ length s → 1 < getD s (from + i) 0

@@ -6,6 +6,8 @@ use native.Mathlib.Numerals.{add-one}
 use native.Mathlib.Omega.{arith}
 use lib.ListN.{length, set, drop, replicate, length-append}
 use lib.Seq.{sets-eq}
+use Rattle.rules_types.specs.Limits as limit
+use Rattle.rules_types.specs.Layout as layout
 use Rattle.rules.specs.Lists.{tabulate}
 use Rattle.rules.specs.Bytes.{toBytes, amountBytes, padded}
 use Rattle.rules.specs.Model.{booleanByte, encodeModel}
@@ -28,7 +30,7 @@ drop-zeros zero (suc k) = let e : 0 - suc k ≡ 0 = omega arith in ap (λ (m : �
 drop-zeros (suc n) (suc k) = let e : suc n - suc k ≡ n - k = omega arith in drop-zeros n k ∙ ap (λ (m : ℕ). replicate {A = ℕ} m 0) (sym e)
 
 -- ---- all parts, over zeros
-module _ (b r : ℕ) (χ : Assignment) (hb : b ≤ 16) (hr : r ≤ 8) where
+module _ (b r : ℕ) (χ : Assignment) (hb : b ≤ limit.booleans) (hr : r ≤ limit.rationals) where
   abbrev booleans : List ℕ
   booleans = tabulate b (λ i. booleanByte (χ .booleans i))
 
@@ -39,36 +41,36 @@ module _ (b r : ℕ) (χ : Assignment) (hb : b ≤ 16) (hr : r ≤ 8) where
   denominator = toBytes 4 (χ .denominator)
 
   abbrev zeros : List ℕ
-  zeros = replicate 64 0
+  zeros = replicate limit.modelBytes 0
 
-  over-zeros : (x : List ℕ) → stored 0 x zeros ≡ padded 64 x
+  over-zeros : (x : List ℕ) → stored 0 x zeros ≡ padded limit.modelBytes x
   unfolding padded
   over-zeros x = let e : 0 + length x ≡ length x = omega arith in ap (λ (k : ℕ). x ++ drop k zeros) e
-      ∙ ap (λ (y : List ℕ). x ++ y) (drop-zeros 64 (length x))
+      ∙ ap (λ (y : List ℕ). x ++ y) (drop-zeros limit.modelBytes (length x))
 
   front : (k : ℕ) (x y : List ℕ) → length x ≡ k → stored k y (stored 0 x zeros) ≡ stored 0 (x ++ y) zeros
   front k x y e = let i : 0 + length x ≡ k = omega arith in ap (λ (i : ℕ). stored i y (stored 0 x zeros)) (sym i)
       ∙ stored-++ 0 x y zeros (omega arith)
 
-  pub encoded-is : stored (1 + b + 5) numerators
-      (stored (1 + b + 1) denominator (set (stored 1 booleans (set zeros 0 b)) (1 + b) r)) ≡ encodeModel b r χ
+  pub encoded-is : stored (layout.modelNumerators b) numerators
+      (stored (layout.modelDenominator b) denominator (set (stored layout.modelFlags booleans (set zeros layout.modelBooleans b)) (layout.modelRationals b) r)) ≡ encodeModel b r χ
   unfolding encodeModel padded
   encoded-is =
       let two = b ∷ booleans in
       let three = two ++ (r ∷ []) in
       let four = three ++ denominator in
-      let l₂ : length two ≡ 1 + b = omega (arith, length-tabulate b (λ i. booleanByte (χ .booleans i))) in
-      let l₃ : length three ≡ 1 + b + 1 = length-append two (r ∷ []) ∙ omega arith in
-      let l₄ : length four ≡ 1 + b + 5 = length-append three denominator ∙ omega (arith, length-toBytes 4 (χ .denominator)) in
-      let l₅ : length (four ++ numerators) ≤ 64 = rw (length-append four numerators)
+      let l₂ : length two ≡ layout.modelRationals b = omega (arith, length-tabulate b (λ i. booleanByte (χ .booleans i))) in
+      let l₃ : length three ≡ layout.modelDenominator b = length-append two (r ∷ []) ∙ omega arith in
+      let l₄ : length four ≡ layout.modelNumerators b = length-append three denominator ∙ omega (arith, length-toBytes 4 (χ .denominator)) in
+      let l₅ : length (four ++ numerators) ≤ limit.modelBytes = rw (length-append four numerators)
       (omega (arith, length-amountBytes (tabulate r (χ .numerators)), length-tabulate r (χ .numerators))) in
-      let s₃ : set (stored 0 two zeros) (1 + b) r ≡ stored 0 three zeros =
-      byte-stored 0 (1 + b) r two zeros (omega arith) (rw (length-stored 0 two zeros (omega arith)) (omega arith)) (omega arith) in
-      let first : stored 1 booleans (set zeros 0 b) ≡ stored 0 two zeros = ap (stored 1 booleans) (sets-eq (b ∷ []) zeros 0 (omega arith))
-      ∙ front 1 (b ∷ []) booleans refl in
-      ap (λ (s : List ℕ). stored (1 + b + 5) numerators (stored (1 + b + 1) denominator (set s (1 + b) r))) first
-      ∙ ap (λ (s : List ℕ). stored (1 + b + 5) numerators (stored (1 + b + 1) denominator s)) s₃
-      ∙ ap (stored (1 + b + 5) numerators) (front (1 + b + 1) three denominator l₃)
-      ∙ front (1 + b + 5) four numerators l₄
+      let s₃ : set (stored 0 two zeros) (layout.modelRationals b) r ≡ stored 0 three zeros =
+      byte-stored 0 (layout.modelRationals b) r two zeros (omega arith) (rw (length-stored 0 two zeros (omega arith)) (omega arith)) (omega arith) in
+      let first : stored layout.modelFlags booleans (set zeros layout.modelBooleans b) ≡ stored 0 two zeros = ap (stored layout.modelFlags booleans) (sets-eq (b ∷ []) zeros 0 (omega arith))
+      ∙ front layout.modelFlags (b ∷ []) booleans refl in
+      ap (λ (s : List ℕ). stored (layout.modelNumerators b) numerators (stored (layout.modelDenominator b) denominator (set s (layout.modelRationals b) r))) first
+      ∙ ap (λ (s : List ℕ). stored (layout.modelNumerators b) numerators (stored (layout.modelDenominator b) denominator s)) s₃
+      ∙ ap (stored (layout.modelNumerators b) numerators) (front (layout.modelDenominator b) three denominator l₃)
+      ∙ front (layout.modelNumerators b) four numerators l₄
       ∙ over-zeros (four ++ numerators)
-      ∙ ap (λ (x : List ℕ). padded 64 (x ++ numerators)) (append-assoc two (r ∷ []) denominator)
+      ∙ ap (λ (x : List ℕ). padded limit.modelBytes (x ++ numerators)) (append-assoc two (r ∷ []) denominator)

@@ -4,6 +4,7 @@ use mathlib.Core.List.{List}
 use Prim.Native.Nat.{ℕ}
 use lib.IntN.{ℤ, pos}
 use lib.ListN.{getD}
+use Rattle.rules_types.specs.Limits as limit
 use Rattle.rules.specs.Meaning.{Assignment}
 use Rattle.masks.specs.Mask.{bits}
 use Rattle.models.specs.declared.model.Model.{Model}
@@ -14,7 +15,7 @@ value numerators f = getD numerators f (pos 0)
 
 unfoldable pub assignment : Model → Assignment
 assignment m = record {
-  booleans = λ i. getD (bits 32 (m .booleans)) i false;
+  booleans = λ i. getD (bits limit.allBooleans (m .booleans)) i false;
   numerators = value (m .numerators);
   denominator = m .denominator;
 }

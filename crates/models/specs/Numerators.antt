@@ -41,8 +41,8 @@ pub record RowTo (s : List ℕ) (from i : ℕ) (out : List ℤ) : Type 0 where
   pub filled : Filled (λ j. inRange (amountAt s (from + j * 4))) (λ j. amountAt s (from + j * 4)) (pos 0) i (λ j. getD out j (pos 0))
 
 module _ {s : List ℕ} {from : ℕ} where
-  pub row-none : RowTo s from 0 (replicate 8 (pos 0))
-  row-none = record { filled = filled-none (λ j. getD-replicate-same 8 j (pos 0)) }
+  pub row-none : RowTo s from 0 (replicate limit.rationals (pos 0))
+  row-none = record { filled = filled-none (λ j. getD-replicate-same limit.rationals j (pos 0)) }
 
   pub row-more : {i : ℕ} {out : List ℤ} (z : ℤ) → RowTo s from i out → i < length out → z ≡ amountAt s (from + i * 4) → inRange z ≡ true
       → RowTo s from (i + 1) (set out i z)

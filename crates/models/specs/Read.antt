@@ -1,4 +1,4 @@
--- A whole sheet: the definition of reading by its fields, a law for each way it can go.
+-- A whole model: the definition of reading by its fields, a law for each way it can go.
 use mathlib.Core.Path.{_≡_, sym, ap, _∙_}
 use mathlib.Core.Bool.{Bool, true, false, _&&_}
 use mathlib.Core.List.{List}
@@ -12,6 +12,7 @@ use mir.Facts.{and-yes}
 use Rattle.rules_types.specs.declared.answers.Refusal.{Refusal}
 use Rattle.rules_types.specs.declared.answers.Refusal.the-variants as refusal
 use Rattle.rules_types.specs.Limits as limit
+use Rattle.rules_types.specs.Layout as layout
 use Rattle.rules.specs.Bytes.{fieldAt}
 use Rattle.rules.specs.Problem.{fault, got, Reader, after, _>>=_, return, repeat, field, amount}
 use Rattle.rules.specs.Meaning.{Assignment}
@@ -33,7 +34,11 @@ unfoldable pub isDenominator : ℕ → Bool
 isDenominator n = leb 1 n && leb n limit.amount
 
 unfoldable pub refused : ℕ → ModelRead
-refused place = record { sound = false; place = place; model = record { booleans = 0; numerators = replicate 8 (pos 0); denominator = 1 } }
+refused place = record {
+  sound = false;
+  place = place;
+  model = record { booleans = 0; numerators = replicate limit.rationals (pos 0); denominator = 1 };
+}
 
 -- what the definition reads, and what evaluation asks of a model
 pub record ReadModel (s : List ℕ) (b r : ℕ) (back : ModelRead) : Type 0 where
@@ -43,7 +48,7 @@ pub record ReadModel (s : List ℕ) (b r : ℕ) (back : ModelRead) : Type 0 wher
 
 pub read-refused : (s : List ℕ) (b r place : ℕ) → model b r s 0 ≡ fault refusal.BadModel place → ReadModel s b r (refused place)
 unfolding reading refused
-read-refused s b r place e = record { same = e; numerators = zeros-amounts 8; denominator = (omega arith, omega arith) }
+read-refused s b r place e = record { same = e; numerators = zeros-amounts limit.rationals; denominator = (omega arith, omega arith) }
 
 -- ---- a field that is there, and what comes next
 module _ {A : Type 0} (s : List ℕ) (k : ℕ) (good : ℕ → Bool) (f : Refusal) (at : ℕ) (next : ℕ → Reader A) (h : at + k ≤ length s) where
@@ -55,7 +60,7 @@ module _ {A : Type 0} (s : List ℕ) (k : ℕ) (good : ℕ → Bool) (f : Refusa
   unfolding after
   goes e = rw (field-good s k good f at h e)
 
--- ---- the rest of the sheet, behind the Boolean variables; behind r; and behind the denominator
+-- ---- the rest of the model, behind the Boolean variables; behind r; and behind the denominator
 module _ (r : ℕ) (booleans : List ℕ) where
   unfoldable numeratorsAfter : ℕ → Reader Assignment
   numeratorsAfter denominator = do
@@ -71,82 +76,83 @@ module _ (r : ℕ) (booleans : List ℕ) where
 -- ---- field by field
 -- what a caller sees to
 pub record Sized (s : List ℕ) (b r : ℕ) : Type 0 where
-  pub long : 64 ≤ length s
-  pub booleans : b ≤ 16
-  pub rationals : r ≤ 8
+  pub long : limit.modelBytes ≤ length s
+  pub booleans : b ≤ limit.booleans
+  pub rationals : r ≤ limit.rationals
 
--- b is the question's, and the Boolean variables were read
+-- b is the problem's, and the Boolean variables were read
 pub record BooleansRead (s : List ℕ) (b r : ℕ) (flags : Flags) : Type 0 where
   pub sized : Sized s b r
-  pub count : getD s 0 0 ≡ b
-  pub given : ReadBooleans s 1 b flags
+  pub count : getD s layout.modelBooleans 0 ≡ b
+  pub given : ReadBooleans s layout.modelFlags b flags
 
--- they are sound, and r is the question's
+-- they are sound, and r is the problem's
 pub record RationalsAhead (s : List ℕ) (b r : ℕ) (flags : Flags) : Type 0 where
   pub booleans : BooleansRead s b r flags
   pub sound : flags .sound ≡ true
-  pub count : getD s (1 + b) 0 ≡ r
+  pub count : getD s (layout.modelRationals b) 0 ≡ r
 
 -- the denominator is within its limits, and the numerators were read
 pub record RationalsRead (s : List ℕ) (b r : ℕ) (flags : Flags) (row : Row) : Type 0 where
   pub ahead : RationalsAhead s b r flags
-  pub denominator : isDenominator (fieldAt (1 + b + 1) 4 s) ≡ true
-  pub given : ReadNumerators s (1 + b + 5) r row
+  pub denominator : isDenominator (fieldAt (layout.modelDenominator b) 4 s) ≡ true
+  pub given : ReadNumerators s (layout.modelNumerators b) r row
 
 module _ {s : List ℕ} {b r : ℕ} where
-  r-there : Sized s b r → 1 + b < length s
+  r-there : Sized s b r → layout.modelRationals b < length s
   r-there h = omega (arith, h .long, h .booleans)
 
-  denominator-there : Sized s b r → 1 + b + 1 + 4 ≤ length s
+  denominator-there : Sized s b r → layout.modelDenominator b + 4 ≤ length s
   denominator-there h = omega (arith, h .long, h .booleans)
 
-  pub booleans-differ : Sized s b r → (getD s 0 0 ≡ b → ⊥) → model b r s 0 ≡ fault refusal.BadModel 0
+  pub booleans-differ : Sized s b r → (getD s layout.modelBooleans 0 ≡ b → ⊥) → model b r s 0 ≡ fault refusal.BadModel layout.modelBooleans
   unfolding model
-  booleans-differ h n = stops s 1 (eqb b) refusal.BadModel 0 _ (omega (arith, h .long))
-      (rw (fieldAt-1 0 s (omega (arith, h .long))) (ne-eqb b (getD s 0 0) (λ e. n (sym e))))
+  booleans-differ h n = stops s 1 (eqb b) refusal.BadModel layout.modelBooleans _ (omega (arith, h .long))
+      (rw (fieldAt-1 layout.modelBooleans s (omega (arith, h .long))) (ne-eqb b (getD s layout.modelBooleans 0) (λ e. n (sym e))))
 
   module _ {flags : Flags} where
-    booleans-on : BooleansRead s b r flags → model b r s 0 ≡ after (repeat b flag (drop 1 s) 1) (rationalsOn r)
+    booleans-on : BooleansRead s b r flags → model b r s 0 ≡ after (repeat b flag (drop layout.modelFlags s) layout.modelFlags) (rationalsOn r)
     unfolding model flag rationalsOn denominatorOn numeratorsAfter isDenominator
     booleans-on h =
-        let l : 0 + 1 ≤ length s = omega (arith, h .sized .long) in
-        goes s 1 (eqb b) refusal.BadModel 0 _ l (rw (fieldAt-1 0 s l) (eq-eqb b (getD s 0 0) (sym (h .count))))
+        let l : layout.modelBooleans + 1 ≤ length s = omega (arith, h .sized .long) in
+        goes s 1 (eqb b) refusal.BadModel layout.modelBooleans _ l (rw (fieldAt-1 layout.modelBooleans s l) (eq-eqb b (getD s layout.modelBooleans 0) (sym (h .count))))
 
     pub boolean-bad : BooleansRead s b r flags → flags .sound ≡ false → model b r s 0 ≡ fault refusal.BadModel (flags .place)
     unfolding reading after
     boolean-bad h e = booleans-on h ∙ rw (h .given .same, e)
 
-    rationals-on : BooleansRead s b r flags → flags .sound ≡ true → model b r s 0 ≡ rationalsOn r (bytesAt s b 1) (drop (1 + b) s) (1 + b)
+    rationals-on : BooleansRead s b r flags → flags .sound ≡ true → model b r s 0 ≡ rationalsOn r (bytesAt s b layout.modelFlags) (drop (layout.modelRationals b) s) (layout.modelRationals b)
     unfolding reading after
     rationals-on h e = booleans-on h ∙ rw (h .given .same, e, h .given .end e)
 
-    pub rationals-differ : BooleansRead s b r flags → flags .sound ≡ true → (getD s (1 + b) 0 ≡ r → ⊥)
-        → model b r s 0 ≡ fault refusal.BadModel (1 + b)
+    pub rationals-differ : BooleansRead s b r flags → flags .sound ≡ true → (getD s (layout.modelRationals b) 0 ≡ r → ⊥)
+        → model b r s 0 ≡ fault refusal.BadModel (layout.modelRationals b)
     unfolding rationalsOn
     rationals-differ h e n =
         let l = r-there (h .sized) in
-        rationals-on h e ∙ stops s 1 (eqb r) refusal.BadModel (1 + b) _ (omega arith)
-        (rw (fieldAt-1 (1 + b) s l) (ne-eqb r (getD s (1 + b) 0) (λ e. n (sym e))))
+        rationals-on h e ∙ stops s 1 (eqb r) refusal.BadModel (layout.modelRationals b) _ (omega arith)
+        (rw (fieldAt-1 (layout.modelRationals b) s l) (ne-eqb r (getD s (layout.modelRationals b) 0) (λ e. n (sym e))))
 
-    denominator-on : RationalsAhead s b r flags → model b r s 0 ≡ denominatorOn r (bytesAt s b 1) (drop (1 + b + 1) s) (1 + b + 1)
+    denominator-on : RationalsAhead s b r flags → model b r s 0 ≡ denominatorOn r (bytesAt s b layout.modelFlags) (drop (layout.modelDenominator b) s) (layout.modelDenominator b)
     unfolding rationalsOn
     denominator-on h =
         let l = r-there (h .booleans .sized) in
-        rationals-on (h .booleans) (h .sound) ∙ goes s 1 (eqb r) refusal.BadModel (1 + b) _ (omega arith)
-        (rw (fieldAt-1 (1 + b) s l) (eq-eqb r (getD s (1 + b) 0) (sym (h .count))))
+        let e : layout.modelRationals b + 1 ≡ layout.modelDenominator b = omega arith in
+        rationals-on (h .booleans) (h .sound) ∙ goes s 1 (eqb r) refusal.BadModel (layout.modelRationals b) _ (omega arith)
+        (rw (fieldAt-1 (layout.modelRationals b) s l) (eq-eqb r (getD s (layout.modelRationals b) 0) (sym (h .count)))) ∙ rw e
 
-    pub denominator-bad : RationalsAhead s b r flags → isDenominator (fieldAt (1 + b + 1) 4 s) ≡ false
-        → model b r s 0 ≡ fault refusal.BadModel (1 + b + 1)
+    pub denominator-bad : RationalsAhead s b r flags → isDenominator (fieldAt (layout.modelDenominator b) 4 s) ≡ false
+        → model b r s 0 ≡ fault refusal.BadModel (layout.modelDenominator b)
     unfolding denominatorOn
     denominator-bad h e = denominator-on h
-        ∙ stops s 4 isDenominator refusal.BadModel (1 + b + 1) _ (denominator-there (h .booleans .sized)) e
+        ∙ stops s 4 isDenominator refusal.BadModel (layout.modelDenominator b) _ (denominator-there (h .booleans .sized)) e
 
     module _ {row : Row} (h : RationalsRead s b r flags row) where
-      numerators-on : model b r s 0 ≡ numeratorsAfter r (bytesAt s b 1) (fieldAt (1 + b + 1) 4 s) (drop (1 + b + 5) s) (1 + b + 5)
+      numerators-on : model b r s 0 ≡ numeratorsAfter r (bytesAt s b layout.modelFlags) (fieldAt (layout.modelDenominator b) 4 s) (drop (layout.modelNumerators b) s) (layout.modelNumerators b)
       unfolding denominatorOn
       numerators-on =
-          let e : 1 + b + 1 + 4 ≡ 1 + b + 5 = omega arith in
-          denominator-on (h .ahead) ∙ goes s 4 isDenominator refusal.BadModel (1 + b + 1) _
+          let e : layout.modelDenominator b + 4 ≡ layout.modelNumerators b = omega arith in
+          denominator-on (h .ahead) ∙ goes s 4 isDenominator refusal.BadModel (layout.modelDenominator b) _
           (denominator-there (h .ahead .booleans .sized)) (h .denominator) ∙ rw e
 
       pub numerator-bad : row .sound ≡ false → model b r s 0 ≡ fault refusal.BadModel (row .place)
@@ -157,26 +163,26 @@ module _ {s : List ℕ} {b r : ℕ} where
           → ReadModel s b r (record {
             sound = true;
             place = row .place;
-            model = record { booleans = flags .mask; numerators = row .numerators; denominator = fieldAt (1 + b + 1) 4 s };
+            model = record { booleans = flags .mask; numerators = row .numerators; denominator = fieldAt (layout.modelDenominator b) 4 s };
           })
       unfolding numeratorsAfter reading after isDenominator assignment value
       model-read e =
-          let d = and-yes (leb 1 (fieldAt (1 + b + 1) 4 s)) (leb (fieldAt (1 + b + 1) 4 s) limit.amount)
-          (of-true (isDenominator (fieldAt (1 + b + 1) 4 s)) (h .denominator)) in
+          let d = and-yes (leb 1 (fieldAt (layout.modelDenominator b) 4 s)) (leb (fieldAt (layout.modelDenominator b) 4 s) limit.amount)
+          (of-true (isDenominator (fieldAt (layout.modelDenominator b) 4 s)) (h .denominator)) in
           record {
             same = numerators-on ∙ rw (h .given .same, e) (ap (λ (χ : Assignment). got χ (drop (row .place) s) (row .place)) (made e));
             numerators = h .given .small;
-            denominator = (leb→le 1 (fieldAt (1 + b + 1) 4 s) (d .0), leb→le (fieldAt (1 + b + 1) 4 s) limit.amount (d .1));
+            denominator = (leb→le 1 (fieldAt (layout.modelDenominator b) 4 s) (d .0), leb→le (fieldAt (layout.modelDenominator b) 4 s) limit.amount (d .1));
           }
         where
           made : row .sound ≡ true → record {
-            booleans = λ i. eqb (getD (bytesAt s b 1) i 0) 1;
-            numerators = λ f. getD (valuesAt (amountAt s) 4 r (1 + b + 5)) f (pos 0);
-            denominator = fieldAt (1 + b + 1) 4 s;
+            booleans = λ i. eqb (getD (bytesAt s b layout.modelFlags) i 0) 1;
+            numerators = λ f. getD (valuesAt (amountAt s) 4 r (layout.modelNumerators b)) f (pos 0);
+            denominator = fieldAt (layout.modelDenominator b) 4 s;
           }
-              ≡ assignment (record { booleans = flags .mask; numerators = row .numerators; denominator = fieldAt (1 + b + 1) 4 s })
+              ≡ assignment (record { booleans = flags .mask; numerators = row .numerators; denominator = fieldAt (layout.modelDenominator b) 4 s })
           made e = λ j. record {
             booleans = λ i. sym (h .ahead .booleans .given .members (h .ahead .sound) i) j;
             numerators = λ f. sym (h .given .values e f) j;
-            denominator = fieldAt (1 + b + 1) 4 s;
+            denominator = fieldAt (layout.modelDenominator b) 4 s;
           }

@@ -3,6 +3,7 @@ use masks::with;
 ghost use mathlib.Core.Path.{_≡_};
 ghost use Prim.Native.Nat.{_+_, _≤_};
 ghost use lib.ListN.{length};
+ghost use Rattle.rules_types.specs.Limits.{allBooleans, booleans};
 ghost use Rattle.masks.specs.Mask.{bits};
 ghost use Rattle.models.specs.Booleans.{joined, ReadBooleans};
 
@@ -15,7 +16,7 @@ pub struct Flags {
 
 // With variable i, where its byte is 1.
 fn joined(mask: u32, i: usize, byte: u8) -> u32
-    ensures { λ m. ⌜ bits 32 m ≡ joined i byte (bits 32 mask) ⌝ }
+    ensures { λ m. ⌜ bits allBooleans m ≡ joined i byte (bits allBooleans mask) ⌝ }
 {
     if byte == 1 {
         return with(mask, i);
@@ -26,7 +27,7 @@ fn joined(mask: u32, i: usize, byte: u8) -> u32
 // So many bytes.
 pub fn booleans(s: &[u8], from: usize, count: u8) -> Flags
     requires { ⌜ from + count ≤ length (now s) ⌝ }
-    requires { ⌜ count ≤ 16 ⌝ }
+    requires { ⌜ count ≤ booleans ⌝ }
     ensures { λ f. ⌜ ReadBooleans (now (s .entry)) from count f ⌝ }
 {
     let end = from + count as usize;

@@ -1,24 +1,26 @@
 // "r numerators of four bytes" as a row.
 use fields::amount_at;
 use machine::sign::in_range;
+use rules_types::limits::Limits;
 ghost use Prim.Native.Nat.{_+_, _*_, _≤_};
 ghost use lib.ListN.{length};
+ghost use Rattle.rules_types.specs.Limits.{rationals};
 ghost use Rattle.models.specs.Numerators.{ReadNumerators};
 
 // Zeros behind the numerators. Where one is refused, its place.
 pub struct Row {
     pub sound: bool,
     pub place: usize,
-    pub numerators: [i64; 8],
+    pub numerators: [i64; Limits::RATIONALS],
 }
 
 // So many numerators.
 pub fn numerators(s: &[u8], from: usize, count: u8) -> Row
     requires { ⌜ from + count * 4 ≤ length (now s) ⌝ }
-    requires { ⌜ count ≤ 8 ⌝ }
+    requires { ⌜ count ≤ rationals ⌝ }
     ensures { λ row. ⌜ ReadNumerators (now (s .entry)) from count row ⌝ }
 {
-    let mut out = [0 as i64; 8];
+    let mut out = [0 as i64; Limits::RATIONALS];
     let mut i: usize = 0;
     while i < count as usize {
         let at = from + i * 4;

@@ -1,12 +1,18 @@
-// A sheet to check: "b; b bytes of 0 or 1; r; four bytes denominator; r numerators of four bytes".
+// A model to check: "b; b bytes of 0 or 1; r; four bytes denominator; r numerators of four bytes".
 use crate::booleans::booleans;
 use crate::model::Model;
 use crate::numerators::numerators;
 use fields::u32_at;
+use rules_types::layout::MODEL_BOOLEANS;
+use rules_types::layout::MODEL_FLAGS;
+use rules_types::layout::model_denominator;
+use rules_types::layout::model_numerators;
+use rules_types::layout::model_rationals;
 use rules_types::limits::Limits;
 ghost use mathlib.Core.Path.{_≡_};
 ghost use Prim.Native.Nat.{_≤_};
 ghost use lib.ListN.{length};
+ghost use Rattle.rules_types.specs.Limits.{booleans, modelBytes, rationals};
 ghost use Rattle.models.specs.Read.{isDenominator, refused, ReadModel};
 
 // What is read up to a place, or 17 at it, with any model.
@@ -24,7 +30,7 @@ fn refused(place: usize) -> ModelRead
         place: place,
         model: Model {
             booleans: 0,
-            numerators: [0 as i64; 8],
+            numerators: [0 as i64; Limits::RATIONALS],
             denominator: 1,
         },
     }
@@ -37,29 +43,30 @@ fn is_denominator(n: u64) -> bool
     1 <= n && n <= Limits::AMOUNT
 }
 
-// Of a question with b Boolean and r rational variables.
+// Of a problem with b Boolean and r rational variables.
 pub fn read_model(s: &[u8], b: u8, r: u8) -> ModelRead
-    requires { ⌜ 64 ≤ length (now s) ⌝ }
-    requires { ⌜ b ≤ 16 ⌝ }
-    requires { ⌜ r ≤ 8 ⌝ }
+    requires { ⌜ modelBytes ≤ length (now s) ⌝ }
+    requires { ⌜ b ≤ booleans ⌝ }
+    requires { ⌜ r ≤ rationals ⌝ }
     ensures { λ back. ⌜ ReadModel (now (s .entry)) b r back ⌝ }
 {
-    if s[0] != b {
-        return refused(0);
+    if s[MODEL_BOOLEANS] != b {
+        return refused(MODEL_BOOLEANS);
     }
-    let flags = booleans(s, 1, b);
+    let flags = booleans(s, MODEL_FLAGS, b);
     if !flags.sound {
         return refused(flags.place);
     }
-    let at = 1 + b as usize;
-    if s[at] != r {
-        return refused(at);
+    let count_at = model_rationals(b);
+    if s[count_at] != r {
+        return refused(count_at);
     }
-    let denominator = u32_at(s, at + 1);
+    let denominator_at = model_denominator(b);
+    let denominator = u32_at(s, denominator_at);
     if !is_denominator(denominator) {
-        return refused(at + 1);
+        return refused(denominator_at);
     }
-    let row = numerators(s, at + 5, r);
+    let row = numerators(s, model_numerators(b), r);
     if !row.sound {
         return refused(row.place);
     }

@@ -10,6 +10,7 @@ use lib.IntN.{ℤ, pos, natAbs}
 use lib.Signed.{quotZ}
 use lib.Dec.{T}
 use lib.ListN.{getD, replicate}
+use Rattle.rules_types.specs.Limits as limit
 use Rattle.theory_lists.specs.Tests.{of-false, clash}
 use Rattle.rules.specs.Lists.{all}
 use Rattle.rules.specs.Arithmetic.{gcdAll, isZero}
@@ -63,7 +64,8 @@ pub with-constraint : (l : Line) → Shaped l → all isZero (l .coefficients) �
 with-constraint l h e = by (l .relation) refl
   where
     by : (r : ℕ) → l .relation ≡ r → 0 < r
-    by zero z = clash (all isZero (l .coefficients)) (subst (λ (cs : List ℤ). T (all isZero cs)) (sym (h .coefficients z)) (zeros-all 8))
+    by zero z = clash (all isZero (l .coefficients))
+        (subst (λ (cs : List ℤ). T (all isZero cs)) (sym (h .coefficients z)) (zeros-all limit.rationals))
         (of-false (all isZero (l .coefficients)) e)
     by (suc r) z = omega arith
 

@@ -4,6 +4,7 @@ use lines::line::Line;
 use lines::row::leading;
 use machine::sign::zero_related;
 use masks::meets;
+use rules_types::limits::Limits;
 ghost use mathlib.Core.Path.{_≡_};
 ghost use mathlib.Core.Option.{none};
 ghost use lib.IntN.{pos};
@@ -31,10 +32,10 @@ pub fn clashes(line: Line) -> bool
 }
 
 // All coefficients are 0.
-pub fn zero_row(row: [i64; 8]) -> bool
+pub fn zero_row(row: [i64; Limits::RATIONALS]) -> bool
     ensures { λ r. ⌜ r ≡ all isZero row ⌝ }
 {
-    leading(row, 0) == 8
+    leading(row, 0) == Limits::RATIONALS
 }
 
 // Whether 0 is related to the bound; relation 2 is <.
@@ -53,7 +54,7 @@ pub fn unconstrained(line: Line) -> Line
         positive: line.positive,
         negative: line.negative,
         relation: 0,
-        coefficients: [0 as i64; 8],
+        coefficients: [0 as i64; Limits::RATIONALS],
         bound: 0,
     }
 }

@@ -9,6 +9,8 @@ use lib.Dec.{T, eqb, eqb→eq, eqb-refl}
 use lib.ListN.{length, take, drop, replicate, length-append}
 use lib.Seq.{drop-at, drop-drop}
 use mir.Facts.{yes-and}
+use Rattle.rules_types.specs.Limits.{stepBytes}
+use Rattle.rules_types.specs.Layout.{stepRelation}
 use Rattle.rules.specs.Lists.{any, same, tabulate}
 use Rattle.rules.specs.Arithmetic.{equal}
 use Rattle.rules.specs.Bytes.{fromBytes, fieldAt, padded}
@@ -25,10 +27,11 @@ use Rattle.theory_vectors.specs.Sign.{equal-refl}
 use Rattle.theory_saturation.specs.Equal.{sameLine-yes}
 use Rattle.lines.specs.declared.line.Line.{Line}
 use Rattle.lines.specs.Line.{meaning}
-use Rattle.steps.specs.Encoding.{headerOf, encoded, encodeStep-is, length-headerBytes}
+use Rattle.steps.specs.Origin.{headerOf, loadedBy}
+use Rattle.steps.specs.Encoding.{encoded, encodeStep-is, length-headerBytes}
 use Rattle.steps.specs.Decoding.{decoded, decoded-encoded}
 use Rattle.steps.specs.Places.{stepAt}
-use Rattle.steps.specs.Held.{stepFrom, stepsIn, length-stepsIn, Kept, Held, Words, kept-words}
+use Rattle.steps.specs.Held.{stepFrom, stepsIn, length-stepsIn, StepBytes, Held, Words, step-words}
 
 -- ---- a line equals itself
 self : (a : Bool) → T (Bool·beq a a)
@@ -53,60 +56,63 @@ line-self l =
 
 -- ---- the bytes behind the header
 unfoldable pub behind : List ℕ → List ℕ
-behind b = drop 6 b
+behind b = drop stepRelation b
 
 -- of a line, behind any header
 tail : rules.Line → List ℕ
-tail l = lineBytes l ++ replicate (64 - (6 + length (lineBytes l))) 0
+tail l = lineBytes l ++ replicate (stepBytes - (stepRelation + length (lineBytes l))) 0
 
 encoded-tail : (h : Header) (l : rules.Line) → encoded h l ≡ headerBytes h ++ tail l
 unfolding encoded padded tail
 encoded-tail h l =
-    ap (λ (k : ℕ). (headerBytes h ++ lineBytes l) ++ replicate {A = ℕ} (64 - k) 0)
+    ap (λ (k : ℕ). (headerBytes h ++ lineBytes l) ++ replicate {A = ℕ} (stepBytes - k) 0)
     (length-append (headerBytes h) (lineBytes l) ∙ ap (λ (k : ℕ). k + length (lineBytes l)) (length-headerBytes h))
-    ∙ append-assoc (headerBytes h) (lineBytes l) (replicate (64 - (6 + length (lineBytes l))) 0)
+    ∙ append-assoc (headerBytes h) (lineBytes l) (replicate (stepBytes - (stepRelation + length (lineBytes l))) 0)
 
 behind-encoded : (h : Header) (l : rules.Line) → behind (encoded h l) ≡ tail l
 unfolding behind
-behind-encoded h l = ap (drop 6) (encoded-tail h l) ∙ drop-at (headerBytes h) (tail l) 6 (length-headerBytes h)
+behind-encoded h l = ap (drop stepRelation) (encoded-tail h l) ∙ drop-at (headerBytes h) (tail l) stepRelation (length-headerBytes h)
 
-line-by-tail : (l : Line) → Words l → decoded (headerBytes (headerOf 0 0 0 0) ++ tail (meaning l)) ≡ l
-line-by-tail l w = ap decoded (sym (encoded-tail (headerOf 0 0 0 0) (meaning l)))
-    ∙ decoded-encoded (headerOf 0 0 0 0) l (w .ready) (w .eight) (w .positive) (w .negative)
+line-by-tail : (l : Line) → Words l → decoded (headerBytes (headerOf (loadedBy 0 0)) ++ tail (meaning l)) ≡ l
+line-by-tail l w = ap decoded (sym (encoded-tail (headerOf (loadedBy 0 0)) (meaning l)))
+    ∙ decoded-encoded (headerOf (loadedBy 0 0)) l (w .ready) (w .eight) (w .positive) (w .negative)
 
 -- a step's bytes against those of a line
-module _ (b : List ℕ) (kept : Kept b) (h : Header) (l : Line) (words : Words l) where
-  behind-kept : behind b ≡ tail (meaning (decoded b))
+module _ (b : List ℕ) (is : StepBytes b) (h : Header) (l : Line) (words : Words l) where
+  behind-step : behind b ≡ tail (meaning (decoded b))
   unfolding stepFrom
-  behind-kept = ap behind (kept .written ∙ encodeStep-is (stepFrom b)) ∙ behind-encoded (header (stepFrom b .origin)) (meaning (decoded b))
+  behind-step = ap behind (is .written ∙ encodeStep-is (stepFrom b)) ∙ behind-encoded (header (stepFrom b .origin)) (meaning (decoded b))
 
   pub same-bytes : same eqb (behind b) (behind (encoded h (meaning l))) ≡ sameLine (meaning (decoded b)) (meaning l)
   same-bytes =
       tests-agree (same eqb (behind b) (behind (encoded h (meaning l)))) (sameLine (meaning (decoded b)) (meaning l))
       (λ t.
       let e : behind b ≡ behind (encoded h (meaning l)) = same-yes eqb eqb→eq (behind b) (behind (encoded h (meaning l))) t in
-      let f : tail (meaning (decoded b)) ≡ tail (meaning l) = sym behind-kept ∙ e ∙ behind-encoded h (meaning l) in
-      let g : decoded b ≡ l = sym (line-by-tail (decoded b) (kept-words b kept))
-      ∙ ap (λ (x : List ℕ). decoded (headerBytes (headerOf 0 0 0 0) ++ x)) f ∙ line-by-tail l words in
+      let f : tail (meaning (decoded b)) ≡ tail (meaning l) = sym behind-step ∙ e ∙ behind-encoded h (meaning l) in
+      let g : decoded b ≡ l = sym (line-by-tail (decoded b) (step-words b is))
+      ∙ ap (λ (x : List ℕ). decoded (headerBytes (headerOf (loadedBy 0 0)) ++ x)) f ∙ line-by-tail l words in
       subst (λ (m : Line). T (sameLine (meaning (decoded b)) (meaning m))) g (line-self (meaning (decoded b))))
       (λ t.
       let e : meaning (decoded b) ≡ meaning l = sameLine-yes (meaning (decoded b)) (meaning l) t in
-      yes-same eqb eqb-refl (behind b) (behind (encoded h (meaning l))) (behind-kept ∙ ap tail e ∙ sym (behind-encoded h (meaning l))))
+      yes-same eqb eqb-refl (behind b) (behind (encoded h (meaning l))) (behind-step ∙ ap tail e ∙ sym (behind-encoded h (meaning l))))
 
 -- equal bytes have equal fields
-field-behind : (k : ℕ) (a b : List ℕ) → T (same eqb (behind a) (behind b)) → fieldAt (k + 6) 4 a ≡ fieldAt (k + 6) 4 b
+field-behind : (at : ℕ) (a b : List ℕ) → stepRelation ≤ at → T (same eqb (behind a) (behind b)) → fieldAt at 4 a ≡ fieldAt at 4 b
 unfolding behind fieldAt
-field-behind k a b t =
-    let e : drop 6 a ≡ drop 6 b = same-yes eqb eqb→eq (drop 6 a) (drop 6 b) t in
-    let m : 6 + k ≡ k + 6 = omega arith in
+field-behind at a b h t =
+    let r = stepRelation in
+    let e : drop r a ≡ drop r b = same-yes eqb eqb→eq (drop r a) (drop r b) t in
+    let k = at - r in
+    let m : r + k ≡ at = omega arith in
     ap (λ (i : ℕ). fromBytes (take 4 (drop i a))) (sym m)
-    ∙ ap (λ (x : List ℕ). fromBytes (take 4 x)) (sym (drop-drop k 6 a) ∙ ap (drop k) e ∙ drop-drop k 6 b)
+    ∙ ap (λ (x : List ℕ). fromBytes (take 4 x)) (sym (drop-drop k r a) ∙ ap (drop k) e ∙ drop-drop k r b)
     ∙ ap (λ (i : ℕ). fromBytes (take 4 (drop i b))) m
 
-pub same-by-field : (k : ℕ) (a b : List ℕ) → (fieldAt (k + 6) 4 a ≡ fieldAt (k + 6) 4 b → ⊥) → same eqb (behind a) (behind b) ≡ false
-same-by-field k a b n = by (same eqb (behind a) (behind b)) (field-behind k a b)
+pub same-by-field : (at : ℕ) (a b : List ℕ) → stepRelation ≤ at → (fieldAt at 4 a ≡ fieldAt at 4 b → ⊥)
+    → same eqb (behind a) (behind b) ≡ false
+same-by-field at a b h n = by (same eqb (behind a) (behind b)) (field-behind at a b h)
   where
-    by : (t : Bool) → (T t → fieldAt (k + 6) 4 a ≡ fieldAt (k + 6) 4 b) → t ≡ false
+    by : (t : Bool) → (T t → fieldAt at 4 a ≡ fieldAt at 4 b) → t ≡ false
     by true f = absurd (n (f tt))
     by false f = refl
 

@@ -3,17 +3,17 @@ use crate::covered::covered;
 use lines::line::Line;
 use rules_types::limits::Limits;
 use steps::encode::encode;
+use steps::origin::Step;
 use steps::store::put;
 ghost use mathlib.Core.Path.{_≡_};
-ghost use mathlib.Core.Bool.{false, cond};
+ghost use mathlib.Core.Bool.{cond};
 ghost use Rattle.rules.specs.Lines.{isEmpty};
-ghost use Rattle.rules.specs.Elimination.{limited, add};
 ghost use Rattle.lines.specs.Line.{meaning, Ready};
-ghost use Rattle.steps.specs.Held.{stepsIn, Named, stepOf};
-ghost use Rattle.placing.specs.Point.{isRunning, Standing, Reaches};
+ghost use Rattle.steps.specs.Origin.{Named};
+ghost use Rattle.placing.specs.Point.{isRunning, Standing, Reaches, added};
 ghost use Rattle.placing.specs.declared.place.Progress.the-variants.{Running, Empty};
 
-// Whether the course goes on, or what has ended it: "The first empty line, wide result or line too many".
+// Whether the elimination goes on, or what has ended it: "The first empty line, wide result or line too many".
 pub enum Progress {
     Running,
     Empty,
@@ -21,7 +21,7 @@ pub enum Progress {
     OutOfSteps,
 }
 
-// The course at a point: the steps held, and the pairs tried.
+// The elimination at a point: the steps held, and the pairs tried.
 pub struct Point {
     pub progress: Progress,
     pub steps: usize,
@@ -48,23 +48,15 @@ fn progress_of(line: Line) -> Progress
     Progress::Running
 }
 
-// The step of a line, with the numbers of its origin.
-pub fn place(
-    proof: &mut [u8],
-    p: Point,
-    limits: Limits,
-    line: Line,
-    how: u8,
-    which: u8,
-    first: u64,
-    second: u64,
-) -> Point
+// The step goes behind the others, if there is no equal line and room for it.
+pub fn place(proof: &mut [u8], p: Point, step: Step, limits: Limits) -> Point
     requires { ⌜ Standing limits (now proof) (p .steps) ⌝ }
-    requires { ⌜ Ready line ⌝ }
-    requires { ⌜ Named how which first second ⌝ }
-    ensures { λ r. ⌜ Reaches limits (now (proof .entry)) p (now (proof .exit)) r (add (limited limits) false (stepOf how which first second line) (stepsIn (now (proof .entry)) (p .steps)) (p .pairs)) ⌝ }
+    requires { ⌜ Ready (step .line) ⌝ }
+    requires { ⌜ Named (step .origin) ⌝ }
+    ensures { λ r. ⌜ Reaches limits (now (proof .entry)) p (now (proof .exit)) r (added limits (now (proof .entry)) p step) ⌝ }
 {
     let n = p.steps;
+    let line = step.line;
     if covered(proof, n, line) {
         return Point {
             progress: Progress::Running,
@@ -79,7 +71,7 @@ pub fn place(
             pairs: p.pairs,
         };
     }
-    let bytes = encode(how, which, first, second, line);
+    let bytes = encode(step);
     put(proof, n, bytes);
     Point {
         progress: progress_of(line),

@@ -7,6 +7,7 @@ use native.Mathlib.Omega.{arith}
 use borrow.Author.Tests.{le-leb, lt-leb}
 use lib.Dec.{leb}
 use lib.ListN.{getD}
+use Rattle.rules_types.specs.Limits.{allBooleans}
 use Rattle.rules.specs.Problem.{Literal}
 use Rattle.rules.specs.Lines.{Booleans, noBooleans, including}
 use Rattle.rules.specs.Normalize.{membersOf}
@@ -34,14 +35,14 @@ module _ (code : ℕ) (s : Booleans) where
 -- of `count` literals, those behind the first `left` are gathered
 pub record Gathered (q : List ℕ) (from count left positive negative : ℕ) : Type 0 where
   pub few : left ≤ count
-  pub positives : bits 32 positive ≡ membersOf false (valuesAt (literalAt q) 1 (count - left) (from + left))
-  pub negatives : bits 32 negative ≡ membersOf true (valuesAt (literalAt q) 1 (count - left) (from + left))
+  pub positives : bits allBooleans positive ≡ membersOf false (valuesAt (literalAt q) 1 (count - left) (from + left))
+  pub negatives : bits allBooleans negative ≡ membersOf true (valuesAt (literalAt q) 1 (count - left) (from + left))
 
 pub gathered-start : (q : List ℕ) (from count : ℕ) → Gathered q from count count 0 0
 unfolding membersOf valuesAt bits noBooleans
 gathered-start q from count = let e : count - count ≡ 0 = omega arith in record { few = omega arith; positives = rw e; negatives = rw e }
 
--- one turn, of either sign: the literal before those gathered
+-- one pass, of either sign: the literal before those gathered
 module _ (q : List ℕ) (from count left : ℕ) (more : 0 < left) (few : left ≤ count) (negated : Bool) (old new : Booleans) where
   gathered-more : old ≡ membersOf negated (valuesAt (literalAt q) 1 (count - left) (from + left))
       → new ≡ joined negated (literalOf (getD q (from + (left - 1)) 0)) old
@@ -55,18 +56,20 @@ module _ (q : List ℕ) (from count left : ℕ) (more : 0 < left) (few : left �
 
 module _ {q : List ℕ} {from count left positive negative : ℕ} (run : Gathered q from count left positive negative) where
   pub gathered-done : left ≤ 0
-      → (bits 32 positive ≡ membersOf false (valuesAt (literalAt q) 1 count from))
-      × (bits 32 negative ≡ membersOf true (valuesAt (literalAt q) 1 count from))
+      → (bits allBooleans positive ≡ membersOf false (valuesAt (literalAt q) 1 count from))
+      × (bits allBooleans negative ≡ membersOf true (valuesAt (literalAt q) 1 count from))
   gathered-done h =
       let i : count - left ≡ count = omega arith in
       let j : from + left ≡ from = omega arith in
       (rw (i, j) at (run .positives), rw (i, j) at (run .negatives))
 
-  pub gathered-next : 0 < left → (p n : ℕ) → bits 32 p ≡ joined false (literalOf (getD q (from + (left - 1)) 0)) (bits 32 positive)
-      → bits 32 n ≡ joined true (literalOf (getD q (from + (left - 1)) 0)) (bits 32 negative) → Gathered q from count (left - 1) p n
+  pub gathered-next : 0 < left → (p n : ℕ)
+      → bits allBooleans p ≡ joined false (literalOf (getD q (from + (left - 1)) 0)) (bits allBooleans positive)
+      → bits allBooleans n ≡ joined true (literalOf (getD q (from + (left - 1)) 0)) (bits allBooleans negative)
+      → Gathered q from count (left - 1) p n
   gathered-next more p n e f =
       record {
         few = omega (arith, run .few);
-        positives = gathered-more q from count left more (run .few) false (bits 32 positive) (bits 32 p) (run .positives) e;
-        negatives = gathered-more q from count left more (run .few) true (bits 32 negative) (bits 32 n) (run .negatives) f;
+        positives = gathered-more q from count left more (run .few) false _ (bits allBooleans p) (run .positives) e;
+        negatives = gathered-more q from count left more (run .few) true _ (bits allBooleans n) (run .negatives) f;
       }

@@ -6,14 +6,15 @@ use mathlib.Core.Option.{Option, none, some}
 use Prim.Native.Nat.{ℕ, _+_, _*_, _-_, _≤_, _<_}
 use native.Mathlib.Omega.{arith}
 use lib.ListN.{length}
+use Rattle.rules_types.specs.Layout.{constraintBytes}
 use Rattle.rules.specs.Problem.{Constraint}
 use Rattle.rules.specs.Normalize.{Settled, always, never, kept, settled, settledAll}
 use Rattle.theory_lists.specs.Tests.{clash, of-true, of-false}
 use Rattle.problem_clauses.specs.declared.splits.Fate.{Fate}
 use Rattle.problem_clauses.specs.declared.splits.Fate.the-variants.{Always, Never, Kept}
-use Rattle.problem_clauses.specs.declared.splits.Kept as stay
-use Rattle.problem_clauses.specs.declared.splits.Kept.the-variants.{Dropped, Count}
-use Rattle.problem_scan.specs.Values.{valuesAt, behind, behind-is, constraintAt}
+use Rattle.problem_clauses.specs.declared.splits.Staying.{Staying}
+use Rattle.problem_clauses.specs.declared.splits.Staying.the-variants.{Dropped, Count}
+use Rattle.problem_scan.specs.Values.{valuesAt, behind, behind-is, constraintAt, constraintsAt}
 use Rattle.problem_clauses.specs.Passes.{values-next, behind-next}
 use Rattle.problem_clauses.specs.Settled.{fate}
 
@@ -34,7 +35,7 @@ weight-≤ Never = omega arith
 weight-≤ Kept = omega arith
 
 -- dropped, or n before them and those that stay
-unfoldable pub counted : ℕ → Option (List Constraint) → stay.Kept
+unfoldable pub counted : ℕ → Option (List Constraint) → Staying
 counted n none = Dropped
 counted n (some cs) = Count (n + length cs)
 
@@ -59,44 +60,46 @@ module _ (n : ℕ) (c : Constraint) (cs : List Constraint) where
   drop-by (kept d) e f = absurd (clash false (of-true false f) tt)
 
 pub record Keeping (q : List ℕ) (r from count at left n : ℕ) : Type 0 where
-  pub end : behind (5 + r * 4) left at ≡ behind (5 + r * 4) count from
+  pub end : behind (constraintBytes r) left at ≡ behind (constraintBytes r) count from
   pub few : n + left ≤ count
-  pub same : counted n (settledAll (valuesAt (constraintAt q r) (5 + r * 4) left at))
-      ≡ counted 0 (settledAll (valuesAt (constraintAt q r) (5 + r * 4) count from))
+  pub same : counted n (settledAll (constraintsAt q r left at))
+      ≡ counted 0 (settledAll (constraintsAt q r count from))
 
 module _ {q : List ℕ} {r from count at left n : ℕ} (run : Keeping q r from count at left n) where
-  pub keeping-done : left ≤ 0 → Count n ≡ counted 0 (settledAll (valuesAt (constraintAt q r) (5 + r * 4) count from))
+  pub keeping-done : left ≤ 0 → Count n ≡ counted 0 (settledAll (constraintsAt q r count from))
   unfolding counted settledAll valuesAt
   keeping-done h =
       let e : left ≡ 0 = omega arith in
       let z : n ≡ n + 0 = omega arith in
-      ap Count z ∙ sym (ap (λ (i : ℕ). counted n (settledAll (valuesAt (constraintAt q r) (5 + r * 4) i at))) e) ∙ run .same
+      ap Count z ∙ sym (ap (λ (i : ℕ). counted n (settledAll (constraintsAt q r i at))) e) ∙ run .same
 
   module _ (more : 0 < left) where
-    pub keeping-within : at + (5 + r * 4) ≤ behind (5 + r * 4) count from
-    keeping-within = within-by (5 + r * 4) (left - 1) (at + (5 + r * 4)) (sym (behind-next (5 + r * 4) at left more) ∙ run .end)
+    pub keeping-within : at + constraintBytes r ≤ behind (constraintBytes r) count from
+    keeping-within = within-by (constraintBytes r) (left - 1) (at + constraintBytes r)
+        (sym (behind-next (constraintBytes r) at left more) ∙ run .end)
       where
-        within-by : (size k i : ℕ) → behind size k i ≡ behind (5 + r * 4) count from → i ≤ behind (5 + r * 4) count from
+        within-by : (size k i : ℕ) → behind size k i ≡ behind (constraintBytes r) count from → i ≤ behind (constraintBytes r) count from
         within-by size k i e = omega (arith, e, behind-is size k i)
 
     module _ (f : Fate) (given : f ≡ fate (settled (constraintAt q r at))) where
-      pub keeping-drop : isAlways f ≡ true → Dropped ≡ counted 0 (settledAll (valuesAt (constraintAt q r) (5 + r * 4) count from))
+      pub keeping-drop : isAlways f ≡ true → Dropped ≡ counted 0 (settledAll (constraintsAt q r count from))
       keeping-drop e =
-          sym (drop-by n (constraintAt q r at) (valuesAt (constraintAt q r) (5 + r * 4) (left - 1) (at + (5 + r * 4)))
+          sym (drop-by n (constraintAt q r at) (constraintsAt q r (left - 1) (at + constraintBytes r))
           (settled (constraintAt q r at)) refl (ap isAlways (sym given) ∙ e))
-          ∙ ap (λ (cs : List Constraint). counted n (settledAll cs)) (sym (values-next (constraintAt q r) (5 + r * 4) at left more))
+          ∙ ap (λ (cs : List Constraint). counted n (settledAll cs)) (sym (values-next (constraintAt q r) (constraintBytes r) at left more))
           ∙ run .same
 
-      pub keeping-next : isAlways f ≡ false → Keeping q r from count (at + (5 + r * 4)) (left - 1) (n + weight f)
+      pub keeping-next : isAlways f ≡ false → Keeping q r from count (at + constraintBytes r) (left - 1) (n + weight f)
       keeping-next e =
           record {
-            end = sym (behind-next (5 + r * 4) at left more) ∙ run .end;
+            end = sym (behind-next (constraintBytes r) at left more) ∙ run .end;
             few = omega (arith, weight-≤ f, run .few);
             same =
                 ap (λ (g : Fate). counted (n + weight g)
-                (settledAll (valuesAt (constraintAt q r) (5 + r * 4) (left - 1) (at + (5 + r * 4))))) given
-                ∙ sym (count-by n (constraintAt q r at) (valuesAt (constraintAt q r) (5 + r * 4) (left - 1) (at + (5 + r * 4)))
+                (settledAll (constraintsAt q r (left - 1) (at + constraintBytes r)))) given
+                ∙ sym (count-by n (constraintAt q r at) (constraintsAt q r (left - 1) (at + constraintBytes r))
                 (settled (constraintAt q r at)) refl (ap isAlways (sym given) ∙ e))
-                ∙ ap (λ (cs : List Constraint). counted n (settledAll cs)) (sym (values-next (constraintAt q r) (5 + r * 4) at left more))
+                ∙ ap (λ (cs : List Constraint). counted n (settledAll cs))
+                (sym (values-next (constraintAt q r) (constraintBytes r) at left more))
                 ∙ run .same;
           }

@@ -2,11 +2,13 @@
 use mathlib.Core.Path.{_≡_, refl, sym, ap, _∙_}
 use mathlib.Core.Bool.{Bool, true, false, _&&_}
 use mathlib.Core.List.{List, [], _∷_, _++_}
-use Prim.Native.Nat.{ℕ, zero, suc, _+_, _*_, _-_}
+use Prim.Native.Nat.{ℕ, zero, suc, _+_, _-_}
+use native.Mathlib.Omega.{arith}
 use lib.IntN.{ℤ, pos}
 use lib.Dec.{eqb}
 use lib.ListN.{getD, replicate}
 use Rattle.rules_types.specs.Limits as limit
+use Rattle.rules_types.specs.Layout as layout
 use Rattle.rules.specs.Lists.{all}
 use Rattle.rules.specs.Bytes.{fromUnsigned, fieldAt}
 use Rattle.rules.specs.Arithmetic.{isZero, related}
@@ -14,7 +16,7 @@ use Rattle.rules.specs.Problem.{Constraint}
 use Rattle.rules.specs.Normalize.{Settled, always, never, kept, settled}
 use Rattle.problem_clauses.specs.declared.splits.Fate.{Fate}
 use Rattle.problem_clauses.specs.declared.splits.Fate.the-variants.{Always, Never, Kept}
-use Rattle.problem_scan.specs.Values.{valuesAt, behind-is, amountAt, boundOf, constraintAt}
+use Rattle.problem_scan.specs.Values.{valuesAt, behind, behind-is, amountAt, boundOf, constraintAt}
 
 unfoldable pub fate : Settled → Fate
 fate always = Always
@@ -45,22 +47,26 @@ module _ (q : List ℕ) (r at : ℕ) where
   abbrev here : Constraint
   here = constraintAt q r at
 
-  zeros-here : (t : Bool) → all isZero (valuesAt (amountAt q) 4 r (at + 1)) ≡ t → all isZero (here .coefficients) ≡ t
+  zeros-here : (t : Bool) → all isZero (valuesAt (amountAt q) 4 r (at + layout.constraintCoefficients)) ≡ t
+      → all isZero (here .coefficients) ≡ t
   unfolding constraintAt
-  zeros-here t e = all-padded (valuesAt (amountAt q) 4 r (at + 1)) (limit.rationals - r) ∙ e
+  zeros-here t e = all-padded (valuesAt (amountAt q) 4 r (at + layout.constraintCoefficients)) (limit.rationals - r) ∙ e
 
-  pub fate-kept : all isZero (valuesAt (amountAt q) 4 r (at + 1)) ≡ false → fate (settled here) ≡ Kept
+  pub fate-kept : all isZero (valuesAt (amountAt q) 4 r (at + layout.constraintCoefficients)) ≡ false → fate (settled here) ≡ Kept
   fate-kept e = settled-kept here (zeros-here false e)
 
-  module _ (e : all isZero (valuesAt (amountAt q) 4 r (at + 1)) ≡ true) (z : ℤ)
-      (bound-is : z ≡ fromUnsigned (fieldAt (at + 1 + r * 4) 4 q)) where
-    related-here : related (here .strict) (pos 0) (here .bound) ≡ related (eqb (getD q at 0) 2) (pos 0) z
-    unfolding constraintAt boundOf amountAt
-    related-here = ap (related (eqb (getD q at 0) 2) (pos 0))
-        (ap (λ (i : ℕ). fromUnsigned (fieldAt i 4 q)) (behind-is 4 r (at + 1)) ∙ sym bound-is)
+  pub bound-at : here .bound ≡ fromUnsigned (fieldAt (at + layout.constraintBound r) 4 q)
+  unfolding constraintAt boundOf amountAt
+  bound-at =
+      let e : behind 4 r (at + 1) ≡ at + layout.constraintBound r = omega (arith, behind-is 4 r (at + 1)) in
+      ap (λ (i : ℕ). fromUnsigned (fieldAt i 4 q)) e
 
-    pub fate-always : related (eqb (getD q at 0) 2) (pos 0) z ≡ true → fate (settled here) ≡ Always
-    fate-always k = settled-always here (zeros-here true e) (related-here ∙ k)
+  module _ (e : all isZero (valuesAt (amountAt q) 4 r (at + layout.constraintCoefficients)) ≡ true) (t : Bool)
+      (test : t ≡ related (eqb (getD q at 0) 2) (pos 0) (here .bound)) where
+    pub fate-always : t ≡ true → fate (settled here) ≡ Always
+    unfolding constraintAt
+    fate-always k = settled-always here (zeros-here true e) (sym test ∙ k)
 
-    pub fate-never : related (eqb (getD q at 0) 2) (pos 0) z ≡ false → fate (settled here) ≡ Never
-    fate-never k = settled-never here (zeros-here true e) (related-here ∙ k)
+    pub fate-never : t ≡ false → fate (settled here) ≡ Never
+    unfolding constraintAt
+    fate-never k = settled-never here (zeros-here true e) (sym test ∙ k)

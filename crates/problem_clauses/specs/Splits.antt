@@ -6,17 +6,19 @@ use mathlib.Core.Option.{Option, none, some}
 use Prim.Native.Nat.{ℕ, _+_, _*_, _-_}
 use native.Mathlib.Omega.{arith}
 use lib.ListN.{length, getD}
+use Rattle.rules_types.specs.Limits.{allBooleans}
+use Rattle.rules_types.specs.Layout as layout
 use Rattle.rules.specs.Problem.{Constraint, Clause}
 use Rattle.rules.specs.Lines.{meet}
 use Rattle.rules.specs.Normalize.{settledAll, membersOf, normalClause}
 use Rattle.rules.specs.Split.{splitsOf}
-use Rattle.problem_clauses.specs.declared.splits.Kept as stay
-use Rattle.problem_clauses.specs.declared.splits.Kept.the-variants.{Dropped, Count}
+use Rattle.problem_clauses.specs.declared.splits.Staying.{Staying}
+use Rattle.problem_clauses.specs.declared.splits.Staying.the-variants.{Dropped, Count}
 use Rattle.masks.specs.Mask.{bits}
-use Rattle.problem_scan.specs.Values.{valuesAt, literalAt, constraintAt, countOf, clauseAt}
+use Rattle.problem_scan.specs.Values.{valuesAt, literalAt, constraintAt, constraintsAt, countOf, clauseAt}
 use Rattle.problem_clauses.specs.Remaining.{counted}
 
-abbrev pub splitsBy : Bool → stay.Kept → ℕ
+abbrev pub splitsBy : Bool → Staying → ℕ
 splitsBy true k = 0
 splitsBy false Dropped = 0
 splitsBy false (Count n) = n - 1
@@ -37,11 +39,11 @@ module _ (c : Clause) where
   splitsOf-is = splits-by clashes (settledAll (c .constraints)) refl refl
 
 -- of the clause at a place, by its literals as masks p and n and the place of its count of constraints
-module _ (q : List ℕ) (r at p n : ℕ) (positives : bits 32 p ≡ membersOf false (valuesAt (literalAt q) 1 (getD q at 0) (at + 1)))
-    (negatives : bits 32 n ≡ membersOf true (valuesAt (literalAt q) 1 (getD q at 0) (at + 1))) where
-  pub splits-at : (m : Bool) (place : ℕ) → meet (bits 32 p) (bits 32 n) ≡ m → place ≡ countOf q at
+module _ (q : List ℕ) (r at p n : ℕ) (positives : bits allBooleans p ≡ membersOf false (valuesAt (literalAt q) 1 (getD q at 0) (at + 1)))
+    (negatives : bits allBooleans n ≡ membersOf true (valuesAt (literalAt q) 1 (getD q at 0) (at + 1))) where
+  pub splits-at : (m : Bool) (place : ℕ) → meet (bits allBooleans p) (bits allBooleans n) ≡ m → place ≡ countOf q at
       → splitsOf (clauseAt q r at)
-      ≡ splitsBy m (counted 0 (settledAll (valuesAt (constraintAt q r) (5 + r * 4) (getD q place 0) (place + 1))))
+      ≡ splitsBy m (counted 0 (settledAll (constraintsAt q r (getD q place 0) (place + 1))))
   unfolding clauseAt
   splits-at m place e i =
       splitsOf-is (clauseAt q r at)

@@ -4,6 +4,7 @@ use mathlib.Core.List.{List}
 use Prim.Native.Nat.{ℕ, _+_, _*_, _≤_, _<_}
 use native.Mathlib.Omega.{arith}
 use lib.ListN.{length, getD}
+use Rattle.rules_types.specs.Layout.{constraintBytes}
 use Rattle.problem_scan.specs.Values.{behind, behind-is, countOf, clauseEnd}
 
 module _ (q : List ℕ) where
@@ -11,10 +12,10 @@ module _ (q : List ℕ) where
   unfolding countOf
   countOf-is at = omega (arith, behind-is 1 (getD q at 0) (at + 1))
 
-  pub clauseEnd-is : (r at place : ℕ) → place ≡ countOf q at → clauseEnd q r at ≡ place + 1 + getD q place 0 * (5 + r * 4)
+  pub clauseEnd-is : (r at place : ℕ) → place ≡ countOf q at → clauseEnd q r at ≡ place + 1 + getD q place 0 * constraintBytes r
   unfolding clauseEnd
-  clauseEnd-is r at place e = behind-is (5 + r * 4) (getD q (countOf q at) 0) (countOf q at + 1)
-      ∙ ap (λ (p : ℕ). p + 1 + getD q p 0 * (5 + r * 4)) (sym e)
+  clauseEnd-is r at place e = behind-is (constraintBytes r) (getD q (countOf q at) 0) (countOf q at + 1)
+      ∙ ap (λ (p : ℕ). p + 1 + getD q p 0 * constraintBytes r) (sym e)
 
   -- of a clause that ends in the slice: its first byte and its count of constraints are there
   module _ (r at : ℕ) (within : clauseEnd q r at ≤ length q) where
@@ -29,8 +30,9 @@ module _ (q : List ℕ) where
     unfolding countOf
     literals-within = omega (arith, count-within)
 
-    pub constraints-within : (place : ℕ) → place ≡ countOf q at → behind (5 + r * 4) (getD q place 0) (place + 1) ≤ length q
-    constraints-within place e = omega (arith, behind-is (5 + r * 4) (getD q place 0) (place + 1), clauseEnd-is r at place e, within)
+    pub constraints-within : (place : ℕ) → place ≡ countOf q at → behind (constraintBytes r) (getD q place 0) (place + 1) ≤ length q
+    constraints-within place e =
+        omega (arith, behind-is (constraintBytes r) (getD q place 0) (place + 1), clauseEnd-is r at place e, within)
 
   pub clause-≤ : (r at : ℕ) → at ≤ clauseEnd q r at
   clause-≤ r at = omega (arith, countOf-is at, clauseEnd-is r at (countOf q at) refl)

@@ -1,4 +1,5 @@
 // The clauses of a problem that was read without fault, read again from its bytes.
+pub mod constraint;
 pub mod literals;
 pub mod places;
 pub mod splits;

@@ -4,6 +4,7 @@ ghost use mathlib.Core.Path.{_≡_};
 ghost use mathlib.Core.Bool.{true, false};
 ghost use Prim.Native.Nat.{_≤_};
 ghost use lib.ListN.{length};
+ghost use Rattle.rules_types.specs.Limits.{allBooleans};
 ghost use Rattle.problem_scan.specs.Values.{valuesAt, behind, literalAt};
 ghost use Rattle.masks.specs.Mask.{bits};
 ghost use Rattle.rules.specs.Normalize.{membersOf};
@@ -16,8 +17,8 @@ pub struct Members {
 
 // With one literal more.
 fn including(l: Members, code: u8) -> Members
-    ensures positive { λ s. ⌜ bits 32 (s .positive) ≡ joined false (literalOf code) (bits 32 (l .positive)) ⌝ }
-    ensures negative { λ s. ⌜ bits 32 (s .negative) ≡ joined true (literalOf code) (bits 32 (l .negative)) ⌝ }
+    ensures positive { λ s. ⌜ bits allBooleans (s .positive) ≡ joined false (literalOf code) (bits allBooleans (l .positive)) ⌝ }
+    ensures negative { λ s. ⌜ bits allBooleans (s .negative) ≡ joined true (literalOf code) (bits allBooleans (l .negative)) ⌝ }
 {
     let variable = (code % 128) as usize;
     if code < 128 {
@@ -35,8 +36,8 @@ fn including(l: Members, code: u8) -> Members
 // Of so many literals, from the last to the first.
 pub fn literals(q: &[u8], from: usize, count: u8) -> Members
     requires { ⌜ behind 1 count from ≤ length (now q) ⌝ }
-    ensures positive { λ l. ⌜ bits 32 (l .positive) ≡ membersOf false (valuesAt (literalAt (now (q .entry))) 1 count from) ⌝ }
-    ensures negative { λ l. ⌜ bits 32 (l .negative) ≡ membersOf true (valuesAt (literalAt (now (q .entry))) 1 count from) ⌝ }
+    ensures positive { λ l. ⌜ bits allBooleans (l .positive) ≡ membersOf false (valuesAt (literalAt (now (q .entry))) 1 count from) ⌝ }
+    ensures negative { λ l. ⌜ bits allBooleans (l .negative) ≡ membersOf true (valuesAt (literalAt (now (q .entry))) 1 count from) ⌝ }
 {
     let mut left = count;
     let mut l = Members {

@@ -1,4 +1,5 @@
-// A clause's places in the question's bytes: that of its count of constraints, and that of the clause behind it.
+// A clause's places in the problem's bytes: that of its count of constraints, and that of the clause behind it.
+use rules_types::layout::constraint_bytes;
 ghost use mathlib.Core.Path.{_≡_};
 ghost use Prim.Native.Nat.{_≤_, _<_};
 ghost use lib.ListN.{length};
@@ -17,6 +18,5 @@ pub fn next(q: &[u8], at: usize, r: u8) -> usize
     ensures { λ p. ⌜ p ≡ clauseEnd (now (q .entry)) r at ⌝ }
 {
     let place = count_place(q, at);
-    let size = 5 + (r as usize) * 4;
-    place + 1 + (q[place] as usize) * size
+    place + 1 + (q[place] as usize) * constraint_bytes(r)
 }

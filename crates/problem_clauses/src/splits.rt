@@ -1,19 +1,23 @@
 // What normalizing leaves of a clause that was read without fault: how many of its constraints stay, and its split variables.
+use crate::constraint::bound_of;
+use crate::constraint::is_strict;
 use crate::literals::literals;
 use crate::places::count_place;
-use fields::amount_at;
 use fields::u32_at;
 use machine::sign::zero_related;
 use masks::meets;
+use rules_types::layout::CONSTRAINT_COEFFICIENTS;
+use rules_types::layout::constraint_bytes;
 ghost use mathlib.Core.Path.{_≡_};
 ghost use mathlib.Core.Bool.{false};
 ghost use Prim.Native.Nat.{_≤_, _+_, _*_};
 ghost use lib.ListN.{length};
+ghost use Rattle.rules_types.specs.Layout.{constraintBytes};
 ghost use Rattle.rules.specs.Lists.{all};
 ghost use Rattle.rules.specs.Arithmetic.{isZero};
 ghost use Rattle.rules.specs.Normalize.{settled, settledAll};
 ghost use Rattle.rules.specs.Split.{splitsOf};
-ghost use Rattle.problem_scan.specs.Values.{valuesAt, behind, amountAt, constraintAt, clauseAt, clauseEnd};
+ghost use Rattle.problem_scan.specs.Values.{valuesAt, behind, amountAt, constraintAt, constraintsAt, clauseAt, clauseEnd};
 ghost use Rattle.problem_clauses.specs.Settled.{fate};
 ghost use Rattle.problem_clauses.specs.Remaining.{isAlways, weight, counted};
 ghost use Rattle.problem_clauses.specs.Splits.{splitsBy};
@@ -26,7 +30,7 @@ pub enum Fate {
 }
 
 // The clause is dropped, or so many constraints stay.
-pub enum Kept {
+pub enum Staying {
     Dropped,
     Count(u8),
 }
@@ -49,14 +53,13 @@ fn zeros(q: &[u8], from: usize, count: u8) -> bool
 }
 
 pub fn settled(q: &[u8], at: usize, r: u8) -> Fate
-    requires { ⌜ at + (5 + r * 4) ≤ length (now q) ⌝ }
+    requires { ⌜ at + constraintBytes r ≤ length (now q) ⌝ }
     ensures { λ s. ⌜ s ≡ fate (settled (constraintAt (now (q .entry)) r at)) ⌝ }
 {
-    if !zeros(q, at + 1, r) {
+    if !zeros(q, at + CONSTRAINT_COEFFICIENTS, r) {
         return Fate::Kept;
     }
-    let bound = amount_at(q, at + 1 + (r as usize) * 4);
-    if zero_related(q[at] == 2, bound) {
+    if zero_related(is_strict(q, at), bound_of(q, at, r)) {
         return Fate::Always;
     }
     Fate::Never
@@ -84,33 +87,33 @@ pub fn weight(f: Fate) -> u8
 }
 
 // Of so many constraints.
-pub fn remaining(q: &[u8], from: usize, r: u8, count: u8) -> Kept
-    requires { ⌜ behind (5 + r * 4) count from ≤ length (now q) ⌝ }
-    ensures { λ k. ⌜ k ≡ counted 0 (settledAll (valuesAt (constraintAt (now (q .entry)) r) (5 + r * 4) count from)) ⌝ }
+pub fn remaining(q: &[u8], from: usize, r: u8, count: u8) -> Staying
+    requires { ⌜ behind (constraintBytes r) count from ≤ length (now q) ⌝ }
+    ensures { λ k. ⌜ k ≡ counted 0 (settledAll (constraintsAt (now (q .entry)) r count from)) ⌝ }
 {
-    let size = 5 + (r as usize) * 4;
+    let size = constraint_bytes(r);
     let mut at = from;
     let mut left = count;
     let mut n: u8 = 0;
     while 0 < left {
         let f = settled(q, at, r);
         if is_always(f) {
-            return Kept::Dropped;
+            return Staying::Dropped;
         }
         n += weight(f);
         at += size;
         left -= 1;
     }
-    Kept::Count(n)
+    Staying::Count(n)
 }
 
-// One less than the constraints that stay, where the clause does.
-fn between(k: Kept) -> u8
+// Split variables: one less than the constraints that stay, where the clause does.
+pub fn between(k: Staying) -> u8
     ensures { λ n. ⌜ n ≡ splitsBy false k ⌝ }
 {
     match k {
-        Kept::Dropped => 0,
-        Kept::Count(n) => {
+        Staying::Dropped => 0,
+        Staying::Count(n) => {
             if n == 0 {
                 return 0;
             }

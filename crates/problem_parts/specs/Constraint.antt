@@ -9,21 +9,24 @@ use native.Mathlib.Omega.{arith}
 use lib.IntN.{ℤ, pos}
 use lib.Dec.{eqb}
 use lib.ListN.{length, getD, replicate, set}
+use Rattle.rules_types.specs.Limits as limit
+use Rattle.rules_types.specs.Layout as layout
 use Rattle.rules.specs.Problem.{Constraint}
 use Rattle.rules.specs.Lines as rules
 use Rattle.masks.specs.Mask.{bits}
-use Rattle.problem_scan.specs.Values.{valuesAt, behind, behind-is, amountAt, boundOf, constraintAt}
+use Rattle.problem_scan.specs.Values.{valuesAt, behind, behind-is, amountAt, constraintAt}
 use Rattle.lines.specs.declared.line.Line.{Line}
 use Rattle.lines.specs.Line.{constraintOf, meaning}
 use Rattle.lines.specs.Forms.{constraint-at}
 
 abbrev pub lineOf : ℕ → ℕ → Option Constraint → rules.Line
-lineOf positive negative constraint = record { positive = bits 32 positive; negative = bits 32 negative; constraint = constraint }
+lineOf positive negative constraint =
+    record { positive = bits limit.allBooleans positive; negative = bits limit.allBooleans negative; constraint = constraint }
 
 -- ---- a row, one amount more: the first 0 behind those that are read is written over
 module _ (q : List ℕ) (from : ℕ) where
   abbrev pub readRow : ℕ → List ℤ
-  readRow i = valuesAt (amountAt q) 4 i from ++ replicate (8 - i) (pos 0)
+  readRow i = valuesAt (amountAt q) 4 i from ++ replicate (limit.rationals - i) (pos 0)
 
 -- the first i of them are read, and `at` is the place of the next
 pub record RowRead (q : List ℕ) (from count : ℕ) (out : List ℤ) (at i : ℕ) : Type 0 where
@@ -49,23 +52,23 @@ unfolding valuesAt
 length-values one size zero at = refl
 length-values one size (suc k) at = ap suc (length-values one size k (at + size))
 
-row-next : (q : List ℕ) (from i at : ℕ) (z : ℤ) → i < 8 → at ≡ from + i * 4 → z ≡ amountAt q at
+row-next : (q : List ℕ) (from i at : ℕ) (z : ℤ) → i < limit.rationals → at ≡ from + i * 4 → z ≡ amountAt q at
     → set (readRow q from i) i z ≡ readRow q from (i + 1)
 row-next q from i at z h e v =
     let vs = valuesAt (amountAt q) 4 i from in
-    let n : 8 - i ≡ suc (8 - (i + 1)) = omega arith in
+    let n : limit.rationals - i ≡ suc (limit.rationals - (i + 1)) = omega arith in
     ap (λ (k : ℕ). set (vs ++ replicate k (pos 0)) i z) n
-    ∙ ap (λ (k : ℕ). set (vs ++ replicate (suc (8 - (i + 1))) (pos 0)) k z) (sym (length-values (amountAt q) 4 i from))
-    ∙ set-first vs (8 - (i + 1)) z
-    ∙ ap (λ (y : ℤ). (vs ++ (y ∷ [])) ++ replicate (8 - (i + 1)) (pos 0)) (v ∙ ap (amountAt q) e)
-    ∙ ap (λ (xs : List ℤ). xs ++ replicate (8 - (i + 1)) (pos 0)) (sym (values-last (amountAt q) 4 i from))
-    ∙ ap (λ (k : ℕ). valuesAt (amountAt q) 4 k from ++ replicate (8 - (i + 1)) (pos 0)) (sym (add-one i))
+    ∙ ap (λ (k : ℕ). set (vs ++ replicate (suc (limit.rationals - (i + 1))) (pos 0)) k z) (sym (length-values (amountAt q) 4 i from))
+    ∙ set-first vs (limit.rationals - (i + 1)) z
+    ∙ ap (λ (y : ℤ). (vs ++ (y ∷ [])) ++ replicate (limit.rationals - (i + 1)) (pos 0)) (v ∙ ap (amountAt q) e)
+    ∙ ap (λ (xs : List ℤ). xs ++ replicate (limit.rationals - (i + 1)) (pos 0)) (sym (values-last (amountAt q) 4 i from))
+    ∙ ap (λ (k : ℕ). valuesAt (amountAt q) 4 k from ++ replicate (limit.rationals - (i + 1)) (pos 0)) (sym (add-one i))
 
 module _ (q : List ℕ) (from count : ℕ) (out : List ℤ) (at i : ℕ) (run : RowRead q from count out at i) where
   pub row-within : i < count → at + 4 ≤ behind 4 count from
   row-within h = omega (arith, run .place, behind-is 4 count from)
 
-  pub row-more : (z : ℤ) → i < count → count ≤ 8 → z ≡ amountAt q at → RowRead q from count (set out i z) (at + 4) (i + 1)
+  pub row-more : (z : ℤ) → i < count → count ≤ limit.rationals → z ≡ amountAt q at → RowRead q from count (set out i z) (at + 4) (i + 1)
   row-more z h k v =
       record {
         few = omega arith;
@@ -77,18 +80,14 @@ module _ (q : List ℕ) (from count : ℕ) (out : List ℤ) (at i : ℕ) (run : 
   row-done h = let e : i ≡ count = omega (arith, run .few) in run .same ∙ ap (readRow q from) e
 
 -- ---- a constraint by its words
-module _ (q : List ℕ) (r at : ℕ) (cs : List ℤ) (b : ℤ) (row-is : cs ≡ readRow q (at + 1) r)
-    (bound-is : b ≡ amountAt q (at + 1 + r * 4)) where
-  pub bound-at : b ≡ amountAt q (boundOf q r at)
-  unfolding boundOf
-  bound-at = bound-is ∙ ap (amountAt q) (sym (behind-is 4 r (at + 1)))
-
+module _ (q : List ℕ) (r at : ℕ) (cs : List ℤ) (b : ℤ) (row-is : cs ≡ readRow q (at + layout.constraintCoefficients) r)
+    (bound-is : b ≡ constraintAt q r at .bound) where
   pub constraint-words : 0 < getD q at 0 → constraintOf (getD q at 0) cs b ≡ some (constraintAt q r at)
   unfolding constraintAt
   constraint-words h = constraint-at (getD q at 0) cs b h ∙ (λ i. some (record {
     strict = eqb (getD q at 0) 2;
     coefficients = row-is i;
-    bound = bound-at i;
+    bound = bound-is i;
   }))
 
 -- the coefficients of a line that has a constraint

@@ -10,13 +10,12 @@ use Rattle.rules.specs.Problem.{Constraint}
 use Rattle.rules.specs.Lines as rules
 use Rattle.rules.specs.Lines.{Booleans}
 use Rattle.rules.specs.Split.{chain, parts}
-use Rattle.masks.specs.Mask.{bits}
-use Rattle.problem_clauses.specs.declared.splits.Kept.the-variants.{Count}
+use Rattle.problem_clauses.specs.declared.splits.Staying.the-variants.{Count}
 use Rattle.problem_clauses.specs.Remaining.{counted}
 use Rattle.lines.specs.Line.{meaning}
 use Rattle.problem_parts.specs.declared.part.Found.{Found}
 use Rattle.problem_parts.specs.declared.parts.Parts.{Parts}
-use Rattle.problem_parts.specs.Parts.{partsBy, partsIf, partsFrom, Cursor}
+use Rattle.problem_parts.specs.Parts.{positiveOf, negativeOf, partsBy, partsIf, partsFrom, SoundParts}
 
 unfoldable pub partOf : Found → Option rules.Line
 partOf f = cond (f .found) (some (meaning (f .line))) none
@@ -33,13 +32,13 @@ some-part k p n (some []) m e = omega arith
 some-part k p n (some (c ∷ [])) m e = omega arith
 some-part k p n (some (c ∷ (d ∷ ds))) m e = omega arith
 
-pub from-some : (q : List ℕ) (r : ℕ) (c : Parts) → Cursor q r c → c .more ≡ true → 0 < length (partsFrom q r c)
+pub from-some : (q : List ℕ) (r : ℕ) (c : Parts) → SoundParts q r c → c .more ≡ true → 0 < length (partsFrom q r c)
 unfolding partsFrom partsIf
-from-some q r c cursor e = rw e (some-part (c .split) (bits 32 (c .positive)) (bits 32 (c .negative)) _ (c .stay) (cursor .stays e))
+from-some q r c sound e = rw e (some-part (c .split) (positiveOf c) (negativeOf c) _ (c .stay) (sound .stays e))
 
 -- part `left` from here on is the one that is looked for
 pub record Looking (q : List ℕ) (r : ℕ) (wanted : Option rules.Line) (c : Parts) (left : ℕ) : Type 0 where
-  pub cursor : Cursor q r c
+  pub sound : SoundParts q r c
   pub same : getElem? (partsFrom q r c) left ≡ wanted
 
 module _ (q : List ℕ) (r : ℕ) (wanted : Option rules.Line) (c : Parts) (left : ℕ) (run : Looking q r wanted c left) where
@@ -50,11 +49,11 @@ module _ (q : List ℕ) (r : ℕ) (wanted : Option rules.Line) (c : Parts) (left
   looking-none e = ap (λ (ls : List rules.Line). getElem? ls 0) (from-none q r c e)
       ∙ sym (ap (λ (ls : List rules.Line). getElem? ls left) (from-none q r c e)) ∙ run .same
 
-  pub looking-next : 0 < left → (l : rules.Line) (d : Parts) → partsFrom q r c ≡ l ∷ partsFrom q r d → Cursor q r d
+  pub looking-next : 0 < left → (l : rules.Line) (d : Parts) → partsFrom q r c ≡ l ∷ partsFrom q r d → SoundParts q r d
       → Looking q r wanted d (left - 1)
   looking-next h l d e k =
       let s : left ≡ suc (left - 1) = omega arith in
       record {
-        cursor = k;
+        sound = k;
         same = sym (ap (λ (ls : List rules.Line). getElem? ls left) e ∙ ap (getElem? (l ∷ partsFrom q r d)) s) ∙ run .same;
       }

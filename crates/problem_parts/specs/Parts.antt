@@ -1,4 +1,4 @@
--- The parts of a clause from a cursor on, and what a cursor keeps.
+-- The parts of a clause that are left, and what is known of them.
 use mathlib.Core.Path.{_≡_, refl, sym, ap, _∙_}
 use mathlib.Core.Bool.{Bool, true, false}
 use mathlib.Core.List.{List, [], _∷_}
@@ -9,21 +9,32 @@ use native.Mathlib.Omega.{arith}
 use borrow.Author.Tests.{lt-ltb, le-ltb}
 use lib.Dec.{ltb}
 use lib.ListN.{length, getD}
+use Rattle.rules_types.specs.Limits.{allBooleans}
+use Rattle.rules_types.specs.Layout.{constraintBytes}
 use Rattle.rules.specs.Problem.{Constraint, Clause}
 use Rattle.rules.specs.Lines.{Booleans, noBooleans, including, meet}
 use Rattle.rules.specs.Lines as rules
 use Rattle.rules.specs.Normalize.{reduced, settledAll, membersOf, normalClause}
-use Rattle.rules.specs.Split.{chain, parts, partsOf}
+use Rattle.rules.specs.Split.{chain, parts, partsOf, splitsOf}
 use Rattle.masks.specs.Mask.{bits}
-use Rattle.problem_clauses.specs.declared.splits.Kept.the-variants.{Dropped, Count}
+use Rattle.problem_clauses.specs.declared.splits.Staying.{Staying}
+use Rattle.problem_clauses.specs.declared.splits.Staying.the-variants.{Dropped, Count}
 use Rattle.problem_clauses.specs.Passes.{values-next}
 use Rattle.problem_clauses.specs.Remaining.{counted}
-use Rattle.problem_scan.specs.Values.{valuesAt, literalAt, constraintAt, countOf, clauseAt}
+use Rattle.problem_clauses.specs.Splits.{splitsBy, splits-at}
+use Rattle.problem_scan.specs.Values.{valuesAt, literalAt, constraintAt, constraintsAt, countOf, clauseAt}
 use Rattle.problem_scan.specs.Sound.{Each, SoundConstraint, SoundClause}
 use Rattle.problem_parts.specs.declared.parts.Parts.{Parts}
-use Rattle.problem_parts.specs.declared.skip.Place.{Place}
-use Rattle.problem_parts.specs.Skip.{constraintsAt, Skipped, kept-first}
+use Rattle.problem_parts.specs.declared.skip.ConstraintsAt.{ConstraintsAt}
+use Rattle.problem_parts.specs.Skip.{Skipped, kept-first}
 use Rattle.problem_parts.specs.Constraint.{lineOf}
+
+-- the literals of the next part, as sets
+abbrev pub positiveOf : Parts → Booleans
+positiveOf c = bits allBooleans (c .positive)
+
+abbrev pub negativeOf : Parts → Booleans
+negativeOf c = bits allBooleans (c .negative)
 
 -- the parts with the first part's literals p and n and the constraints that stay; none where the clause is dropped
 unfoldable pub partsBy : ℕ → Booleans → Booleans → Option (List Constraint) → List rules.Line
@@ -35,14 +46,18 @@ partsIf false k p n o = []
 partsIf true k p n o = partsBy k p n o
 
 unfoldable pub partsFrom : List ℕ → ℕ → Parts → List rules.Line
-partsFrom q r c = partsIf (c .more) (c .split) (bits 32 (c .positive)) (bits 32 (c .negative))
+partsFrom q r c = partsIf (c .more) (c .split) (positiveOf c) (negativeOf c)
     (settledAll (constraintsAt q r (c .left) (c .at)))
 
 -- the constraints are sound, and those that stay are counted
-pub record Cursor (q : List ℕ) (r : ℕ) (c : Parts) : Type 0 where
-  pub each : Each (SoundConstraint q r) (5 + r * 4) (c .left) (c .at)
+pub record SoundParts (q : List ℕ) (r : ℕ) (c : Parts) : Type 0 where
+  pub each : Each (SoundConstraint q r) (constraintBytes r) (c .left) (c .at)
   pub stays : c .more ≡ true → counted 0 (settledAll (constraintsAt q r (c .left) (c .at))) ≡ Count (c .stay)
   pub few : c .split + c .stay ≤ 1000
+
+-- the split variables that they take
+abbrev pub splitsIn : Parts → ℕ
+splitsIn c = splitsBy false (Count (c .stay))
 
 -- ---- from the first part on
 module _ (k : ℕ) (c : Clause) where
@@ -62,21 +77,21 @@ module _ (k : ℕ) (c : Clause) where
   normal-parts none e f = rw (e, f, normalClause, partsOf)
   normal-parts (some cs) e f = rw (e, f, normalClause, partsOf)
 
--- a cursor at a clause's constraints, with its literals
+-- all parts of a clause: its constraints and its literals
 pub record Started (q : List ℕ) (r at : ℕ) (c : Parts) : Type 0 where
   pub place : c .at ≡ countOf q at + 1
   pub count : c .left ≡ getD q (countOf q at) 0
-  pub positive : bits 32 (c .positive) ≡ membersOf false (valuesAt (literalAt q) 1 (getD q at 0) (at + 1))
-  pub negative : bits 32 (c .negative) ≡ membersOf true (valuesAt (literalAt q) 1 (getD q at 0) (at + 1))
+  pub positive : positiveOf c ≡ membersOf false (valuesAt (literalAt q) 1 (getD q at 0) (at + 1))
+  pub negative : negativeOf c ≡ membersOf true (valuesAt (literalAt q) 1 (getD q at 0) (at + 1))
 
 module _ (q : List ℕ) (r at : ℕ) (c : Parts) (start : Started q r at c) where
-  pub begin-clash : c .more ≡ false → meet (bits 32 (c .positive)) (bits 32 (c .negative)) ≡ true
+  pub begin-clash : c .more ≡ false → meet (positiveOf c) (negativeOf c) ≡ true
       → partsFrom q r c ≡ partsOf (c .split) (clauseAt q r at)
   unfolding partsFrom partsIf clauseAt
   begin-clash m e = rw m (sym (clash-parts (c .split) (clauseAt q r at) (rw (start .positive, start .negative) at e)))
 
-  module _ (e : meet (bits 32 (c .positive)) (bits 32 (c .negative)) ≡ false) where
-    normal-here : partsBy (c .split) (bits 32 (c .positive)) (bits 32 (c .negative)) (settledAll (constraintsAt q r (c .left) (c .at)))
+  module _ (e : meet (positiveOf c) (negativeOf c) ≡ false) where
+    normal-here : partsBy (c .split) (positiveOf c) (negativeOf c) (settledAll (constraintsAt q r (c .left) (c .at)))
         ≡ partsOf (c .split) (clauseAt q r at)
     unfolding clauseAt
     normal-here = rw (start .place, start .count, start .positive, start .negative)
@@ -91,14 +106,19 @@ module _ (q : List ℕ) (r at : ℕ) (c : Parts) (start : Started q r at c) wher
     unfolding partsFrom partsIf partsBy counted
     begin-dropped m d = rw m (by (settledAll (constraintsAt q r (c .left) (c .at))) d normal-here)
       where
-        by : (o : Option (List Constraint)) → counted 0 o ≡ Dropped → partsBy (c .split) (bits 32 (c .positive)) (bits 32 (c .negative)) o
+        by : (o : Option (List Constraint)) → counted 0 o ≡ Dropped → partsBy (c .split) (positiveOf c) (negativeOf c) o
             ≡ partsOf (c .split) (clauseAt q r at) → [] ≡ partsOf (c .split) (clauseAt q r at)
         by none i h = h
         by (some cs) i h = let z : _≡_ {A = ℕ} 0 1 = cc in absurd (omega arith)
 
-  pub begin-cursor : SoundClause q r at → (c .more ≡ true → counted 0 (settledAll (constraintsAt q r (c .left) (c .at))) ≡ Count (c .stay))
-      → c .split + c .stay ≤ 1000 → Cursor q r c
-  begin-cursor sound k h = record { each = rw (start .place, start .count) (sound .constraints); stays = k; few = h }
+  pub begin-splits : (m : Bool) (k : Staying) → meet (positiveOf c) (negativeOf c) ≡ m
+      → k ≡ counted 0 (settledAll (constraintsAt q r (c .left) (c .at))) → splitsBy m k ≡ splitsOf (clauseAt q r at)
+  begin-splits m k e i = ap (splitsBy m) i ∙ rw (start .place, start .count)
+      (sym (splits-at q r at (c .positive) (c .negative) (start .positive) (start .negative) m (countOf q at) e refl))
+
+  pub begin-sound : SoundClause q r at → (c .more ≡ true → counted 0 (settledAll (constraintsAt q r (c .left) (c .at))) ≡ Count (c .stay))
+      → c .split + c .stay ≤ 1000 → SoundParts q r c
+  begin-sound sound k h = record { each = rw (start .place, start .count) (sound .constraints); stays = k; few = h }
 
 -- ---- one part more
 -- the part's own split variable, except the last's
@@ -131,9 +151,9 @@ module _ (k : ℕ) (p n : Booleans) (d : Constraint) (stay : ℕ) where
       ap Count t
 
 -- the parts behind the one whose constraint stands at a place
-unfoldable pub partsBehind : List ℕ → ℕ → Parts → Place → List rules.Line
+unfoldable pub partsBehind : List ℕ → ℕ → Parts → ConstraintsAt → List rules.Line
 partsBehind q r c p = partsIf (ltb 1 (c .stay)) (c .split + 1) noBooleans (including (c .split) noBooleans)
-    (settledAll (constraintsAt q r (p .left - 1) (p .at + (5 + r * 4))))
+    (settledAll (constraintsAt q r (p .left - 1) (p .at + constraintBytes r)))
 
 -- the only part, without a constraint
 pub bare-part : (k : ℕ) (p n : Booleans) (o : Option (List Constraint)) → counted 0 o ≡ Count 0 → partsBy k p n o ≡ record {
@@ -146,42 +166,42 @@ bare-part k p n none e = let z : _≡_ {A = ℕ} 0 1 = cc in absurd (omega arith
 bare-part k p n (some []) e = refl
 bare-part k p n (some (x ∷ xs)) e = let s : 0 + suc (length xs) ≡ 0 = cc in absurd (omega arith)
 
--- ---- from a cursor: the part without a constraint, or the one whose constraint is the first that stays
-pub zero-bits : bits 32 0 ≡ noBooleans
+-- ---- the next one: the part without a constraint, or the one whose constraint is the first that stays
+pub zero-bits : bits allBooleans 0 ≡ noBooleans
 unfolding bits noBooleans
 zero-bits = refl
 
-module _ (q : List ℕ) (r : ℕ) (c : Parts) (cursor : Cursor q r c) (more : c .more ≡ true) where
+module _ (q : List ℕ) (r : ℕ) (c : Parts) (sound : SoundParts q r c) (more : c .more ≡ true) where
   pub from-bare : c .stay ≡ 0 → partsFrom q r c ≡ lineOf (c .positive) (c .negative) none ∷ []
   unfolding partsFrom partsIf
-  from-bare e = rw more (bare-part (c .split) (bits 32 (c .positive)) (bits 32 (c .negative)) _ (cursor .stays more ∙ ap Count e))
+  from-bare e = rw more (bare-part (c .split) (positiveOf c) (negativeOf c) _ (sound .stays more ∙ ap Count e))
 
-  module _ (p : Place) (skipped : Skipped q r (c .at) (c .left) p) where
+  module _ (p : ConstraintsAt) (skipped : Skipped q r (c .at) (c .left) p) where
     abbrev here : Constraint
     here = constraintAt q r (p .at)
 
     abbrev behind : Option (List Constraint)
-    behind = settledAll (constraintsAt q r (p .left - 1) (p .at + (5 + r * 4)))
+    behind = settledAll (constraintsAt q r (p .left - 1) (p .at + constraintBytes r))
 
     first-kept : settledAll (constraintsAt q r (c .left) (c .at)) ≡ elim behind [ none ↦ none | some ds ↦ some (reduced here ∷ ds) ]
     first-kept =
         sym (skipped .same)
-        ∙ ap settledAll (values-next (constraintAt q r) (5 + r * 4) (p .at) (p .left) (skipped .more))
-        ∙ kept-first here (constraintsAt q r (p .left - 1) (p .at + (5 + r * 4))) (skipped .stays)
+        ∙ ap settledAll (values-next (constraintAt q r) (constraintBytes r) (p .at) (p .left) (skipped .more))
+        ∙ kept-first here (constraintsAt q r (p .left - 1) (p .at + constraintBytes r)) (skipped .stays)
 
     count-kept : counted 0 (elim behind [ none ↦ none | some ds ↦ some (reduced here ∷ ds) ]) ≡ Count (c .stay)
-    count-kept = sym (ap (counted 0) first-kept) ∙ cursor .stays more
+    count-kept = sym (ap (counted 0) first-kept) ∙ sound .stays more
 
     pub behind-count : counted 0 behind ≡ Count (c .stay - 1)
-    behind-count = next-count (c .split) (bits 32 (c .positive)) (bits 32 (c .negative)) (reduced here) (c .stay) behind count-kept
+    behind-count = next-count (c .split) (positiveOf c) (negativeOf c) (reduced here) (c .stay) behind count-kept
 
     pub from-kept : partsFrom q r c
         ≡ record {
-          positive = withSplit (ltb 1 (c .stay)) (c .split) (bits 32 (c .positive));
+          positive = withSplit (ltb 1 (c .stay)) (c .split) (positiveOf c);
           negative =
-              bits 32 (c .negative);
+              negativeOf c;
           constraint = some (reduced here);
         } ∷ partsBehind q r c p
     unfolding partsFrom partsIf partsBehind
     from-kept = rw (more, first-kept)
-        (next-part (c .split) (bits 32 (c .positive)) (bits 32 (c .negative)) (reduced here) (c .stay) behind count-kept)
+        (next-part (c .split) (positiveOf c) (negativeOf c) (reduced here) (c .stay) behind count-kept)

@@ -7,17 +7,18 @@ use Prim.Native.Nat.{ℕ, zero, suc, _+_, _*_, _-_, _<_}
 use native.Mathlib.Omega.{arith}
 use lib.IntN.{pos}
 use lib.Dec.{eqb}
+use Rattle.rules_types.specs.Layout.{constraintBytes}
 use Rattle.rules.specs.Lists.{all}
 use Rattle.rules.specs.Arithmetic.{isZero, related}
 use Rattle.rules.specs.Problem.{Constraint}
 use Rattle.rules.specs.Normalize.{reduced, settled, settledAll}
-use Rattle.problem_clauses.specs.declared.splits.Kept.the-variants.{Dropped, Count}
+use Rattle.problem_clauses.specs.declared.splits.Staying.the-variants.{Dropped, Count}
 use Rattle.problem_clauses.specs.Passes.{values-next}
 use Rattle.problem_clauses.specs.Settled.{fate}
 use Rattle.problem_clauses.specs.Remaining.{weight, counted}
-use Rattle.problem_scan.specs.Values.{valuesAt, constraintAt}
+use Rattle.problem_scan.specs.Values.{valuesAt, constraintAt, constraintsAt}
 use Rattle.problem_scan.specs.Sound.{Each, SoundConstraint, each-first, each-rest}
-use Rattle.problem_parts.specs.declared.skip.Place.{Place}
+use Rattle.problem_parts.specs.declared.skip.ConstraintsAt.{ConstraintsAt}
 
 -- ---- whether a constraint stays
 module _ (c : Constraint) where
@@ -53,19 +54,15 @@ module _ (c : Constraint) where
       by false i k = rw (e, i, settled, settledAll)
 
 -- ---- the loop
-module _ (q : List ℕ) (r : ℕ) where
-  abbrev pub constraintsAt : ℕ → ℕ → List Constraint
-  constraintsAt count at = valuesAt (constraintAt q r) (5 + r * 4) count at
-
 pub record Skipping (q : List ℕ) (r from count stay at left : ℕ) : Type 0 where
-  pub each : Each (SoundConstraint q r) (5 + r * 4) left at
+  pub each : Each (SoundConstraint q r) (constraintBytes r) left at
   pub same : settledAll (constraintsAt q r left at) ≡ settledAll (constraintsAt q r count from)
   pub stays : counted 0 (settledAll (constraintsAt q r left at)) ≡ Count stay
 
 -- the first that stays, and those behind it
-pub record Skipped (q : List ℕ) (r from count : ℕ) (p : Place) : Type 0 where
+pub record Skipped (q : List ℕ) (r from count : ℕ) (p : ConstraintsAt) : Type 0 where
   pub more : 0 < p .left
-  pub each : Each (SoundConstraint q r) (5 + r * 4) (p .left) (p .at)
+  pub each : Each (SoundConstraint q r) (constraintBytes r) (p .left) (p .at)
   pub same : settledAll (constraintsAt q r (p .left) (p .at)) ≡ settledAll (constraintsAt q r count from)
   pub stays : all isZero (constraintAt q r (p .at) .coefficients) ≡ false
 
@@ -79,17 +76,18 @@ module _ (q : List ℕ) (r from count stay at left : ℕ) (run : Skipping q r fr
       by (suc k) e = omega arith
 
   pub skipping-sound : SoundConstraint q r at
-  skipping-sound = each-first (SoundConstraint q r) (5 + r * 4) left at skipping-more (run .each)
+  skipping-sound = each-first (SoundConstraint q r) (constraintBytes r) left at skipping-more (run .each)
 
-  pub skipping-next : all isZero (constraintAt q r at .coefficients) ≡ true → Skipping q r from count stay (at + (5 + r * 4)) (left - 1)
+  pub skipping-next : all isZero (constraintAt q r at .coefficients) ≡ true
+      → Skipping q r from count stay (at + constraintBytes r) (left - 1)
   skipping-next z =
-      let e = values-next (constraintAt q r) (5 + r * 4) at left skipping-more in
-      let cs = constraintsAt q r (left - 1) (at + (5 + r * 4)) in
+      let e = values-next (constraintAt q r) (constraintBytes r) at left skipping-more in
+      let cs = constraintsAt q r (left - 1) (at + constraintBytes r) in
       let k : counted 0 (settledAll (constraintAt q r at ∷ cs)) ≡ Count stay =
       sym (ap (λ (ds : List Constraint). counted 0 (settledAll ds)) e) ∙ run .stays in
       let s = struck-first (constraintAt q r at) cs stay z k in
       record {
-        each = each-rest (SoundConstraint q r) (5 + r * 4) left at skipping-more (run .each);
+        each = each-rest (SoundConstraint q r) (constraintBytes r) left at skipping-more (run .each);
         same = sym s ∙ sym (ap settledAll e) ∙ run .same;
         stays = sym (ap (counted 0) s) ∙ k;
       }

@@ -1,25 +1,29 @@
 // The constraint at a place as a line.
 use fields::amount_at;
 use lines::line::Line;
+use problem_clauses::constraint::bound_of;
+use rules_types::layout::CONSTRAINT_COEFFICIENTS;
+use rules_types::limits::Limits;
 ghost use mathlib.Core.Path.{_≡_};
 ghost use mathlib.Core.List.{_++_};
 ghost use mathlib.Core.Option.{some};
 ghost use Prim.Native.Nat.{_-_, _≤_};
 ghost use lib.IntN.{pos};
 ghost use lib.ListN.{length, replicate};
+ghost use Rattle.rules_types.specs.Limits.{rationals};
 ghost use Rattle.problem_scan.specs.Values.{valuesAt, behind, amountAt, constraintAt};
 ghost use Rattle.problem_scan.specs.Sound.{SoundConstraint};
 ghost use Rattle.lines.specs.Line.{meaning, Ready};
 ghost use Rattle.problem_parts.specs.Constraint.{lineOf};
 
 // So many coefficients, and 0 from there on.
-fn row(q: &[u8], from: usize, count: u8) -> [i64; 8]
-    requires { ⌜ count ≤ 8 ⌝ }
+fn row(q: &[u8], from: usize, count: u8) -> [i64; Limits::RATIONALS]
+    requires { ⌜ count ≤ rationals ⌝ }
     requires { ⌜ behind 4 count from ≤ length (now q) ⌝ }
-    ensures { λ out. ⌜ out ≡ valuesAt (amountAt (now (q .entry))) 4 count from ++ replicate (8 - count) (pos 0) ⌝ }
+    ensures { λ out. ⌜ out ≡ valuesAt (amountAt (now (q .entry))) 4 count from ++ replicate (rationals - count) (pos 0) ⌝ }
 {
     let n = count as usize;
-    let mut out = [0 as i64; 8];
+    let mut out = [0 as i64; Limits::RATIONALS];
     let mut at = from;
     let mut i = 0;
     while i < n {
@@ -32,13 +36,13 @@ fn row(q: &[u8], from: usize, count: u8) -> [i64; 8]
 
 // With these sets of Boolean variables.
 pub fn constraint_line(q: &[u8], at: usize, r: u8, positive: u32, negative: u32) -> Line
-    requires { ⌜ r ≤ 8 ⌝ }
+    requires { ⌜ r ≤ rationals ⌝ }
     requires { ⌜ SoundConstraint (now q) r at ⌝ }
     ensures { λ l. ⌜ meaning l ≡ lineOf positive negative (some (constraintAt (now (q .entry)) r at)) ⌝ }
     ensures { λ l. ⌜ Ready l ⌝ }
 {
-    let coefficients = row(q, at + 1, r);
-    let bound = amount_at(q, at + 1 + (r as usize) * 4);
+    let coefficients = row(q, at + CONSTRAINT_COEFFICIENTS, r);
+    let bound = bound_of(q, at, r);
     Line {
         positive: positive,
         negative: negative,

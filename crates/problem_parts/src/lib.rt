@@ -1,4 +1,4 @@
-// The parts of a clause in order, read from the question's bytes.
+// The parts of a clause in order, read from the problem's bytes.
 pub mod constraint;
 pub mod part;
 pub mod parts;

@@ -7,11 +7,12 @@ use lines::line::Line;
 ghost use mathlib.Core.Path.{_≡_};
 ghost use Prim.Native.Nat.{_≤_};
 ghost use lib.ListN.{getElem?};
+ghost use Rattle.rules_types.specs.Limits.{rationals, allBooleans};
 ghost use Rattle.rules.specs.Split.{partsOf};
 ghost use Rattle.problem_scan.specs.Values.{clauseAt};
 ghost use Rattle.problem_scan.specs.Sound.{SoundClause};
 ghost use Rattle.lines.specs.Line.{Ready};
-ghost use Rattle.problem_parts.specs.Parts.{partsFrom, Cursor};
+ghost use Rattle.problem_parts.specs.Parts.{partsFrom, SoundParts};
 ghost use Rattle.problem_parts.specs.Part.{partOf};
 
 // The line, where there is such a part.
@@ -21,8 +22,8 @@ pub struct Found {
 }
 
 fn first(q: &[u8], r: u8, parts: Parts) -> Found
-    requires { ⌜ r ≤ 8 ⌝ }
-    requires { ⌜ Cursor (now q) r parts ⌝ }
+    requires { ⌜ r ≤ rationals ⌝ }
+    requires { ⌜ SoundParts (now q) r parts ⌝ }
     ensures { λ f. ⌜ partOf f ≡ getElem? (partsFrom (now (q .entry)) r parts) 0 ⌝ }
     ensures { λ f. ⌜ Ready (f .line) ⌝ }
 {
@@ -42,9 +43,9 @@ fn first(q: &[u8], r: u8, parts: Parts) -> Found
 
 // Part j of the clause at a place; `split` is its first split variable.
 pub fn part(q: &[u8], at: usize, r: u8, split: usize, j: u64) -> Found
-    requires { ⌜ r ≤ 8 ⌝ }
+    requires { ⌜ r ≤ rationals ⌝ }
     requires { ⌜ SoundClause (now q) r at ⌝ }
-    requires { ⌜ split ≤ 32 ⌝ }
+    requires { ⌜ split ≤ allBooleans ⌝ }
     ensures { λ f. ⌜ partOf f ≡ getElem? (partsOf split (clauseAt (now (q .entry)) r at)) j ⌝ }
     ensures { λ f. ⌜ Ready (f .line) ⌝ }
 {

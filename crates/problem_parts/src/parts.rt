@@ -1,7 +1,7 @@
 // The parts of a clause one after another: "Piece 0 has the literals, condition 0 and its link; each later piece has the previous
 // link negated, its condition and, except the last, the next link."
 use crate::constraint::constraint_line;
-use crate::skip::Place;
+use crate::skip::ConstraintsAt;
 use crate::skip::skip;
 use lines::line::Line;
 use masks::meets;
@@ -9,24 +9,28 @@ use masks::with;
 use normalization::reduce::reduce;
 use problem_clauses::literals::literals;
 use problem_clauses::places::count_place;
-use problem_clauses::splits::Kept;
+use problem_clauses::splits::Staying;
+use problem_clauses::splits::between;
 use problem_clauses::splits::remaining;
+use rules_types::layout::constraint_bytes;
+use rules_types::limits::Limits;
 ghost use mathlib.Core.Path.{_≡_};
 ghost use mathlib.Core.Bool.{true, false};
 ghost use mathlib.Core.List.{_∷_};
 ghost use mathlib.Core.Option.{none, some};
 ghost use Prim.Native.Nat.{_≤_, _<_};
 ghost use lib.Dec.{ltb};
+ghost use Rattle.rules_types.specs.Limits.{rationals, allBooleans};
 ghost use Rattle.rules.specs.Lists.{all};
 ghost use Rattle.rules.specs.Arithmetic.{isZero};
 ghost use Rattle.rules.specs.Normalize.{reduced};
-ghost use Rattle.rules.specs.Split.{partsOf};
+ghost use Rattle.rules.specs.Split.{partsOf, splitsOf};
 ghost use Rattle.masks.specs.Mask.{bits};
 ghost use Rattle.problem_scan.specs.Values.{constraintAt, clauseAt};
 ghost use Rattle.problem_scan.specs.Sound.{SoundConstraint, SoundClause};
 ghost use Rattle.lines.specs.Line.{meaning, Ready};
 ghost use Rattle.problem_parts.specs.Constraint.{lineOf};
-ghost use Rattle.problem_parts.specs.Parts.{partsFrom, Cursor, withSplit, partsBehind};
+ghost use Rattle.problem_parts.specs.Parts.{partsFrom, SoundParts, splitsIn, withSplit, partsBehind};
 ghost use Rattle.problem_parts.specs.Skip.{Skipped};
 
 pub struct Parts {
@@ -51,9 +55,10 @@ pub struct Part {
 // Before the first part of a clause; `split` is the next split variable.
 pub fn begin(q: &[u8], at: usize, r: u8, split: usize) -> Parts
     requires { ⌜ SoundClause (now q) r at ⌝ }
-    requires { ⌜ split ≤ 32 ⌝ }
+    requires { ⌜ split ≤ allBooleans ⌝ }
     ensures { λ p. ⌜ partsFrom (now (q .entry)) r p ≡ partsOf split (clauseAt (now (q .entry)) r at) ⌝ }
-    ensures { λ p. ⌜ Cursor (now (q .entry)) r p ⌝ }
+    ensures { λ p. ⌜ SoundParts (now (q .entry)) r p ⌝ }
+    ensures { λ p. ⌜ splitsIn p ≡ splitsOf (clauseAt (now (q .entry)) r at) ⌝ }
 {
     let place = count_place(q, at);
     let l = literals(q, at + 1, q[at]);
@@ -71,7 +76,7 @@ pub fn begin(q: &[u8], at: usize, r: u8, split: usize) -> Parts
         return first;
     }
     let k = remaining(q, place + 1, r, count);
-    let Kept::Count(n) = k else {
+    let Staying::Count(n) = k else {
         return first;
     };
     first.more = true;
@@ -79,9 +84,16 @@ pub fn begin(q: &[u8], at: usize, r: u8, split: usize) -> Parts
     first
 }
 
+// The split variables that the parts take.
+pub fn splits(parts: Parts) -> u8
+    ensures { λ n. ⌜ n ≡ splitsIn parts ⌝ }
+{
+    between(Staying::Count(parts.stay))
+}
+
 // The positive literals of the next part: with its split variable, except the last.
 fn own(parts: Parts) -> u32
-    ensures { λ m. ⌜ bits 32 m ≡ withSplit (ltb 1 (parts .stay)) (parts .split) (bits 32 (parts .positive)) ⌝ }
+    ensures { λ m. ⌜ bits allBooleans m ≡ withSplit (ltb 1 (parts .stay)) (parts .split) (bits allBooleans (parts .positive)) ⌝ }
 {
     if 1 < parts.stay {
         return with(parts.positive, parts.split);
@@ -98,14 +110,14 @@ pub fn bare(parts: Parts) -> Line
         positive: parts.positive,
         negative: parts.negative,
         relation: 0,
-        coefficients: [0 as i64; 8],
+        coefficients: [0 as i64; Limits::RATIONALS],
         bound: 0,
     }
 }
 
 // A constraint that stays, divided by its content.
-fn kept(q: &[u8], at: usize, r: u8, positive: u32, negative: u32) -> Line
-    requires { ⌜ r ≤ 8 ⌝ }
+fn reduced_line(q: &[u8], at: usize, r: u8, positive: u32, negative: u32) -> Line
+    requires { ⌜ r ≤ rationals ⌝ }
     requires { ⌜ SoundConstraint (now q) r at ⌝ }
     requires { ⌜ all isZero (constraintAt (now q) r at .coefficients) ≡ false ⌝ }
     ensures { λ l. ⌜ meaning l ≡ lineOf positive negative (some (reduced (constraintAt (now (q .entry)) r at))) ⌝ }
@@ -114,19 +126,19 @@ fn kept(q: &[u8], at: usize, r: u8, positive: u32, negative: u32) -> Line
     reduce(constraint_line(q, at, r, positive, negative))
 }
 
-// Behind the part whose constraint stands at a place.
-fn rest(q: &[u8], r: u8, parts: Parts, place: Place) -> Parts
-    requires { ⌜ Cursor (now q) r parts ⌝ }
-    requires { ⌜ Skipped (now q) r (parts .at) (parts .left) place ⌝ }
+// Behind the part whose constraint is the first of these.
+fn rest(q: &[u8], r: u8, parts: Parts, from: ConstraintsAt) -> Parts
+    requires { ⌜ SoundParts (now q) r parts ⌝ }
+    requires { ⌜ Skipped (now q) r (parts .at) (parts .left) from ⌝ }
     requires { ⌜ (parts .more ≡ true) × (0 < parts .stay) ⌝ }
-    ensures { λ p. ⌜ partsFrom (now (q .entry)) r p ≡ partsBehind (now (q .entry)) r parts place ⌝ }
-    ensures { λ p. ⌜ Cursor (now (q .entry)) r p ⌝ }
+    ensures { λ p. ⌜ partsFrom (now (q .entry)) r p ≡ partsBehind (now (q .entry)) r parts from ⌝ }
+    ensures { λ p. ⌜ SoundParts (now (q .entry)) r p ⌝ }
 {
-    let size = 5 + (r as usize) * 4;
+    let size = constraint_bytes(r);
     Parts {
         more: 1 < parts.stay,
-        at: place.at + size,
-        left: place.left - 1,
+        at: from.at + size,
+        left: from.left - 1,
         stay: parts.stay - 1,
         positive: 0,
         negative: with(0, parts.split),
@@ -136,12 +148,12 @@ fn rest(q: &[u8], r: u8, parts: Parts, place: Place) -> Parts
 
 // The next part, and those behind it.
 pub fn next(q: &[u8], r: u8, parts: Parts) -> Part
-    requires { ⌜ r ≤ 8 ⌝ }
-    requires { ⌜ Cursor (now q) r parts ⌝ }
+    requires { ⌜ r ≤ rationals ⌝ }
+    requires { ⌜ SoundParts (now q) r parts ⌝ }
     requires { ⌜ parts .more ≡ true ⌝ }
     ensures { λ p. ⌜ partsFrom (now (q .entry)) r parts ≡ meaning (p .line) ∷ partsFrom (now (q .entry)) r (p .rest) ⌝ }
     ensures { λ p. ⌜ Ready (p .line) ⌝ }
-    ensures { λ p. ⌜ Cursor (now (q .entry)) r (p .rest) ⌝ }
+    ensures { λ p. ⌜ SoundParts (now (q .entry)) r (p .rest) ⌝ }
 {
     if parts.stay == 0 {
         let mut ended = parts;
@@ -151,9 +163,9 @@ pub fn next(q: &[u8], r: u8, parts: Parts) -> Part
             rest: ended,
         };
     }
-    let place = skip(q, parts.at, r, parts.left, parts.stay);
+    let first = skip(q, parts.at, r, parts.left, parts.stay);
     Part {
-        line: kept(q, place.at, r, own(parts), parts.negative),
-        rest: rest(q, r, parts, place),
+        line: reduced_line(q, first.at, r, own(parts), parts.negative),
+        rest: rest(q, r, parts, first),
     }
 }

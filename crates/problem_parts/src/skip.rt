@@ -1,20 +1,22 @@
 // The constraints that normalizing strikes out, passed over.
 use problem_clauses::splits::settled;
 use problem_clauses::splits::weight;
+use rules_types::layout::constraint_bytes;
 ghost use mathlib.Core.Path.{_≡_};
 ghost use mathlib.Core.Bool.{not};
 ghost use Prim.Native.Nat.{_+_, _*_, _<_};
+ghost use Rattle.rules_types.specs.Layout.{constraintBytes};
 ghost use Rattle.rules.specs.Lists.{all};
 ghost use Rattle.rules.specs.Arithmetic.{isZero};
 ghost use Rattle.rules.specs.Normalize.{settledAll};
-ghost use Rattle.problem_clauses.specs.declared.splits.Kept.the-variants.{Count};
+ghost use Rattle.problem_clauses.specs.declared.splits.Staying.the-variants.{Count};
 ghost use Rattle.problem_clauses.specs.Remaining.{counted};
-ghost use Rattle.problem_scan.specs.Values.{valuesAt, constraintAt};
+ghost use Rattle.problem_scan.specs.Values.{valuesAt, constraintAt, constraintsAt};
 ghost use Rattle.problem_scan.specs.Sound.{Each, SoundConstraint};
 ghost use Rattle.problem_parts.specs.Skip.{Skipped};
 
-// Where a constraint stands, and how many there are from it on.
-pub struct Place {
+// Constraints that stand one behind another: the place of the first, and how many there are.
+pub struct ConstraintsAt {
     pub at: usize,
     pub left: u8,
 }
@@ -27,18 +29,18 @@ fn stays(q: &[u8], at: usize, r: u8) -> bool
 }
 
 // The first of so many constraints that stays, where some do.
-pub fn skip(q: &[u8], from: usize, r: u8, count: u8, stay: u8) -> Place
-    requires { ⌜ Each (SoundConstraint (now q) r) (5 + r * 4) count from ⌝ }
-    requires { ⌜ counted 0 (settledAll (valuesAt (constraintAt (now q) r) (5 + r * 4) count from)) ≡ Count stay ⌝ }
+pub fn skip(q: &[u8], from: usize, r: u8, count: u8, stay: u8) -> ConstraintsAt
+    requires { ⌜ Each (SoundConstraint (now q) r) (constraintBytes r) count from ⌝ }
+    requires { ⌜ counted 0 (settledAll (constraintsAt (now q) r count from)) ≡ Count stay ⌝ }
     requires { ⌜ 0 < stay ⌝ }
     ensures { λ p. ⌜ Skipped (now (q .entry)) r from count p ⌝ }
 {
-    let size = 5 + (r as usize) * 4;
+    let size = constraint_bytes(r);
     let mut at = from;
     let mut left = count;
     while !stays(q, at, r) {
         at += size;
         left -= 1;
     }
-    Place { at: at, left: left }
+    ConstraintsAt { at: at, left: left }
 }

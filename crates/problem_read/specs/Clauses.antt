@@ -30,7 +30,7 @@ module _ (q : List ℕ) (r : ℕ) where
   length-clausesAt zero at = refl
   length-clausesAt (suc n) at = ap suc (length-clausesAt n (clauseEnd q r at))
 
-  -- ---- one turn of a loop over them
+  -- ---- one pass of a loop over them
   pub clauses-none : (at : ℕ) → clausesAt 0 at ≡ []
   unfolding clausesAt
   clauses-none at = refl

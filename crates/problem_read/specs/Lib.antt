@@ -1,5 +1,5 @@
 pub mod Clauses
 pub mod Over
 pub mod Parsed
-pub mod Outcome
+pub mod ScanOf
 pub mod Readable

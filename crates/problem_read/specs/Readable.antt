@@ -1,5 +1,5 @@
--- What callers know of a question that was read without fault, and keep while they go from clause to clause.
-use mathlib.Core.Path.{_≡_, refl, sym, ap, _∙_}
+-- What callers know of a problem that was read without fault, and keep while they go from clause to clause.
+use mathlib.Core.Path.{_≡_, refl, sym, ap, subst, _∙_}
 use mathlib.Core.List.{List}
 use mathlib.Core.Option.{Option, none, some}
 use mathlib.Core.Logic.{⊎-elim}
@@ -8,8 +8,10 @@ use native.Mathlib.Nat.{eq-zero-or-pos}
 use native.Mathlib.Omega.{arith}
 use lib.ListN.{length}
 use Rattle.rules_types.specs.Limits as limit
+use Rattle.rules_types.specs.Layout as layout
 use Rattle.rules.specs.Split.{splitsOf, overSplit}
 use Rattle.rules.specs.Calls.{sound, read}
+use Rattle.problem_scan.specs.declared.cursor.Sizes.{Sizes}
 use Rattle.problem_scan.specs.declared.cursor.Scan.{Scan}
 use Rattle.problem_scan.specs.declared.cursor.Scan.the-variants.{Sound, Fault}
 use Rattle.problem_scan.specs.Scans.{scanned}
@@ -17,39 +19,36 @@ use Rattle.problem_scan.specs.Values.{clauseAt, clauseEnd}
 use Rattle.problem_scan.specs.Sound.{SoundClause, SoundClauses, clauses-first, clauses-rest}
 use Rattle.problem_read.specs.Clauses.{clausesAt, clausesEnd, clauses-next, ends-next, end-within}
 use Rattle.problem_read.specs.Over.{over-here, over-later}
-use Rattle.problem_read.specs.Parsed.{problemAt, Parsed, scan-parsed}
-use Rattle.problem_read.specs.Outcome.{outcome, outcome-fault, outcome-sound, read-sound, read-over}
+use Rattle.problem_read.specs.Parsed.{allClauses, problemAt, Parsed, scan-parsed}
+use Rattle.problem_read.specs.ScanOf.{scanOf, scanOf-fault, scanOf-sound, read-sound, read-over}
 
--- a question that is read without fault, with b, r and n
-pub record Readable (q : List ℕ) (b r n : ℕ) : Type 0 where
-  pub parsed : Parsed q b r n
-  pub splits : overSplit 0 (clausesAt q r n 4) ≡ none
-  pub is-read : read q ≡ sound (problemAt q b r n)
+-- a problem of these sizes that is read without fault
+pub record Readable (q : List ℕ) (sizes : Sizes) : Type 0 where
+  pub parsed : Parsed q sizes
+  pub splits : overSplit 0 (allClauses q sizes) ≡ none
+  pub is-read : read q ≡ sound (problemAt q sizes)
 
-module _ (q : List ℕ) (b r n : ℕ) (given : outcome (read q) ≡ Sound b r n) where
-  by-splits : (B R N : ℕ) → Parsed q B R N → (o : Option ℕ) → overSplit 0 (clausesAt q R N 4) ≡ o → Readable q b r n
-  unfolding outcome
-  by-splits B R N p (some place) e =
-      let i = ap outcome (read-over p place e) in
+module _ (q : List ℕ) (sizes : Sizes) (given : scanOf (read q) ≡ Sound sizes) where
+  by-splits : (S : Sizes) → Parsed q S → (o : Option ℕ) → overSplit 0 (allClauses q S) ≡ o → Readable q sizes
+  unfolding scanOf
+  by-splits S p (some place) e =
+      let i = ap scanOf (read-over p place e) in
       let z : _≡_ {A = ℕ} 0 1 = cc in
       absurd (omega arith)
-  by-splits B R N p none e =
+  by-splits S p none e =
       let s = read-sound p e in
-      let i = outcome-sound p s in
-      let x : B ≡ b = cc in
-      let y : R ≡ r = cc in
-      let z : N ≡ n = cc in
-      let g : Readable q B R N = record { parsed = p; splits = e; is-read = s } in
-      rw (x, y, z) at g
+      let i = scanOf-sound p s in
+      let x : S ≡ sizes = cc in
+      subst (Readable q) x (record { parsed = p; splits = e; is-read = s })
 
-  by-scan : (s : Scan) → scanned q ≡ s → Readable q b r n
+  by-scan : (s : Scan) → scanned q ≡ s → Readable q sizes
   by-scan (Fault f place) e =
-      let i = outcome-fault q f place e in
+      let i = scanOf-fault q f place e in
       let z : _≡_ {A = ℕ} 0 1 = cc in
       absurd (omega arith)
-  by-scan (Sound B R N) e = by-splits B R N (scan-parsed q B R N e) (overSplit 0 (clausesAt q R N 4)) refl
+  by-scan (Sound S) e = by-splits S (scan-parsed q S e) (overSplit 0 (allClauses q S)) refl
 
-  pub readable : Readable q b r n
+  pub readable : Readable q sizes
   readable = by-scan (scanned q) refl
 
 -- ---- from clause to clause
@@ -60,7 +59,7 @@ pub record Ahead (q : List ℕ) (r n at k : ℕ) : Type 0 where
   pub few : k ≤ limit.splits
   pub splits : overSplit k (clausesAt q r n at) ≡ none
 
-pub ahead-start : {q : List ℕ} {b r n : ℕ} → Readable q b r n → Ahead q r n 4 0
+pub ahead-start : {q : List ℕ} {sizes : Sizes} → Readable q sizes → Ahead q (sizes .rationals) (sizes .clauses) layout.firstClause 0
 ahead-start h = record { within = h .parsed .within; sound = h .parsed .sound; few = omega arith; splits = h .splits }
 
 module _ {q : List ℕ} {r n at k : ℕ} (ahead : Ahead q r n at k) (more : 0 < n) where

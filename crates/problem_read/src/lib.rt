@@ -1,3 +1,3 @@
-// A question read whole: its first fault 3 to 13 with its place, or b, r and n of a question without fault.
+// A problem read whole: its first fault 3 to 13 with its place, or the sizes of a problem without fault.
 pub mod over;
 pub mod read;

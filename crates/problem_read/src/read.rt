@@ -4,20 +4,21 @@ use crate::over::over;
 use problem_scan::cursor::Scan;
 use problem_scan::scan::scan;
 use rules_types::answers::Refusal;
+use rules_types::layout::FIRST_CLAUSE;
 ghost use mathlib.Core.Path.{_≡_};
 ghost use Rattle.rules.specs.Calls.{read};
-ghost use Rattle.problem_read.specs.Outcome.{outcome};
+ghost use Rattle.problem_read.specs.ScanOf.{scanOf};
 
 pub fn read(q: &[u8]) -> Scan
-    ensures { λ s. ⌜ s ≡ outcome (read (now (q .entry))) ⌝ }
+    ensures { λ s. ⌜ s ≡ scanOf (read (now (q .entry))) ⌝ }
 {
     let s = scan(q);
-    let Scan::Sound(b, r, n) = s else {
+    let Scan::Sound(sizes) = s else {
         return s;
     };
-    let e = over(q, 4, r, n);
+    let e = over(q, FIRST_CLAUSE, sizes.rationals, sizes.clauses);
     match e {
-        Excess::Within => Scan::Sound(b, r, n),
+        Excess::Within => Scan::Sound(sizes),
         Excess::At(place) => Scan::Fault(Refusal::Splits, place),
     }
 }

@@ -1,4 +1,4 @@
--- What is seen of a clause at a place of a slice: its literals, then its list of conditions.
+-- What is seen of a clause at a place of a slice: its literals, then its list of constraints.
 use mathlib.Core.Path.{_≡_, sym, _∙_}
 use mathlib.Core.List.{List}
 use Prim.Native.Nat.{ℕ, _+_, _≤_, _<_}
@@ -9,18 +9,26 @@ use lib.ListN.{length, drop, getD}
 use Rattle.rules_types.specs.declared.answers.Refusal.{Refusal}
 use Rattle.rules_types.specs.declared.answers.Refusal.the-variants as refusal
 use Rattle.rules_types.specs.Limits as limit
-use Rattle.rules.specs.Problem.{Literal, Constraint, Read, Reader, _>>=_, repeat, field, literal, constraint, clause}
+use Rattle.rules.specs.Problem.{Literal, Constraint, Clause, Read, Reader, _>>=_, repeat, field, literal, constraint, clause}
 use Rattle.problem_scan.specs.declared.cursor.Cursor.{Cursor}
 use Rattle.problem_scan.specs.declared.cursor.Cursor.the-variants.{Next, Fault}
+use Rattle.problem_scan.specs.declared.cursor.Sizes.{Sizes}
 use Rattle.problem_scan.specs.Seen.{seen, next-within, seen-fault, seen-next, seen-then-map}
 use Rattle.problem_scan.specs.Steady.{steady-repeat, steady-literal}
-use Rattle.problem_scan.specs.Parts.{byte-short, byte-bad, byte-good}
+use Rattle.problem_scan.specs.Constraints.{byte-short, byte-bad, byte-good}
 
 -- "a byte t, 0 to 8, then t conditions"
 unfoldable pub constraintList : ℕ → Reader (List Constraint)
 constraintList r = do
   t ← field 1 (λ t. leb t limit.constraints) refusal.Constraints
   repeat t (constraint r)
+
+-- a clause and all clauses of a problem of these sizes
+abbrev pub clauseOf : Sizes → Reader Clause
+clauseOf sizes = clause (sizes .booleans) (sizes .rationals)
+
+abbrev pub clausesOf : Sizes → Reader (List Clause)
+clausesOf sizes = repeat (sizes .clauses) (clauseOf sizes)
 
 module _ (q : List ℕ) (at r : ℕ) where
   pub list-short : at ≤ length q → length q ≤ at → seen (constraintList r (drop at q) at) ≡ Fault refusal.Truncated (length q)

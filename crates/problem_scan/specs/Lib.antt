@@ -5,7 +5,7 @@ pub mod Values
 pub mod Sound
 pub mod Valued
 pub mod Steady
-pub mod Parts
+pub mod Constraints
 pub mod Clauses
 pub mod Scans
 pub mod Read

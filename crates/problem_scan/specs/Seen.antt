@@ -17,14 +17,14 @@ module _ {A : Type 0} where
 
 -- ---- of a slice q: what is left is what stands from the next place on, which is in it
 module _ (q : List ℕ) {A : Type 0} where
-  abbrev pub Kept : Read A → Type 0
-  Kept (fault f place) = Unit {0}
-  Kept (got a bytes place) = (bytes ≡ drop place q) × (place ≤ length q)
+  abbrev pub Aligned : Read A → Type 0
+  Aligned (fault f place) = Unit {0}
+  Aligned (got a bytes place) = (bytes ≡ drop place q) × (place ≤ length q)
 
   abbrev pub Steady : Reader A → Type 0
-  Steady reader = (at : ℕ) → at ≤ length q → Kept (reader (drop at q) at)
+  Steady reader = (at : ℕ) → at ≤ length q → Aligned (reader (drop at q) at)
 
-  pub next-within : (r : Read A) (n : ℕ) → Kept r → seen r ≡ Next n → n ≤ length q
+  pub next-within : (r : Read A) (n : ℕ) → Aligned r → seen r ≡ Next n → n ≤ length q
   unfolding seen
   next-within (fault f place) n k e = let z : _≡_ {A = ℕ} 0 1 = cc in absurd (omega arith)
   next-within (got a bytes place) n k e = let z : place ≡ n = cc in omega (arith, k .1)
@@ -37,7 +37,7 @@ module _ {A B : Type 0} where
   seen-fault (got a bytes place) next g p e = let z : _≡_ {A = ℕ} 0 1 = cc in absurd (omega arith)
 
   -- what comes next is the same to see for every value
-  pub seen-next : (q : List ℕ) (r : Read A) (next : A → Reader B) (n : ℕ) (w : Cursor) → Kept q r → seen r ≡ Next n
+  pub seen-next : (q : List ℕ) (r : Read A) (next : A → Reader B) (n : ℕ) (w : Cursor) → Aligned q r → seen r ≡ Next n
       → ((a : A) → seen (next a (drop n q) n) ≡ w) → seen (after r next) ≡ w
   unfolding seen after
   seen-next q (fault f place) next n w k e h = let z : _≡_ {A = ℕ} 0 1 = cc in absurd (omega arith)

@@ -5,8 +5,10 @@ use Prim.Native.Nat.{ℕ, zero, suc, _+_, _-_, _≤_, _<_}
 use native.Mathlib.Omega.{arith}
 use lib.IntN.{pos}
 use lib.ListN.{length, getD, replicate}
+use Rattle.rules_types.specs.Limits as limit
+use Rattle.rules_types.specs.Layout as layout
 use Rattle.theory_vectors.specs.Amounts.{Small}
-use Rattle.problem_scan.specs.Values.{valuesAt, constraintBytes, amountAt, boundOf, countOf, clauseEnd}
+use Rattle.problem_scan.specs.Values.{valuesAt, amountAt, boundOf, countOf, clauseEnd}
 
 -- ---- so many values, the next one so many bytes on: each has the property
 unfoldable pub Each : (ℕ → Type 0) → ℕ → ℕ → ℕ → Type 0
@@ -29,16 +31,16 @@ abbrev pub Amount : List ℕ → ℕ → Type 0
 Amount q at = Small (amountAt q at)
 
 pub record SoundConstraint (q : List ℕ) (r at : ℕ) : Type 0 where
-  pub within : at + constraintBytes r ≤ length q
+  pub within : at + layout.constraintBytes r ≤ length q
   pub related : (0 < getD q at 0) × (getD q at 0 ≤ 2)
-  pub coefficients : Each (Amount q) 4 r (at + 1)
+  pub coefficients : Each (Amount q) 4 r (at + layout.constraintCoefficients)
   pub bound : Amount q (boundOf q r at)
 
 pub record SoundClause (q : List ℕ) (r at : ℕ) : Type 0 where
   pub within : clauseEnd q r at ≤ length q
-  pub literals : getD q at 0 ≤ 32
-  pub count : getD q (countOf q at) 0 ≤ 8
-  pub constraints : Each (SoundConstraint q r) (constraintBytes r) (getD q (countOf q at) 0) (countOf q at + 1)
+  pub literals : getD q at 0 ≤ limit.literals
+  pub count : getD q (countOf q at) 0 ≤ limit.constraints
+  pub constraints : Each (SoundConstraint q r) (layout.constraintBytes r) (getD q (countOf q at) 0) (countOf q at + 1)
 
 -- a coefficient that is not there is 0
 pub padded-small : (q : List ℕ) (k at n : ℕ) → Each (Amount q) 4 k at → (i : ℕ)
@@ -50,7 +52,7 @@ padded-small q zero at (suc n) each (suc i) = padded-small q zero at n each i
 padded-small q (suc k) at n each zero = each .0
 padded-small q (suc k) at n each (suc i) = padded-small q k (at + 4) n (each .1) i
 
--- ---- all clauses of a question, each behind the one before
+-- ---- all clauses of a problem, each behind the one before
 module _ (q : List ℕ) (r : ℕ) where
   unfoldable pub SoundClauses : ℕ → ℕ → Type 0
   SoundClauses zero at = Unit {0}

@@ -1,22 +1,22 @@
--- Every reader of a question leaves the slice from its next place on.
+-- Every reader of a problem leaves the slice from its next place on.
 use mathlib.Core.Path.{refl}
 use mathlib.Core.List.{List, _∷_}
 use Prim.Native.Nat.{ℕ, zero, suc}
 use lib.ListN.{drop}
 use Rattle.rules_types.specs.declared.answers.Refusal.{Refusal}
 use Rattle.rules.specs.Problem.{Read, fault, got, Reader, after, return, _>>=_, repeat, amount, literal, constraint, clause}
-use Rattle.problem_scan.specs.Seen.{Kept, Steady}
+use Rattle.problem_scan.specs.Seen.{Aligned, Steady}
 use Rattle.problem_scan.specs.Valued.{Valued, faulty, given, amount-valued, literal-valued, constraint-valued, clause-valued}
 
 -- ---- one after another, and repeated
 module _ (q : List ℕ) {A B : Type 0} where
-  kept-after : (r : Read A) (next : A → Reader B) → Kept q r → ((a : A) → Steady q (next a)) → Kept q (after r next)
+  aligned-after : (r : Read A) (next : A → Reader B) → Aligned q r → ((a : A) → Steady q (next a)) → Aligned q (after r next)
   unfolding after
-  kept-after (fault f place) next k s = tt
-  kept-after (got a bytes place) next k s = rw (k .0) (s a place (k .1))
+  aligned-after (fault f place) next k s = tt
+  aligned-after (got a bytes place) next k s = rw (k .0) (s a place (k .1))
 
   steady-then : (first : Reader A) (next : A → Reader B) → Steady q first → ((a : A) → Steady q (next a)) → Steady q (_>>=_ first next)
-  steady-then first next s t at h = kept-after (first (drop at q) at) next (s at h) t
+  steady-then first next s t at h = aligned-after (first (drop at q) at) next (s at h) t
 
 module _ (q : List ℕ) where
   steady-return : {A : Type 0} (a : A) → Steady q (return a)
@@ -28,19 +28,19 @@ module _ (q : List ℕ) where
   steady-repeat one s (suc k) =
       steady-then q one _ s (λ x. steady-then q (repeat k one) _ (steady-repeat one s k) (λ xs. steady-return (x ∷ xs)))
 
-  -- ---- the parts of a question
-  kept-valued : {A : Type 0} {v : A} {S : Type 0} {n : ℕ} {r : Read A} → Valued q v S n r → Kept q r
-  kept-valued (faulty f place e) = rw e tt
-  kept-valued (given e l s) = rw e (refl, l)
+  -- ---- the fields of a problem
+  aligned-valued : {A : Type 0} {v : A} {S : Type 0} {n : ℕ} {r : Read A} → Valued q v S n r → Aligned q r
+  aligned-valued (faulty f place e) = rw e tt
+  aligned-valued (given e l s) = rw e (refl, l)
 
   pub steady-amount : (f : Refusal) → Steady q (amount f)
-  steady-amount f at h = kept-valued (amount-valued q f at h)
+  steady-amount f at h = aligned-valued (amount-valued q f at h)
 
   pub steady-literal : (b : ℕ) → Steady q (literal b)
-  steady-literal b at h = kept-valued (literal-valued q b at h)
+  steady-literal b at h = aligned-valued (literal-valued q b at h)
 
   pub steady-constraint : (r : ℕ) → Steady q (constraint r)
-  steady-constraint r at h = kept-valued (constraint-valued q r at h)
+  steady-constraint r at h = aligned-valued (constraint-valued q r at h)
 
   pub steady-clause : (b r : ℕ) → Steady q (clause b r)
-  steady-clause b r at h = kept-valued (clause-valued q b r at h)
+  steady-clause b r at h = aligned-valued (clause-valued q b r at h)

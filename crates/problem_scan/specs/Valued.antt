@@ -12,11 +12,13 @@ use lib.Dec.{eqb}
 use lib.ListN.{length, drop, getD}
 use Rattle.rules_types.specs.declared.answers.Refusal.{Refusal}
 use Rattle.rules_types.specs.declared.answers.Refusal.the-variants as refusal
+use Rattle.rules_types.specs.Limits as limit
+use Rattle.rules_types.specs.Layout as layout
 use Rattle.rules.specs.Bytes.{fromUnsigned, fieldAt}
 use Rattle.rules.specs.Problem.{Read, fault, got, Reader, after, repeat, field, inRange, amount, literal, constraint, clause}
 use Rattle.theory_bytes.specs.Fields.{fieldAt-1}
 use Rattle.problem_scan.specs.Fields.{field-short, field-bad, field-good}
-use Rattle.problem_scan.specs.Values.{valuesAt, behind, behind-is, constraintBytes, amountAt, literalAt, boundOf, constraintAt}
+use Rattle.problem_scan.specs.Values.{valuesAt, behind, behind-is, amountAt, literalAt, boundOf, constraintAt}
 use Rattle.problem_scan.specs.Values.{countOf, clauseAt, clauseEnd}
 use Rattle.problem_scan.specs.Sound.{Each, Amount, SoundConstraint, SoundClause}
 
@@ -59,7 +61,7 @@ module _ (q : List ℕ) where
   pub amount-valued : (f : Refusal) (at : ℕ) → at ≤ length q → Valued q (amountAt q at) (Amount q at) (at + 4) (amount f (drop at q) at)
   unfolding amount amountAt inRange
   amount-valued f at h = valued-after _ (field-valued 4 (λ n. inRange (fromUnsigned n)) f at h)
-      (λ t l. given refl l (leb-true (natAbs (fromUnsigned (fieldAt at 4 q))) 1000000000 t))
+      (λ t l. given refl l (leb-true (natAbs (fromUnsigned (fieldAt at 4 q))) limit.amount t))
 
   pub literal-valued : (b at : ℕ) → at ≤ length q → Valued q (literalAt q at) (Unit {0}) (at + 1) (literal b (drop at q) at)
   unfolding literal literalAt
@@ -75,7 +77,7 @@ module _ (q : List ℕ) where
     repeat-valued (suc k) at h =
         valued-after _ (each at h) (λ p l. valued-after _ (repeat-valued k (at + size) l) (λ ps l. given refl l (p, ps)))
 
-  -- ---- a condition and a clause
+  -- ---- a constraint and a clause
   relation-is : (n : ℕ) → eqb n 1 || eqb n 2 ≡ true → (0 < n) × (n ≤ 2)
   relation-is n e = by (eqb n 1) refl e
     where
@@ -84,13 +86,15 @@ module _ (q : List ℕ) where
       by false i e = omega (arith, eqb-true n 2 e)
 
   pub constraint-valued : (r at : ℕ) → at ≤ length q
-      → Valued q (constraintAt q r at) (SoundConstraint q r at) (at + constraintBytes r) (constraint r (drop at q) at)
+      → Valued q (constraintAt q r at) (SoundConstraint q r at) (at + layout.constraintBytes r) (constraint r (drop at q) at)
   unfolding constraint constraintAt boundOf
   constraint-valued r at h =
-      let e : behind 4 r (at + 1) + 4 ≡ at + constraintBytes r = omega (arith, behind-is 4 r (at + 1)) in
+      let from = at + layout.constraintCoefficients in
+      let e : behind 4 r from + 4 ≡ at + layout.constraintBytes r = omega (arith, behind-is 4 r from) in
       valued-after _ (byte-valued (λ n. eqb n 1 || eqb n 2) _ at h) (λ t l.
-      valued-after _ (repeat-valued (amount refusal.Amount) (amountAt q) (Amount q) 4 (amount-valued refusal.Amount) r (at + 1) l) (λ s l.
-      valued-after _ (amount-valued refusal.Amount (behind 4 r (at + 1)) l) (λ u l.
+      valued-after _ (repeat-valued (amount refusal.Amount) (amountAt q) (Amount q) 4 (amount-valued refusal.Amount) r
+      (at + layout.constraintCoefficients) l) (λ s l.
+      valued-after _ (amount-valued refusal.Amount (behind 4 r (at + layout.constraintCoefficients)) l) (λ u l.
       rw (sym e) (given refl l (record {
         within = omega (arith, e);
         related = relation-is (getD q at 0) t;
@@ -105,11 +109,11 @@ module _ (q : List ℕ) where
       valued-after _ (byte-valued _ _ at h) (λ m l.
       valued-after _ (repeat-valued (literal b) (literalAt q) (λ i. Unit {0}) 1 (literal-valued b) (getD q at 0) (at + 1) l) (λ s l.
       valued-after _ (byte-valued _ _ (countOf q at) l) (λ t l.
-      valued-after _ (repeat-valued (constraint r) (constraintAt q r) (SoundConstraint q r) (constraintBytes r) (constraint-valued r)
+      valued-after _ (repeat-valued (constraint r) (constraintAt q r) (SoundConstraint q r) (layout.constraintBytes r) (constraint-valued r)
       (getD q (countOf q at) 0) (countOf q at + 1) l) (λ u l.
       given refl l (record {
         within = l;
-        literals = leb-true (getD q at 0) 32 m;
-        count = leb-true (getD q (countOf q at) 0) 8 t;
+        literals = leb-true (getD q at 0) limit.literals m;
+        count = leb-true (getD q (countOf q at) 0) limit.constraints t;
         constraints = u;
       })))))

@@ -1,4 +1,4 @@
--- The parts of a question by their places: what stands there, and where it ends.
+-- The fields of a problem by their places: what stands there, and where it ends.
 use mathlib.Core.Path.{_≡_, _∙_}
 use mathlib.Core.List.{List, [], _∷_, _++_}
 use Prim.Native.Nat.{ℕ, zero, suc, _+_, _*_, _-_, _%_}
@@ -8,6 +8,7 @@ use lib.IntN.{ℤ, pos}
 use lib.Dec.{eqb, leb}
 use lib.ListN.{getD, replicate}
 use Rattle.rules_types.specs.Limits as limit
+use Rattle.rules_types.specs.Layout as layout
 use Rattle.rules.specs.Bytes.{fromUnsigned, fieldAt}
 use Rattle.rules.specs.Problem.{Literal, Constraint, Clause}
 
@@ -25,10 +26,6 @@ unfolding behind
 behind-is size zero at = omega arith
 behind-is size (suc k) at = behind-is size k (at + size) ∙ omega (arith, suc-mul k size)
 
--- a condition's relation, r coefficients and bound
-abbrev pub constraintBytes : ℕ → ℕ
-constraintBytes r = 5 + r * 4
-
 module _ (q : List ℕ) where
   unfoldable pub amountAt : ℕ → ℤ
   amountAt at = fromUnsigned (fieldAt at 4 q)
@@ -38,17 +35,21 @@ module _ (q : List ℕ) where
 
   -- the place of the bound, and the place behind it
   unfoldable pub boundOf : ℕ → ℕ → ℕ
-  boundOf r at = behind 4 r (at + 1)
+  boundOf r at = behind 4 r (at + layout.constraintCoefficients)
 
   unfoldable pub constraintAt : ℕ → ℕ → Constraint
   constraintAt r at =
       record {
         strict = eqb (getD q at 0) 2;
-        coefficients = valuesAt amountAt 4 r (at + 1) ++ replicate (limit.rationals - r) (pos 0);
+        coefficients = valuesAt amountAt 4 r (at + layout.constraintCoefficients) ++ replicate (limit.rationals - r) (pos 0);
         bound = amountAt (boundOf r at);
       }
 
-  -- the place of the count of conditions, and the place behind them
+  -- so many constraints, one behind another
+  abbrev pub constraintsAt : ℕ → ℕ → ℕ → List Constraint
+  constraintsAt r count at = valuesAt (constraintAt r) (layout.constraintBytes r) count at
+
+  -- the place of the count of constraints, and the place behind them
   unfoldable pub countOf : ℕ → ℕ
   countOf at = behind 1 (getD q at 0) (at + 1)
 
@@ -57,8 +58,8 @@ module _ (q : List ℕ) where
       record {
         start = at;
         literals = valuesAt literalAt 1 (getD q at 0) (at + 1);
-        constraints = valuesAt (constraintAt r) (constraintBytes r) (getD q (countOf at) 0) (countOf at + 1);
+        constraints = constraintsAt r (getD q (countOf at) 0) (countOf at + 1);
       }
 
   unfoldable pub clauseEnd : ℕ → ℕ → ℕ
-  clauseEnd r at = behind (constraintBytes r) (getD q (countOf at) 0) (countOf at + 1)
+  clauseEnd r at = behind (layout.constraintBytes r) (getD q (countOf at) 0) (countOf at + 1)

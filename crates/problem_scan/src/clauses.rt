@@ -1,5 +1,6 @@
 // Literals and clauses: each function comes to what the definition of reading does from its place on.
 use crate::cursor::Cursor;
+use crate::cursor::Sizes;
 use crate::numbers::constraints;
 use rules_types::answers::Refusal;
 use rules_types::limits::Limits;
@@ -8,7 +9,7 @@ ghost use Prim.Native.Nat.{_≤_};
 ghost use lib.ListN.{length, drop};
 ghost use Rattle.rules.specs.Problem.{repeat, literal, clause};
 ghost use Rattle.problem_scan.specs.Seen.{seen};
-ghost use Rattle.problem_scan.specs.Clauses.{constraintList};
+ghost use Rattle.problem_scan.specs.Clauses.{constraintList, clausesOf};
 
 // So many literals: "mark not below b; its byte".
 fn literals(q: &[u8], from: usize, b: u8, count: u8) -> Cursor
@@ -64,15 +65,15 @@ fn clause(q: &[u8], at: usize, b: u8, r: u8) -> Cursor
     constraint_list(q, next, r)
 }
 
-// So many of them.
-pub fn clauses(q: &[u8], from: usize, b: u8, r: u8, count: u64) -> Cursor
+// All clauses of a problem of these sizes.
+pub fn clauses(q: &[u8], from: usize, sizes: Sizes) -> Cursor
     requires { ⌜ from ≤ length (now q) ⌝ }
-    ensures { λ c. ⌜ c ≡ seen (repeat count (clause b r) (drop from (now (q .entry))) from) ⌝ }
+    ensures { λ c. ⌜ c ≡ seen (clausesOf sizes (drop from (now (q .entry))) from) ⌝ }
 {
     let mut at = from;
-    let mut left = count;
+    let mut left = sizes.clauses;
     while 0 < left {
-        let one = clause(q, at, b, r);
+        let one = clause(q, at, sizes.booleans, sizes.rationals);
         let Cursor::Next(next) = one else {
             return one;
         };

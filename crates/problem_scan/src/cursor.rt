@@ -7,8 +7,15 @@ pub enum Cursor {
     Fault(Refusal, usize),
 }
 
-// Of a whole question: b, r and n, or a fault with its place.
+// b, r and n of a problem: how many Boolean variables, rational variables and clauses it has.
+pub struct Sizes {
+    pub booleans: u8,
+    pub rationals: u8,
+    pub clauses: u64,
+}
+
+// Of a whole problem: its sizes, or a fault with its place.
 pub enum Scan {
-    Sound(u8, u8, u64),
+    Sound(Sizes),
     Fault(Refusal, usize),
 }

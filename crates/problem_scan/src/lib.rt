@@ -1,4 +1,4 @@
-// The question's bytes read field by field, to the first fault with its place.
+// The problem's bytes read field by field, to the first fault with its place.
 mod clauses;
 pub mod cursor;
 mod numbers;

@@ -1,14 +1,15 @@
-// Amounts and conditions: each function comes to what the definition of reading does from its place on.
+// Amounts and constraints: each function comes to what the definition of reading does from its place on.
 use crate::cursor::Cursor;
 use fields::amount_at;
 use machine::sign::in_range;
 use rules_types::answers::Refusal;
+use rules_types::layout::CONSTRAINT_COEFFICIENTS;
 ghost use mathlib.Core.Path.{_≡_};
 ghost use Prim.Native.Nat.{_≤_};
 ghost use lib.ListN.{length, drop};
 ghost use Rattle.rules.specs.Problem.{repeat, amount, constraint};
 ghost use Rattle.problem_scan.specs.Seen.{seen};
-ghost use Rattle.problem_scan.specs.Parts.{isRelation};
+ghost use Rattle.problem_scan.specs.Constraints.{isRelation};
 
 fn amount(q: &[u8], at: usize) -> Cursor
     requires { ⌜ at ≤ length (now q) ⌝ }
@@ -60,7 +61,7 @@ fn constraint(q: &[u8], at: usize, r: u8) -> Cursor
     if !is_relation(relation) {
         return Cursor::Fault(Refusal::Relation, at);
     }
-    let coefficients = amounts(q, at + 1, r);
+    let coefficients = amounts(q, at + CONSTRAINT_COEFFICIENTS, r);
     let Cursor::Next(bound) = coefficients else {
         return coefficients;
     };

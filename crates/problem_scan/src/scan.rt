@@ -1,29 +1,35 @@
-// A question read to its first fault 3 to 12, each byte once.
+// A problem read to its first fault 3 to 12, each byte once.
 use crate::clauses::clauses;
 use crate::cursor::Cursor;
 use crate::cursor::Scan;
+use crate::cursor::Sizes;
 use fields::u16_at;
 use rules_types::answers::Refusal;
+use rules_types::layout::FIRST_CLAUSE;
+use rules_types::layout::PROBLEM_BOOLEANS;
+use rules_types::layout::PROBLEM_CLAUSES;
+use rules_types::layout::PROBLEM_RATIONALS;
 use rules_types::limits::Limits;
 ghost use mathlib.Core.Path.{_≡_};
 ghost use Prim.Native.Nat.{_≤_};
 ghost use lib.ListN.{length, drop};
+ghost use Rattle.rules_types.specs.Layout.{firstClause};
 ghost use Rattle.rules.specs.Problem.{problem};
 ghost use Rattle.problem_scan.specs.Scans.{outline, body, scanned};
 
 // The clauses, and 12: "bytes follow the last clause; the first".
-fn body(q: &[u8], b: u8, r: u8, n: u64) -> Scan
-    requires { ⌜ 4 ≤ length (now q) ⌝ }
-    ensures { λ s. ⌜ s ≡ outline (body b r n (drop 4 (now (q .entry))) 4) ⌝ }
+fn body(q: &[u8], sizes: Sizes) -> Scan
+    requires { ⌜ firstClause ≤ length (now q) ⌝ }
+    ensures { λ s. ⌜ s ≡ outline (body sizes (drop firstClause (now (q .entry))) firstClause) ⌝ }
 {
-    let read = clauses(q, 4, b, r, n);
+    let read = clauses(q, FIRST_CLAUSE, sizes);
     match read {
         Cursor::Fault(f, place) => Scan::Fault(f, place),
         Cursor::Next(at) => {
             if at < q.len() {
                 return Scan::Fault(Refusal::Trailing, at);
             }
-            Scan::Sound(b, r, n)
+            Scan::Sound(sizes)
         }
     }
 }
@@ -32,28 +38,33 @@ fn body(q: &[u8], b: u8, r: u8, n: u64) -> Scan
 fn problem(q: &[u8]) -> Scan
     ensures { λ s. ⌜ s ≡ outline (problem (now (q .entry)) 0) ⌝ }
 {
-    if q.len() < 1 {
+    if q.len() <= PROBLEM_BOOLEANS {
         return Scan::Fault(Refusal::Truncated, q.len());
     }
-    let b = q[0];
+    let b = q[PROBLEM_BOOLEANS];
     if Limits::BOOLEANS < b as usize {
-        return Scan::Fault(Refusal::Booleans, 0);
+        return Scan::Fault(Refusal::Booleans, PROBLEM_BOOLEANS);
     }
-    if q.len() < 2 {
+    if q.len() <= PROBLEM_RATIONALS {
         return Scan::Fault(Refusal::Truncated, q.len());
     }
-    let r = q[1];
+    let r = q[PROBLEM_RATIONALS];
     if Limits::RATIONALS < r as usize {
-        return Scan::Fault(Refusal::Rationals, 1);
+        return Scan::Fault(Refusal::Rationals, PROBLEM_RATIONALS);
     }
-    if q.len() < 4 {
+    if q.len() < FIRST_CLAUSE {
         return Scan::Fault(Refusal::Truncated, q.len());
     }
-    let n = u16_at(q, 2);
+    let n = u16_at(q, PROBLEM_CLAUSES);
     if (Limits::CLAUSES as u64) < n {
-        return Scan::Fault(Refusal::Clauses, 2);
+        return Scan::Fault(Refusal::Clauses, PROBLEM_CLAUSES);
     }
-    body(q, b, r, n)
+    let sizes = Sizes {
+        booleans: b,
+        rationals: r,
+        clauses: n,
+    };
+    body(q, sizes)
 }
 
 // 3, before them: "question over 32,768 bytes; 32,768".

@@ -38,7 +38,8 @@ never : {X : Type 0} (n : ℕ) → Fails n ≡ Accepted → X
 never n e = absurd (let z : _≡_ {A = ℕ} 0 1 = cc in omega arith)
 
 module _ (parts : List Step) (known : AllEncodable parts) where
-  steps-exactly : (k : ℕ) (earlier : List Line) (ends : Bool) (bytes : List ℕ) → All Encodable earlier → length earlier + k ≤ 65536
+  steps-exactly : (k : ℕ) (earlier : List Line) (ends : Bool) (bytes : List ℕ) → All Encodable earlier
+      → length earlier + k ≤ limit.mostSteps
       → checkSteps parts k earlier ends bytes ≡ Accepted ↔ RefutesFrom parts k earlier ends bytes
   unfolding checkSteps
   steps-exactly zero earlier true bytes h n = (λ a. tt, λ a. refl)
@@ -72,24 +73,26 @@ module _ (parts : List Step) (known : AllEncodable parts) where
         λ r. rw (follows-stated parts known earlier (omega arith) h line (r .0) (r .1), checkSteps) (then (r .0) (r .1) .1 (r .2)),
       )
 
-accepted-exactly : (p : Problem) → WellFormed p → (bytes : List ℕ) → length bytes / limit.stepBytes ≤ 65536 → checkProof p bytes ≡ Accepted
+accepted-exactly : (p : Problem) → WellFormed p → (bytes : List ℕ) → length bytes / limit.stepBytes ≤ limit.mostSteps
+    → checkProof p bytes ≡ Accepted
     ↔ Refutes (loadableOf p) (length bytes / limit.stepBytes) bytes
 unfolding checkProof
 accepted-exactly p w bytes n =
     steps-exactly (loadableOf p) (parts-encodable p w) (length bytes / limit.stepBytes) [] false bytes tt (omega arith)
 
 -- no more lines than the limit
-pub whole-few : (limits : Limits) → limits .steps ≤ 65536 → (n : ℕ) → T (wholeSteps limits n) → n / limit.stepBytes ≤ 65536
+pub whole-few : (limits : Limits) → limits .steps ≤ limit.mostSteps → (n : ℕ) → T (wholeSteps limits n)
+    → n / limit.stepBytes ≤ limit.mostSteps
 unfolding wholeSteps
 whole-few limits few n t =
     let a = and-yes (leb limit.stepBytes n && leb n (limit.proofBytes limits)) (eqb (n % limit.stepBytes) 0) t in
-    let b : n ≤ limits .steps * 64 =
+    let b : n ≤ limits .steps * limit.stepBytes =
     leb→le n (limit.proofBytes limits) (and-yes (leb limit.stepBytes n) (leb n (limit.proofBytes limits)) (a .0) .1) in
     omega arith
 
 -- ---- the calls, for a problem read without fault
 module _ (input : List ℕ) (p : Problem) (e : read input ≡ sound p) where
-  pub proof-exactly : (limits : Limits) → limits .steps ≤ 65536 → (bytes : List ℕ) → proofChecked limits input bytes ≡ Accepted
+  pub proof-exactly : (limits : Limits) → limits .steps ≤ limit.mostSteps → (bytes : List ℕ) → proofChecked limits input bytes ≡ Accepted
       ↔ (T (wholeSteps limits (length bytes)) × Refutes (loadableOf p) (length bytes / limit.stepBytes) bytes)
   unfolding proofChecked
   proof-exactly limits few bytes =

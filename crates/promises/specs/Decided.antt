@@ -9,7 +9,7 @@ use Rattle.rules.specs.Steps.{Step}
 use Rattle.rules.specs.Elimination.{Stops, unlimited, State, running, ended, empty, overflow, outOfSteps, order, loadableOf, elimination}
 use Rattle.rules.specs.Needs.{stepsOf}
 use Rattle.theory_splitting.specs.WellFormed.{WellFormed}
-use Rattle.theory_elimination.specs.Held.{Unstopped, unlimited-unstopped}
+use Rattle.theory_elimination.specs.WithinLimits.{Unstopped, unlimited-unstopped}
 use Rattle.theory_elimination.specs.Ends.{LastEmpty, EndsRight, elimination-ends}
 use Rattle.promises.specs.Refuted.{empty-refutes}
 use Rattle.promises.specs.Satisfied.{chosen, walk-satisfies}

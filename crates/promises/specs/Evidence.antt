@@ -71,7 +71,7 @@ module _ (limits : Limits) (input : List ℕ) (p : Problem) (e : read input ≡ 
       by (ended outOfSteps steps n) c h = absurd h
 
   -- ---- the proof
-  module _ (few : limits .steps ≤ 65536) (proof : List ℕ) where
+  module _ (few : limits .steps ≤ limit.mostSteps) (proof : List ℕ) where
     used : (steps : List Step) → All (λ s. Formed (s .line)) steps → take (limit.stepBytes * length steps) (encodeProof steps ++ replicate
         (limit.proofBytes limits - limit.stepBytes * length steps) 0 ++ drop (limit.proofBytes limits) proof) ≡ encodeProof steps
     used steps f =

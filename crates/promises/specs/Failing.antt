@@ -97,7 +97,8 @@ module _ (parts : List Step) (known : AllEncodable parts) where
       by none r e = omega (arith, same-number e)
       by (some l) r e = omega (arith, r l e)
 
-  steps-fail : (k : ℕ) (earlier : List Line) (ends : Bool) (bytes : List ℕ) (n : ℕ) → All Encodable earlier → length earlier + k ≤ 65536
+  steps-fail : (k : ℕ) (earlier : List Line) (ends : Bool) (bytes : List ℕ) (n : ℕ) → All Encodable earlier
+      → length earlier + k ≤ limit.mostSteps
       → checkSteps parts k earlier ends bytes ≡ Fails (length earlier + n) ↔ LineFails parts k earlier ends bytes n
   unfolding checkSteps
   steps-fail zero earlier true bytes n h few =
@@ -161,7 +162,7 @@ module _ (input : List ℕ) (p : Problem) (e : read input ≡ sound p) where
       let q : 0 + k ≡ k = omega arith in
       rw (e, modelChecked, le-ltb (length bytes) limit.modelBytes h, g) (rw q at (clauses-fail χ (p .clauses) 0 k))
 
-  pub proof-fails : (limits : Limits) → limits .steps ≤ 65536 → (bytes : List ℕ) → wholeSteps limits (length bytes) ≡ true
+  pub proof-fails : (limits : Limits) → limits .steps ≤ limit.mostSteps → (bytes : List ℕ) → wholeSteps limits (length bytes) ≡ true
       → (k : ℕ) → proofChecked limits input bytes ≡ Fails k ↔ LineFails (loadableOf p) (length bytes / limit.stepBytes) [] false bytes k
   unfolding proofChecked checkProof
   proof-fails limits few bytes h k =

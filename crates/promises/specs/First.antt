@@ -14,7 +14,7 @@ use Rattle.rules.specs.Elimination.{elimination}
 use Rattle.rules.specs.Calls.{concluded, said}
 use Rattle.theory_elimination.specs.Events.{Event, events}
 use Rattle.theory_elimination.specs.Cut.{stopOf, stopAt, endedAt, cut}
-use Rattle.theory_elimination.specs.Held.{Unstopped, unlimited-unstopped}
+use Rattle.theory_elimination.specs.WithinLimits.{Unstopped, unlimited-unstopped}
 use Rattle.promises.specs.Words.{IsRefused, firstStop}
 use Rattle.promises.specs.Outcomes.{walkModel, concluded-running, answerOf, finished-not-stopped}
 use Rattle.promises.specs.Reported.{elimination-cut}

@@ -28,7 +28,7 @@ use Rattle.rules.specs.Elimination.{order, loadableOf, elimination}
 use Rattle.rules.specs.Calls.{Reading, faulty, sound, read, Solving, solve, proofChecked, modelChecked, evidence, evidenceBytes}
 use Rattle.theory_lists.specs.Tests.{split, is-true, is-false}
 use Rattle.theory_checks.specs.ModelChecked.{satisfying-model-checked}
-use Rattle.theory_elimination.specs.Held.{limited-held}
+use Rattle.theory_elimination.specs.WithinLimits.{limited-held}
 use Rattle.promises.specs.Words.{Comes, FullSize, OurModel}
 use Rattle.promises.specs.Demand1.{demand1}
 use Rattle.promises.specs.Demand3.{demand3}
@@ -169,7 +169,7 @@ module _ (limits : Limits) (input proof model : List ℕ) where
       let r = verdict-read Satisfiable c in
       rw (k .1) (model-accepted (r .problem) (r .reads) (demand1 limits input proof model .satisfiable (r .full) (r .problem) (r .reads) c))
 
-  pub proof-handed-back : limits .steps ≤ 65536 → (n : ℕ) → handed ≡ OfProof n → (n ≡ 0)
+  pub proof-handed-back : limits .steps ≤ limit.mostSteps → (n : ℕ) → handed ≡ OfProof n → (n ≡ 0)
       ⊎ (proofChecked limits input (evidenceBytes (OfProof n) (ours .proof) (ours .model)) ≡ Accepted)
   unfolding evidenceBytes
   proof-handed-back few n e =
@@ -180,7 +180,7 @@ module _ (limits : Limits) (input proof model : List ℕ) where
       (of-proof limits (answerNumber (ours .solved .answer)) (answerValue (ours .solved .answer)) (ours .proof) (ours .model) n e)
 
   -- after "agrees" it is the model, after "cannot agree" the used lines
-  module _ (small : limits .steps ≤ 65536) where
+  module _ (small : limits .steps ≤ limit.mostSteps) where
     held : (p : Problem) → read input ≡ sound p → FullSize limits proof model → answerValue (ours .solved .answer) ≤ limits .steps
     unfolding elimination
     held p e full = rw (demand3 limits small input p e proof model full .lines) (limited-held limits order (loadableOf p))

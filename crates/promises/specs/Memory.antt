@@ -25,7 +25,7 @@ use Rattle.theory_lists.specs.All.{All, all-map}
 use Rattle.theory_resolution.specs.Formed.{Formed}
 use Rattle.theory_splitting.specs.Reading.{read-well-formed}
 use Rattle.theory_splitting.specs.Lent.{lent-short-proof, lent-short-model, lent-fault, lent-sound}
-use Rattle.theory_elimination.specs.Held.{limited-held}
+use Rattle.theory_elimination.specs.WithinLimits.{limited-held}
 use Rattle.theory_elimination.specs.Sound.{Sound, elimination-sound}
 use Rattle.theory_bytes.specs.Steps.{proof-length}
 use Rattle.theory_checks.specs.ModelAccepted.{written-accepted}

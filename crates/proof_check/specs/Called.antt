@@ -10,21 +10,22 @@ use Rattle.rules_types.specs.declared.answers.Checked.the-variants.{Refused}
 use Rattle.rules_types.specs.declared.limits.Limits.{Limits}
 use Rattle.rules.specs.Calls.{read, wholeSteps, proofChecked}
 use Rattle.rules.specs.Checker.{checkProof}
+use Rattle.problem_scan.specs.declared.cursor.Sizes.{Sizes}
 use Rattle.problem_scan.specs.declared.cursor.Scan.the-variants.{Fault}
 use Rattle.problem_read.specs.Parsed.{problemAt}
-use Rattle.problem_read.specs.Outcome.{outcome, outcome-faulty}
+use Rattle.problem_read.specs.ScanOf.{scanOf, scanOf-faulty}
 use Rattle.problem_read.specs.Readable.{Readable}
 
 module _ (limits : Limits) (q proof : List ℕ) where
-  pub called-faulty : (f : Refusal) (place : ℕ) → outcome (read q) ≡ Fault f place → Refused f place ≡ proofChecked limits q proof
+  pub called-faulty : (f : Refusal) (place : ℕ) → scanOf (read q) ≡ Fault f place → Refused f place ≡ proofChecked limits q proof
   unfolding proofChecked
-  called-faulty f place e = sym (rw (outcome-faulty (read q) f place e, proofChecked))
+  called-faulty f place e = sym (rw (scanOf-faulty (read q) f place e, proofChecked))
 
-  module _ {b r n : ℕ} (h : Readable q b r n) where
+  module _ {sizes : Sizes} (h : Readable q sizes) where
     pub called-length : wholeSteps limits (length proof) ≡ false → Refused refusal.ProofLength (length proof) ≡ proofChecked limits q proof
     unfolding proofChecked
     called-length e = sym (rw (h .is-read, e, proofChecked))
 
-    pub called-whole : wholeSteps limits (length proof) ≡ true → checkProof (problemAt q b r n) proof ≡ proofChecked limits q proof
+    pub called-whole : wholeSteps limits (length proof) ≡ true → checkProof (problemAt q sizes) proof ≡ proofChecked limits q proof
     unfolding proofChecked
     called-whole e = sym (rw (h .is-read, e, proofChecked))

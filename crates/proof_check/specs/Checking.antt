@@ -10,6 +10,7 @@ use native.Mathlib.Omega.{arith}
 use lib.ListN.{length, drop}
 use lib.Seq.{drop-drop}
 use Rattle.rules_types.specs.declared.answers.Checked.the-variants.{Accepted, Fails}
+use Rattle.rules_types.specs.Limits.{stepBytes}
 use Rattle.rules.specs.Lists.{tabulate}
 use Rattle.rules.specs.Lines as rules
 use Rattle.rules.specs.Lines.{isEmpty}
@@ -30,7 +31,7 @@ length-lines proof n = length-tabulate n (λ i. meaning (lineAt proof i))
 pub record Following (parts : List Step) (proof : List ℕ) (count : ℕ) (ends : Bool) (i : ℕ) : Type 0 where
   pub few : i ≤ count
   pub ready : ReadyLines proof i
-  pub same : checkSteps parts (count - i) (linesIn proof i) ends (drop (64 * i) proof) ≡ checkSteps parts count [] false proof
+  pub same : checkSteps parts (count - i) (linesIn proof i) ends (drop (stepBytes * i) proof) ≡ checkSteps parts count [] false proof
 
 pub following-start : (parts : List Step) (proof : List ℕ) (count : ℕ) → Following parts proof count false 0
 unfolding linesIn tabulate
@@ -44,12 +45,13 @@ module _ {parts : List Step} {proof : List ℕ} {count : ℕ} {ends : Bool} {i :
   following-done h =
       let e : count - i ≡ 0 = omega (arith, run .few) in
       ap (λ (n : ℕ). cond ends Accepted (Fails n)) (sym (length-lines proof i))
-      ∙ sym (ap (λ (n : ℕ). checkSteps parts n (linesIn proof i) ends (drop (64 * i) proof)) e) ∙ run .same
+      ∙ sym (ap (λ (n : ℕ). checkSteps parts n (linesIn proof i) ends (drop (stepBytes * i) proof)) e) ∙ run .same
 
   module _ (more : i < count) (s : Stated) (states : States (statedLine parts (linesIn proof i) (stepAt proof i)) (stepAt proof i) s) where
-    first : checkSteps parts (suc (count - (i + 1))) (linesIn proof i) ends (drop (64 * i) proof) ≡ checkSteps parts count [] false proof
+    first : checkSteps parts (suc (count - (i + 1))) (linesIn proof i) ends (drop (stepBytes * i) proof)
+        ≡ checkSteps parts count [] false proof
     first = let e : suc (count - (i + 1)) ≡ count - i = omega arith in
-        ap (λ (n : ℕ). checkSteps parts n (linesIn proof i) ends (drop (64 * i) proof)) e ∙ run .same
+        ap (λ (n : ℕ). checkSteps parts n (linesIn proof i) ends (drop (stepBytes * i) proof)) e ∙ run .same
 
     pub following-stop : s .found ≡ false → Fails i ≡ checkSteps parts count [] false proof
     unfolding checkSteps stepAt
@@ -71,8 +73,8 @@ module _ {parts : List Step} {proof : List ℕ} {count : ℕ} {ends : Bool} {i :
       pub following-next : Following parts proof count (isEmpty (meaning (s .line))) (i + 1)
       unfolding checkSteps stepAt
       following-next =
-          let d : drop 64 (drop (64 * i) proof) ≡ drop (64 * (i + 1)) proof = drop-drop 64 (64 * i) proof
-          ∙ (let z : 64 * i + 64 ≡ 64 * (i + 1) = omega arith in ap (λ (n : ℕ). drop n proof) z) in
+          let d : drop stepBytes (drop (stepBytes * i) proof) ≡ drop (stepBytes * (i + 1)) proof = drop-drop stepBytes (stepBytes * i) proof
+          ∙ (let z : stepBytes * i + stepBytes ≡ stepBytes * (i + 1) = omega arith in ap (λ (n : ℕ). drop n proof) z) in
           record {
             few = omega arith;
             ready = λ j h. ⊎-elim

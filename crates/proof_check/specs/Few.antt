@@ -1,4 +1,4 @@
--- The clauses of a question that was read without fault have few parts.
+-- The clauses of a problem that was read without fault have few parts.
 use mathlib.Core.Path.{_≡_}
 use mathlib.Core.List.{List}
 use Prim.Native.Nat.{ℕ, zero, suc, _+_, _-_}

@@ -9,49 +9,48 @@ use borrow.Author.Tests.{lt-ltb}
 use lib.ListN.{length, getD, getElem?, set}
 use lib.Seq.{getD-set-same, getD-set-other}
 use Rattle.rules_types.specs.Limits as limit
-use Rattle.rules.specs.Problem.{Problem}
+use Rattle.rules_types.specs.Layout as layout
 use Rattle.rules.specs.Split.{partsOf, splitsOf}
 use Rattle.rules.specs.Calls.{read}
+use Rattle.problem_scan.specs.declared.cursor.Sizes.{Sizes}
 use Rattle.problem_scan.specs.Values.{clauseAt, clauseEnd}
 use Rattle.problem_scan.specs.Sound.{SoundClause}
 use Rattle.problem_clauses.specs.Walk.{clause-≤}
 use Rattle.problem_read.specs.Clauses.{clausesAt, clauses-next}
 use Rattle.problem_read.specs.Readable.{Readable, Ahead, ahead-start, ahead-within, ahead-sound, ahead-few, ahead-next}
-use Rattle.problem_read.specs.Parsed.{problemAt}
+use Rattle.problem_read.specs.Parsed.{allClauses}
 use Rattle.step_check.specs.Named.{partNamed}
-use Rattle.proof_check.specs.declared.index.Sizes.{Sizes}
 
 -- clause c stands there, and that is its first split variable
-pub record Entry (q : List ℕ) (b r n place variable c : ℕ) : Type 0 where
-  pub sound : SoundClause q r place
-  pub small : variable ≤ 32
-  pub named : (k : ℕ) → partNamed b (clausesAt q r n 4) c k ≡ getElem? (partsOf variable (clauseAt q r place)) k
+pub record Entry (q : List ℕ) (sizes : Sizes) (place variable c : ℕ) : Type 0 where
+  pub sound : SoundClause q (sizes .rationals) place
+  pub small : variable ≤ limit.allBooleans
+  pub named : (k : ℕ) → partNamed (sizes .booleans) (allClauses q sizes) c k
+      ≡ getElem? (partsOf variable (clauseAt q (sizes .rationals) place)) k
 
 -- the first m clauses
-abbrev pub Indexed : List ℕ → ℕ → ℕ → ℕ → List ℕ → List ℕ → ℕ → Type 0
-Indexed q b r n places variables m = (c : ℕ) → c < m → Entry q b r n (getD places c 0) (getD variables c 0) c
+abbrev pub Indexed : List ℕ → Sizes → List ℕ → List ℕ → ℕ → Type 0
+Indexed q sizes places variables m = (c : ℕ) → c < m → Entry q sizes (getD places c 0) (getD variables c 0) c
 
--- a question that is read without fault, of these sizes, with its clauses indexed
-pub record Known (q : List ℕ) (s : Sizes) (places variables : List ℕ) : Type 0 where
-  pub readable : Readable q (s .booleans) (s .rationals) (s .clauses)
-  pub places-length : length places ≡ 256
-  pub variables-length : length variables ≡ 256
-  pub entries : Indexed q (s .booleans) (s .rationals) (s .clauses) places variables (s .clauses)
-
-abbrev pub problemOf : List ℕ → Sizes → Problem
-problemOf q s = problemAt q (s .booleans) (s .rationals) (s .clauses)
+-- a problem of these sizes that is read without fault, with its clauses indexed
+pub record Known (q : List ℕ) (sizes : Sizes) (places variables : List ℕ) : Type 0 where
+  pub readable : Readable q sizes
+  pub places-length : length places ≡ limit.clauses
+  pub variables-length : length variables ≡ limit.clauses
+  pub entries : Indexed q sizes places variables (sizes .clauses)
 
 -- m clauses are done; the next stands at `at`, and `variable` is its first split variable
-pub record Indexing (q : List ℕ) (b r n : ℕ) (places variables : List ℕ) (at variable m : ℕ) : Type 0 where
-  pub few : m ≤ n
+pub record Indexing (q : List ℕ) (sizes : Sizes) (places variables : List ℕ) (at variable m : ℕ) : Type 0 where
+  pub few : m ≤ sizes .clauses
   pub used : ℕ
-  pub variable-is : variable ≡ b + used
-  pub ahead : Ahead q r (n - m) at used
-  pub done : Indexed q b r n places variables m
-  pub rest : (d k : ℕ) → partNamed b (clausesAt q r n 4) (m + d) k ≡ partNamed variable (clausesAt q r (n - m) at) d k
+  pub variable-is : variable ≡ sizes .booleans + used
+  pub ahead : Ahead q (sizes .rationals) (sizes .clauses - m) at used
+  pub done : Indexed q sizes places variables m
+  pub rest : (d k : ℕ) → partNamed (sizes .booleans) (allClauses q sizes) (m + d) k
+      ≡ partNamed variable (clausesAt q (sizes .rationals) (sizes .clauses - m) at) d k
 
--- a question that is read without fault has at most 32,768 bytes
-pub readable-short : {q : List ℕ} {b r n : ℕ} → Readable q b r n → length q ≤ limit.problemBytes
+-- a problem that is read without fault has at most 32,768 bytes
+pub readable-short : {q : List ℕ} {sizes : Sizes} → Readable q sizes → length q ≤ limit.problemBytes
 unfolding read
 readable-short {q} h = ⊎-elim (λ z. omega arith) (λ z. absurd (long (omega arith))) (eq-zero-or-pos (length q - limit.problemBytes))
   where
@@ -61,9 +60,10 @@ readable-short {q} h = ⊎-elim (λ z. omega arith) (λ z. absurd (long (omega a
         let z : _≡_ {A = ℕ} 0 1 = cc in
         omega arith
 
-pub indexing-start : {q : List ℕ} {b r n : ℕ} (places variables : List ℕ) → Readable q b r n → Indexing q b r n places variables 4 b 0
-indexing-start {q} {b} {r} {n} places variables h =
-    let e : n - 0 ≡ n = omega arith in
+pub indexing-start : {q : List ℕ} {sizes : Sizes} (places variables : List ℕ) → Readable q sizes
+    → Indexing q sizes places variables layout.firstClause (sizes .booleans) 0
+indexing-start {q} {sizes} places variables h =
+    let e : sizes .clauses - 0 ≡ sizes .clauses = omega arith in
     record {
       few = omega arith;
       used = 0;
@@ -92,42 +92,45 @@ module _ (q : List ℕ) (r variable m at : ℕ) (more : 0 < m) where
   unfolding partNamed
   named-later d k = rw (clauses-next q r m at more)
 
-module _ {q : List ℕ} {b r n : ℕ} {places variables : List ℕ} {at variable m : ℕ}
-    (run : Indexing q b r n places variables at variable m) (more : m < n) where
-  left : 0 < n - m
+module _ {q : List ℕ} {sizes : Sizes} {places variables : List ℕ} {at variable m : ℕ}
+    (run : Indexing q sizes places variables at variable m) (more : m < sizes .clauses) where
+  left : 0 < sizes .clauses - m
   left = omega arith
 
   -- what the loop needs of the clause at hand
-  pub indexing-within : clauseEnd q r at ≤ length q
+  pub indexing-within : clauseEnd q (sizes .rationals) at ≤ length q
   indexing-within = ahead-within (run .ahead) left
 
   pub indexing-place : at ≤ length q
-  indexing-place = omega (arith, clause-≤ q r at, indexing-within)
+  indexing-place = omega (arith, clause-≤ q (sizes .rationals) at, indexing-within)
 
-  pub indexing-small : b ≤ limit.booleans → variable + splitsOf (clauseAt q r at) ≤ 32
+  pub indexing-small : sizes .booleans ≤ limit.booleans → variable + splitsOf (clauseAt q (sizes .rationals) at) ≤ limit.allBooleans
   indexing-small h = omega (arith, run .variable-is, ahead-few (run .ahead) left)
 
-  entry : b ≤ limit.booleans → Entry q b r n at variable m
+  entry : sizes .booleans ≤ limit.booleans → Entry q sizes at variable m
   entry h =
       record {
         sound = ahead-sound (run .ahead) left;
         small = omega (arith, indexing-small h);
-        named = λ k. let z : m ≡ m + 0 = omega arith in ap (λ (c : ℕ). partNamed b (clausesAt q r n 4) c k) z ∙ run .rest 0 k
-            ∙ named-first q r variable (n - m) at left k;
+        named = λ k.
+            let z : m ≡ m + 0 = omega arith in
+            ap (λ (c : ℕ). partNamed (sizes .booleans) (allClauses q sizes) c k) z ∙ run .rest 0 k
+            ∙ named-first q (sizes .rationals) variable (sizes .clauses - m) at left k;
       }
 
-  pub indexing-next : b ≤ limit.booleans → m < length places → m < length variables
-      → Indexing q b r n (set places m at) (set variables m variable) (clauseEnd q r at) (variable + splitsOf (clauseAt q r at)) (m + 1)
+  pub indexing-next : sizes .booleans ≤ limit.booleans → m < length places → m < length variables
+      → Indexing q sizes (set places m at) (set variables m variable) (clauseEnd q (sizes .rationals) at)
+      (variable + splitsOf (clauseAt q (sizes .rationals) at)) (m + 1)
   indexing-next h i j =
-      let e : n - (m + 1) ≡ n - m - 1 = omega arith in
+      let e : sizes .clauses - (m + 1) ≡ sizes .clauses - m - 1 = omega arith in
       record {
         few = omega arith;
-        used = run .used + splitsOf (clauseAt q r at);
+        used = run .used + splitsOf (clauseAt q (sizes .rationals) at);
         variable-is = omega (arith, run .variable-is);
         ahead = rw e (ahead-next (run .ahead) left);
-        done = stored (Entry q b r n) places variables at variable m i j (run .done) (entry h);
+        done = stored (Entry q sizes) places variables at variable m i j (run .done) (entry h);
         rest = λ d k.
             let z : m + 1 + d ≡ m + suc d = omega arith in
-            ap (λ (c : ℕ). partNamed b (clausesAt q r n 4) c k) z ∙ run .rest (suc d) k
-            ∙ named-later q r variable (n - m) at left d k ∙ rw e;
+            ap (λ (c : ℕ). partNamed (sizes .booleans) (allClauses q sizes) c k) z ∙ run .rest (suc d) k
+            ∙ named-later q (sizes .rationals) variable (sizes .clauses - m) at left d k ∙ rw e;
       }

@@ -1,9 +1,9 @@
-// The check of a proof: faults of the question, then 16, then the steps.
+// The check of a proof: faults of the problem, then 16, then the steps.
 use crate::follow::check_steps;
-use crate::index::Sizes;
 use crate::index::index;
 use problem_read::read::read;
 use problem_scan::cursor::Scan;
+use problem_scan::cursor::Sizes;
 use rules_types::answers::Checked;
 use rules_types::answers::Refusal;
 use rules_types::limits::Limits;
@@ -11,8 +11,8 @@ ghost use mathlib.Core.Path.{_≡_};
 ghost use Rattle.rules_types.specs.Limits.{standard};
 ghost use Rattle.rules.specs.Checker.{checkProof};
 ghost use Rattle.rules.specs.Calls.{wholeSteps, proofChecked};
+ghost use Rattle.problem_read.specs.Parsed.{problemAt};
 ghost use Rattle.problem_read.specs.Readable.{Readable};
-ghost use Rattle.proof_check.specs.Index.{problemOf};
 
 // 16: "length not 64 to 65,536 by 64s".
 fn whole_steps(limits: Limits, n: usize) -> bool
@@ -27,13 +27,13 @@ fn whole_steps(limits: Limits, n: usize) -> bool
     n % Limits::STEP_BYTES == 0
 }
 
-// Of a question that is read without fault.
+// Of a problem that is read without fault.
 fn check_readable(input: &[u8], sizes: Sizes, proof: &[u8]) -> Checked
-    requires { ⌜ Readable (now input) (sizes .booleans) (sizes .rationals) (sizes .clauses) ⌝ }
-    ensures { λ c. ⌜ c ≡ checkProof (problemOf (now (input .entry)) sizes) (now (proof .entry)) ⌝ }
+    requires { ⌜ Readable (now input) sizes ⌝ }
+    ensures { λ c. ⌜ c ≡ checkProof (problemAt (now (input .entry)) sizes) (now (proof .entry)) ⌝ }
 {
-    let mut places = [0u16; 256];
-    let mut variables = [0u8; 256];
+    let mut places = [0u16; Limits::CLAUSES];
+    let mut variables = [0u8; Limits::CLAUSES];
     index(input, sizes, &mut places, &mut variables);
     check_steps(input, sizes, &places, &variables, proof)
 }
@@ -44,15 +44,10 @@ pub fn check_proof(input: &[u8], proof: &[u8], limits: Limits) -> Checked
     let s = read(input);
     match s {
         Scan::Fault(f, place) => Checked::Refused(f, place),
-        Scan::Sound(b, r, n) => {
+        Scan::Sound(sizes) => {
             if !whole_steps(limits, proof.len()) {
                 return Checked::Refused(Refusal::ProofLength, proof.len());
             }
-            let sizes = Sizes {
-                booleans: b,
-                rationals: r,
-                clauses: n,
-            };
             check_readable(input, sizes, proof)
         }
     }

@@ -1,12 +1,13 @@
 // A proof checked step by step: "accepted, or the first failing line, the line count if only the empty end is missing".
-use crate::index::Sizes;
 use crate::state::line_stated;
+use problem_scan::cursor::Sizes;
 use rules_types::answers::Checked;
 use rules_types::limits::Limits;
 use steps::store::get;
 ghost use mathlib.Core.Path.{_≡_};
 ghost use Rattle.rules.specs.Checker.{checkProof};
-ghost use Rattle.proof_check.specs.Index.{Known, problemOf};
+ghost use Rattle.problem_read.specs.Parsed.{problemAt};
+ghost use Rattle.proof_check.specs.Index.{Known};
 
 pub fn check_steps(
     q: &[u8],
@@ -16,7 +17,7 @@ pub fn check_steps(
     proof: &[u8],
 ) -> Checked
     requires { ⌜ Known (now q) sizes (now places) (now variables) ⌝ }
-    ensures { λ c. ⌜ c ≡ checkProof (problemOf (now (q .entry)) sizes) (now (proof .entry)) ⌝ }
+    ensures { λ c. ⌜ c ≡ checkProof (problemAt (now (q .entry)) sizes) (now (proof .entry)) ⌝ }
 {
     let count = proof.len() / Limits::STEP_BYTES;
     let mut ends = false;

@@ -1,4 +1,4 @@
-// The check of a proof against its question.
+// The check of a proof against its problem.
 pub mod check;
 pub mod follow;
 pub mod index;

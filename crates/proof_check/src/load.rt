@@ -1,21 +1,31 @@
 // "all 64 bytes are a loaded piece": the part that a step's bytes name, found by the index.
-use crate::index::Sizes;
-use fields::u16_at;
 use problem_parts::part::part;
+use problem_scan::cursor::Sizes;
+use rules_types::limits::Limits;
 use step_check::compare::Stated;
 use step_check::compare::compared;
 use step_check::compare::unstated;
+use steps::access::first_at;
+use steps::access::second_at;
+use steps::origin::Origin;
 ghost use Rattle.rules.specs.Elimination.{loadableOf};
 ghost use Rattle.rules.specs.Checker.{lineAmong};
+ghost use Rattle.problem_read.specs.Parsed.{problemAt};
 ghost use Rattle.step_check.specs.Stated.{States};
-ghost use Rattle.proof_check.specs.Index.{Known, problemOf};
+ghost use Rattle.proof_check.specs.Index.{Known};
 
-pub fn loaded(q: &[u8], sizes: Sizes, places: &[u16], variables: &[u8], bytes: [u8; 64]) -> Stated
+pub fn loaded(
+    q: &[u8],
+    sizes: Sizes,
+    places: &[u16],
+    variables: &[u8],
+    bytes: [u8; Limits::STEP_BYTES],
+) -> Stated
     requires { ⌜ Known (now q) sizes (now places) (now variables) ⌝ }
-    ensures { λ s. ⌜ States (lineAmong (loadableOf (problemOf (now (q .entry)) sizes)) bytes) bytes s ⌝ }
+    ensures { λ s. ⌜ States (lineAmong (loadableOf (problemAt (now (q .entry)) sizes)) bytes) bytes s ⌝ }
 {
-    let clause = u16_at(&bytes, 2);
-    let number = u16_at(&bytes, 4);
+    let clause = first_at(&bytes, 0);
+    let number = second_at(&bytes, 0);
     if sizes.clauses <= clause {
         return unstated();
     }
@@ -32,5 +42,5 @@ pub fn loaded(q: &[u8], sizes: Sizes, places: &[u16], variables: &[u8], bytes: [
         found: f.found,
         line: line,
     };
-    compared(0, 0, clause, number, s, bytes)
+    compared(Origin::loaded(clause, number), s, bytes)
 }

@@ -1,17 +1,21 @@
 // "A book's line follows if all 64 bytes are a loaded piece, or the result of two earlier lines".
-use crate::index::Sizes;
 use crate::load::loaded;
+use problem_scan::cursor::Sizes;
+use rules_types::limits::Limits;
 use step_check::compare::Stated;
 use step_check::derive::derived;
+use steps::access::how_at;
 ghost use Prim.Native.Nat.{_*_, _≤_};
 ghost use lib.ListN.{length};
+ghost use Rattle.rules_types.specs.Limits.{stepBytes};
 ghost use Rattle.rules.specs.Elimination.{loadableOf};
 ghost use Rattle.rules.specs.Checker.{statedLine};
+ghost use Rattle.problem_read.specs.Parsed.{problemAt};
 ghost use Rattle.steps.specs.Lines.{linesIn, ReadyLines};
 ghost use Rattle.step_check.specs.Stated.{States};
-ghost use Rattle.proof_check.specs.Index.{Known, problemOf};
+ghost use Rattle.proof_check.specs.Index.{Known};
 
-// The line that these bytes state as step i of the proof. A loaded part has 0 for its first byte, and no result has.
+// The line that these bytes state as step i of the proof. How is 0 of a loaded part, and of no resolvent.
 pub fn line_stated(
     q: &[u8],
     sizes: Sizes,
@@ -19,14 +23,14 @@ pub fn line_stated(
     variables: &[u8],
     proof: &[u8],
     i: usize,
-    bytes: [u8; 64],
+    bytes: [u8; Limits::STEP_BYTES],
 ) -> Stated
     requires { ⌜ Known (now q) sizes (now places) (now variables) ⌝ }
-    requires { ⌜ 64 * i ≤ length (now proof) ⌝ }
+    requires { ⌜ stepBytes * i ≤ length (now proof) ⌝ }
     requires { ⌜ ReadyLines (now proof) i ⌝ }
-    ensures { λ s. ⌜ States (statedLine (loadableOf (problemOf (now (q .entry)) sizes)) (linesIn (now (proof .entry)) i) bytes) bytes s ⌝ }
+    ensures { λ s. ⌜ States (statedLine (loadableOf (problemAt (now (q .entry)) sizes)) (linesIn (now (proof .entry)) i) bytes) bytes s ⌝ }
 {
-    if bytes[0] == 0 {
+    if how_at(&bytes, 0) == 0 {
         return loaded(q, sizes, places, variables, bytes);
     }
     derived(proof, i, bytes)

@@ -3,6 +3,7 @@ use lines::line::Line;
 use masks::without;
 ghost use mathlib.Core.Path.{_≡_};
 ghost use Prim.Native.Nat.{_<_};
+ghost use Rattle.rules_types.specs.Limits.{allBooleans};
 ghost use Rattle.rules.specs.Lines.{boolean};
 ghost use Rattle.rules.specs.Resolve.{resolvent, oneOf};
 ghost use Rattle.lines.specs.Line.{meaning, Ready};
@@ -21,7 +22,7 @@ fn constrained(upper: Line, lower: Line) -> Line
 }
 
 pub fn resolvent_boolean(i: usize, upper: Line, lower: Line) -> Line
-    requires { ⌜ i < 32 ⌝ }
+    requires { ⌜ i < allBooleans ⌝ }
     requires { ⌜ Ready upper ⌝ }
     requires { ⌜ Ready lower ⌝ }
     ensures { λ r. ⌜ meaning r ≡ resolvent (boolean i) (meaning upper) (meaning lower) ⌝ }

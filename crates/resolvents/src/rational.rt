@@ -7,6 +7,7 @@ ghost use mathlib.Core.Path.{_≡_};
 ghost use mathlib.Core.Bool.{true};
 ghost use Prim.Native.Nat.{_<_, max};
 ghost use lib.IntN.{pos, natAbs};
+ghost use Rattle.rules_types.specs.Limits.{rationals};
 ghost use Rattle.rules.specs.Lines.{rational, positively, negatively};
 ghost use Rattle.rules.specs.Resolve.{resolvent};
 ghost use Rattle.theory_vectors.specs.Amounts.{Small};
@@ -29,7 +30,7 @@ fn factor(z: i64) -> i64
 }
 
 pub fn resolvent_rational(f: usize, upper: Line, lower: Line) -> Line
-    requires { ⌜ f < 8 ⌝ }
+    requires { ⌜ f < rationals ⌝ }
     requires { ⌜ Ready upper ⌝ }
     requires { ⌜ Ready lower ⌝ }
     requires { ⌜ positively (rational f) (meaning upper) ≡ true ⌝ }

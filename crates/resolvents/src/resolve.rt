@@ -1,4 +1,4 @@
-// Resolvents, normalized: dropped, wide, or a line that a proof can hold.
+// Resolvents, normalized: dropped, overflowing, or a line that a proof can hold.
 use crate::boolean::resolvent_boolean;
 use crate::rational::resolvent_rational;
 use lines::line::Line;
@@ -6,6 +6,7 @@ use normalization::normalize::normalize;
 ghost use mathlib.Core.Path.{_≡_};
 ghost use mathlib.Core.Bool.{true};
 ghost use Prim.Native.Nat.{_<_};
+ghost use Rattle.rules_types.specs.Limits.{allBooleans, rationals};
 ghost use Rattle.rules.specs.Lines.{rational, boolean, positively, negatively};
 ghost use Rattle.rules.specs.Normalize.{normalLine};
 ghost use Rattle.rules.specs.Resolve.{resolve};
@@ -52,7 +53,7 @@ pub fn finish(line: Line) -> Resolved
 }
 
 pub fn resolve_rational(f: usize, upper: Line, lower: Line) -> Resolved
-    requires { ⌜ f < 8 ⌝ }
+    requires { ⌜ f < rationals ⌝ }
     requires { ⌜ Ready upper ⌝ }
     requires { ⌜ Ready lower ⌝ }
     requires { ⌜ positively (rational f) (meaning upper) ≡ true ⌝ }
@@ -63,7 +64,7 @@ pub fn resolve_rational(f: usize, upper: Line, lower: Line) -> Resolved
 }
 
 pub fn resolve_boolean(i: usize, upper: Line, lower: Line) -> Resolved
-    requires { ⌜ i < 32 ⌝ }
+    requires { ⌜ i < allBooleans ⌝ }
     requires { ⌜ Ready upper ⌝ }
     requires { ⌜ Ready lower ⌝ }
     ensures { λ r. ⌜ Gives (resolve (boolean i) (meaning upper) (meaning lower)) r ⌝ }

@@ -1,4 +1,4 @@
--- The pairs of a turn that are left at each of its points.
+-- The pairs of a round that are left at each of its points.
 use mathlib.Core.Path.{_≡_, refl, ap}
 use mathlib.Core.Bool.{Bool, true, false}
 use mathlib.Core.List.{List, [], _∷_, _++_, map}
@@ -6,6 +6,7 @@ use Prim.Native.Nat.{ℕ, _+_, _*_, _≤_, _<_}
 use native.Mathlib.Omega.{arith}
 use lib.ListN.{length}
 use Rattle.rules_types.specs.declared.limits.Limits.{Limits}
+use Rattle.rules_types.specs.Limits.{stepBytes}
 use Rattle.rules.specs.Lines as rules
 use Rattle.rules.specs.Elimination.{order, Numbered, Pair, pairUp, sideOf, roundPairs}
 use Rattle.lines.specs.Line.{meaning}
@@ -14,7 +15,6 @@ use Rattle.steps.specs.Decoding.{decoded}
 use Rattle.steps.specs.Held.{stepsIn}
 use Rattle.placing.specs.Point.{Leads, leads-steps, leads-step}
 use Rattle.rounds.specs.Sides.{onSide, chosen, numbered, selected, selected-here, selected-end, Next}
-use Rattle.rounds.specs.Pairs.{pairOf}
 
 -- of the uppers from number i on; and of upper i the lowers from number j on, with the later uppers
 module _ (proof : List ℕ) (m : ℕ) (v : rules.Variable) (t : ℕ) where
@@ -40,7 +40,7 @@ module _ (proof : List ℕ) (m : ℕ) (v : rules.Variable) (t : ℕ) where
   later-end i h = rw (selected-end (chosen true v t) proof m i h)
 
   pub within-lower : (i j : ℕ) → j < m → chosen false v t (meaning (lineAt proof j)) ≡ true
-      → within i j ≡ pairOf proof i j ∷ within i (j + 1)
+      → within i j ≡ record { upper = numbered proof i; lower = numbered proof j } ∷ within i (j + 1)
   unfolding within
   within-lower i j h e = ap (λ (ls : List Numbered). map (λ l. record { upper = numbered proof i; lower = l }) ls ++ later (i + 1))
       (selected-here (chosen false v t) proof m j h e)
@@ -60,7 +60,8 @@ module _ (proof : List ℕ) (m : ℕ) (v : rules.Variable) (t : ℕ) where
   within-next i n = ap (λ (ls : List Numbered). map (λ l. record { upper = numbered proof i; lower = l }) ls ++ later (i + 1)) (n .same)
 
 -- what is chosen, and where it is looked for, as the bytes grow
-module _ {limits : Limits} {before after : List ℕ} {m n : ℕ} (leads : Leads limits before m after n) (room : 64 * m ≤ length before) where
+module _ {limits : Limits} {before after : List ℕ} {m n : ℕ} (leads : Leads limits before m after n)
+    (room : stepBytes * m ≤ length before) where
   pub line-same : (i : ℕ) → i < m → lineAt after i ≡ lineAt before i
   unfolding lineAt
   line-same i h = ap decoded (leads-step leads room i h)

@@ -1,15 +1,18 @@
--- A pair's result: dropped, wide, or put to the tests of a line.
+-- A pair's resolvent: dropped, an overflow, or put to the tests of a line.
 use mathlib.Core.Path.{_≡_, refl, ap, _∙_}
 use mathlib.Core.Bool.{Bool, true, false, cond}
 use mathlib.Core.List.{List}
 use mathlib.Core.Option.{Option}
-use Prim.Native.Nat.{ℕ, _≤_, _<_}
+use Prim.Native.Nat.{ℕ, suc, _+_, _≤_, _<_}
+use native.Mathlib.Numerals.{add-one}
 use native.Mathlib.Omega.{arith}
+use Rattle.rules_types.specs.Limits as limit
 use Rattle.rules_types.specs.declared.limits.Limits.{Limits}
 use Rattle.rules.specs.Lines as rules
 use Rattle.rules.specs.Lines.{positively, negatively}
 use Rattle.rules.specs.Resolve.{resolve}
 use Rattle.rules.specs.Steps.{Origin, resolved, header}
+use Rattle.rules.specs.Checker.{variableNamed}
 use Rattle.rules.specs.Elimination.{State, overflows, limited, Pair, placed, add, tried}
 use Rattle.lines.specs.declared.line.Line.{Line}
 use Rattle.lines.specs.Line.{meaning}
@@ -20,11 +23,15 @@ use Rattle.resolvents.specs.Resolved.{outcomeOf, lineOf, Gives}
 use Rattle.placing.specs.declared.place.Progress.{Progress}
 use Rattle.placing.specs.declared.place.Progress.the-variants.{Running, Overflow}
 use Rattle.placing.specs.declared.place.Point.{Point}
-use Rattle.steps.specs.Held.{originOf, stepOf, stepsIn, Named}
-use Rattle.placing.specs.Point.{stateOf, stateAt, Standing, leads-none, Reaches}
-use Rattle.rounds.specs.declared.side.Variable.{Variable}
-use Rattle.rounds.specs.declared.side.Variable.the-variants.{Rational, Boolean}
-use Rattle.rounds.specs.Sides.{variableOf, Ranged, numbered}
+use Rattle.steps.specs.Held.{stepsIn}
+use Rattle.placing.specs.Point.{stateOf, stateAt, Standing, leads-none, Reaches, added}
+use Rattle.lines.specs.declared.order.Variable.{Variable}
+use Rattle.lines.specs.declared.order.Variable.the-variants.{Rational, Boolean}
+use Rattle.lines.specs.Order.{variableOf, Ranged}
+use Rattle.rounds.specs.Sides.{numbered}
+use Rattle.steps.specs.declared.origin.Origin as words
+use Rattle.steps.specs.Origin.{headerOf, originOf, Named}
+use Rattle.rounds.specs.declared.pair.Parents.{Parents}
 
 -- the numbers of its origin
 unfoldable pub howOf : Variable → ℕ
@@ -35,28 +42,43 @@ unfoldable pub whichOf : Variable → ℕ
 whichOf (Rational f) = f
 whichOf (Boolean i) = i
 
-pub origin-is : (v : Variable) (i j : ℕ) → originOf (howOf v) (whichOf v) i j ≡ resolved (variableOf v) i j
-unfolding originOf howOf whichOf variableOf
-origin-is (Rational f) i j = refl
-origin-is (Boolean b) i j = refl
+abbrev pub originFor : Parents → words.Origin
+originFor x = record { how = howOf (x .variable); which = whichOf (x .variable); first = x .upper; second = x .lower }
 
-pub named-pair : (v : Variable) (i j : ℕ) → i < 65536 → j < 65536 → Named (howOf v) (whichOf v) i j
-unfolding originOf howOf whichOf header
-named-pair (Rational f) i j h k = record { is = refl; first-fits = h; second-fits = k }
-named-pair (Boolean b) i j h k = record { is = refl; first-fits = h; second-fits = k }
+pub origin-is : (x : Parents) → originOf (originFor x) ≡ resolved (variableOf (x .variable)) (x .upper) (x .lower)
+unfolding originOf variableNamed howOf whichOf variableOf
+origin-is x = by (x .variable)
+  where
+    by : (v : Variable) → originOf (originFor (record { variable = v; upper = x .upper; lower = x .lower }))
+        ≡ resolved (variableOf v) (x .upper) (x .lower)
+    by (Rational f) = refl
+    by (Boolean b) = refl
 
--- the pair of lines i and j
-abbrev pub pairOf : List ℕ → ℕ → ℕ → Pair
-pairOf proof i j = record { upper = numbered proof i; lower = numbered proof j }
+pub named-pair : (x : Parents) → x .upper < limit.mostSteps → x .lower < limit.mostSteps → Named (originFor x)
+unfolding originOf variableNamed howOf whichOf header
+named-pair x h k = record { is = by (x .variable); first-fits = h; second-fits = k }
+  where
+    by : (v : Variable) → let o = originFor (record { variable = v; upper = x .upper; lower = x .lower }) in
+        header (originOf o) ≡ headerOf o
+    by (Rational f) = refl
+    by (Boolean b) = refl
 
--- what is left of the result
+-- the pair of two lines of the proof
+abbrev pub pairOf : List ℕ → Parents → Pair
+pairOf proof x = record { upper = numbered proof (x .upper); lower = numbered proof (x .lower) }
+
+-- what is left of the resolvent
 abbrev pub left : Resolved → Option rules.Line
 left r = lineOf (r .outcome) (r .line)
 
 -- ---- its three outcomes
--- the pair tried, with what is left of its result and the count
-abbrev pub settled : Limits → List ℕ → Variable → ℕ → ℕ → Option rules.Line → Point → ℕ → State
-settled limits proof v i j o p pairs = tried (limited limits) (variableOf v) (pairOf proof i j) o (stepsIn proof (p .steps)) pairs
+-- the pair tried and counted, with what is left of its resolvent
+abbrev pub settled : Limits → List ℕ → Parents → Option rules.Line → Point → State
+settled limits proof x o p =
+    tried (limited limits) (variableOf (x .variable)) (pairOf proof x) o (stepsIn proof (p .steps)) (suc (p .pairs))
+
+abbrev pub settledBy : Resolved → Limits → List ℕ → Parents → Point → State
+settledBy r limits proof x p = settled limits proof x (left r) p
 
 overflow-only : (b : Bool) → Overflows ≡ cond b Overflows Made → b ≡ true
 overflow-only true e = refl
@@ -66,49 +88,52 @@ made-only : (b : Bool) → Made ≡ cond b Overflows Made → b ≡ false
 made-only true e = let z : _≡_ {A = ℕ} 0 1 = cc in absurd (omega arith)
 made-only false e = refl
 
--- the point with the count
-abbrev pub counted : Point → ℕ → Progress → Point
-counted p pairs g = record { progress = g; steps = p .steps; pairs = pairs }
+-- the point with one pair more
+abbrev pub counted : Point → Progress → Point
+counted p g = record { progress = g; steps = p .steps; pairs = p .pairs + 1 }
 
-module _ {limits : Limits} {proof : List ℕ} (v : Variable) (i j : ℕ) (r : Resolved) (p : Point) (pairs : ℕ) where
+module _ {limits : Limits} {proof : List ℕ} (x : Parents) (r : Resolved) (p : Point) where
   pub settle-dropped : Standing limits proof (p .steps) → r .outcome ≡ Dropped
-      → Reaches limits proof p proof (counted p pairs Running) (settled limits proof v i j (left r) p pairs)
+      → Reaches limits proof p proof (counted p Running) (settledBy r limits proof x p)
   unfolding stateAt stateOf tried lineOf
-  settle-dropped h e = record { is = rw e; leads = leads-none h }
+  settle-dropped h e = record { is = rw (add-one (p .pairs), e); leads = leads-none h }
 
   module _ (gives : Gives (left r) r) where
     pub settle-overflow : Standing limits proof (p .steps) → r .outcome ≡ Overflows
-        → Reaches limits proof p proof (counted p pairs Overflow) (settled limits proof v i j (left r) p pairs)
+        → Reaches limits proof p proof (counted p Overflow) (settledBy r limits proof x p)
     unfolding stateAt stateOf tried add placed limited lineOf outcomeOf
     settle-overflow h e = record {
-      is = rw (e, overflow-only (overflows (meaning (r .line))) (rw e at (gives .outcome)));
+      is = rw (add-one (p .pairs), e, overflow-only (overflows (meaning (r .line))) (rw e at (gives .outcome)));
       leads = leads-none h;
     }
 
     pub settle-made : r .outcome ≡ Made → (after : List ℕ) (q : Point)
-        → Reaches limits proof (counted p pairs Running) after q
-        (add (limited limits) false (stepOf (howOf v) (whichOf v) i j (r .line)) (stepsIn proof (p .steps)) pairs)
-        → Reaches limits proof p after q (settled limits proof v i j (left r) p pairs)
+        → Reaches limits proof (counted p Running) after q
+        (added limits proof (counted p Running) (record { origin = originFor x; line = r .line }))
+        → Reaches limits proof p after q (settledBy r limits proof x p)
     unfolding tried limited lineOf outcomeOf
     settle-made e after q k =
         record {
           is =
               k .is
-              ∙ rw (e, made-only (overflows (meaning (r .line))) (rw e at (gives .outcome)))
+              ∙ rw (e, add-one (p .pairs), made-only (overflows (meaning (r .line))) (rw e at (gives .outcome)))
               (ap (λ (o : Origin). add (limited limits) false (record { origin = o; line = meaning (r .line) }) (stepsIn proof (p .steps))
-              pairs) (origin-is v i j));
+              (suc (p .pairs))) (origin-is x));
           leads = k .leads;
         }
 
 -- ---- one pair
-pub record Pairable (proof : List ℕ) (v : Variable) (i j : ℕ) (p : Point) : Type 0 where
-  pub ranged : Ranged v
-  pub upper-held : i < p .steps
-  pub lower-held : j < p .steps
-  pub few : p .steps ≤ 65536
+pub record Pairable (proof : List ℕ) (x : Parents) (p : Point) : Type 0 where
+  pub ranged : Ranged (x .variable)
+  pub upper-held : x .upper < p .steps
+  pub lower-held : x .lower < p .steps
+  pub few : p .steps ≤ limit.mostSteps
   pub countable : p .pairs < 1000000000000
-  pub upper : positively (variableOf v) (meaning (lineAt proof i)) ≡ true
-  pub lower : negatively (variableOf v) (meaning (lineAt proof j)) ≡ true
+  pub upper : positively (variableOf (x .variable)) (meaning (lineAt proof (x .upper))) ≡ true
+  pub lower : negatively (variableOf (x .variable)) (meaning (lineAt proof (x .lower))) ≡ true
 
-abbrev pub resolventOf : List ℕ → Variable → ℕ → ℕ → Option rules.Line
-resolventOf proof v i j = resolve (variableOf v) (meaning (lineAt proof i)) (meaning (lineAt proof j))
+abbrev pub resolventOf : List ℕ → Parents → Option rules.Line
+resolventOf proof x = resolve (variableOf (x .variable)) (meaning (lineAt proof (x .upper))) (meaning (lineAt proof (x .lower)))
+
+abbrev pub triedPair : Limits → List ℕ → Parents → Point → State
+triedPair limits proof x p = settled limits proof x (resolventOf proof x) p

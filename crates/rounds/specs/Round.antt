@@ -1,4 +1,4 @@
--- A turn: each of its uppers with each of its lowers; what is left at each point comes to what the turn comes to.
+-- A round: each of its uppers with each of its lowers; what is left at each point comes to what the round comes to.
 use mathlib.Core.Path.{_≡_, sym, ap, _∙_}
 use mathlib.Core.Bool.{Bool, true, false, _&&_}
 use mathlib.Core.List.{List, _∷_}
@@ -7,6 +7,7 @@ use native.Mathlib.Omega.{arith}
 use lib.Dec.{eqb}
 use mir.Facts.{and-yes}
 use Rattle.rules_types.specs.declared.limits.Limits.{Limits}
+use Rattle.rules_types.specs.Limits as limit
 use Rattle.rules.specs.Lines as rules
 use Rattle.rules.specs.Needs.{pairsOf}
 use Rattle.rules.specs.Resolve.{resolve}
@@ -21,9 +22,12 @@ use Rattle.placing.specs.declared.place.Point.{Point}
 use Rattle.steps.specs.Held.{stepsIn}
 use Rattle.placing.specs.Point.{stateOf, stateAt, Standing, Leads, leads-none, leads-trans, pairs-at, isRunning, running-yes, ended-stays}
 use Rattle.placing.specs.Point.{Reaches}
-use Rattle.rounds.specs.declared.side.Variable.{Variable}
-use Rattle.rounds.specs.Sides.{variableOf, Ranged, onSide, chosen, Next}
-use Rattle.rounds.specs.Pairs.{pairOf, settled, resolventOf, Pairable}
+use Rattle.lines.specs.declared.order.Variable.{Variable}
+use Rattle.lines.specs.Order.{variableOf, Ranged}
+use Rattle.rounds.specs.Sides.{onSide, chosen, Next}
+use Rattle.rounds.specs.Pairs.{pairOf, resolventOf, Pairable, triedPair}
+use Rattle.lines.specs.declared.order.Variable.{Variable}
+use Rattle.rounds.specs.declared.pair.Parents.{Parents}
 use Rattle.rounds.specs.Left.{later, within, later-all, later-upper, later-end, within-lower, within-end, later-next, within-next}
 use Rattle.rounds.specs.Left.{line-same, next-same}
 
@@ -32,9 +36,9 @@ unfolding chosen
 chosen-side upper v t l e = is-true (onSide upper v l)
     (and-yes (onSide upper v l) (eqb (roundOf order l) t) (of-true (onSide upper v l && eqb (roundOf order l) t) e) .0)
 
--- ---- a point of the turn
+-- ---- a point of the round
 module _ (limits : Limits) (v : Variable) (t : ℕ) (start : List ℕ) (from : Point) where
-  -- the whole turn
+  -- the whole round
   abbrev pub afterRound : State
   afterRound = tryAll (limited limits) (variableOf v) (roundPairs order (variableOf v) t (stepsIn start (from .steps)))
       (running (stepsIn start (from .steps)) (from .pairs))
@@ -65,13 +69,13 @@ module _ (limits : Limits) (v : Variable) (t : ℕ) (start : List ℕ) (from : P
   -- at the two loops' tests: of the uppers, and of the lowers of upper i
   pub record AtUpper (proof : List ℕ) (p : Point) (i : ℕ) : Type 0 where
     pub going : p .progress ≡ Running
-    pub underway : Underway proof p (laterUppers i) (65536 * i)
+    pub underway : Underway proof p (laterUppers i) (limit.mostSteps * i)
     pub few : i ≤ from .steps
     pub upper : i < from .steps → isChosen true i
 
   pub record AtLower (proof : List ℕ) (p : Point) (i j : ℕ) : Type 0 where
     pub going : p .progress ≡ Running
-    pub underway : Underway proof p (laterLowers i j) (65536 * i + j)
+    pub underway : Underway proof p (laterLowers i j) (limit.mostSteps * i + j)
     pub few : j ≤ from .steps
     pub lower : j < from .steps → isChosen false j
 
@@ -120,7 +124,7 @@ module _ (limits : Limits) (v : Variable) (t : ℕ) (start : List ℕ) (from : P
             lower = n .passes;
           }
 
-      pub upper-next : {j k : ℕ} → AtLower proof p i j → from .steps ≤ j → from .steps ≤ 65536
+      pub upper-next : {j k : ℕ} → AtLower proof p i j → from .steps ≤ j → from .steps ≤ limit.mostSteps
           → Next proof (from .steps) (chosen true (variableOf v) t) (i + 1) k → AtUpper proof p k
       upper-next {j = j} r h f n =
           let at = next-same (r .underway .leads) (standing .held .room) n in
@@ -135,10 +139,13 @@ module _ (limits : Limits) (v : Variable) (t : ℕ) (start : List ℕ) (from : P
     -- one pair more
     module _ {proof : List ℕ} {p : Point} {i j : ℕ} (r : AtLower proof p i j) (at-upper : i < from .steps) (upper : isChosen true i)
         (at-lower : j < from .steps) where
+      abbrev x : Parents
+      x = record { variable = v; upper = i; lower = j }
+
       same-line : (k : ℕ) → k < from .steps → lineAt proof k ≡ lineAt start k
       same-line = line-same (r .underway .leads) (standing .held .room)
 
-      pub pairable : Ranged v → limits .steps ≤ 65536 → from .pairs ≤ 900000000000 → Pairable proof v i j p
+      pub pairable : Ranged v → limits .steps ≤ limit.mostSteps → from .pairs ≤ 900000000000 → Pairable proof x p
       unfolding onSide
       pairable g f n =
           record {
@@ -152,22 +159,22 @@ module _ (limits : Limits) (v : Variable) (t : ℕ) (start : List ℕ) (from : P
           }
 
       module _ {after : List ℕ} {q : Point}
-          (reaches : Reaches limits proof p after q (settled limits proof v i j (resolventOf proof v i j) p (suc (p .pairs)))) where
-        pub underway-pair : Underway after q (laterLowers i (j + 1)) (65536 * i + (j + 1))
+          (reaches : Reaches limits proof p after q (triedPair limits proof x p)) where
+        pub underway-pair : Underway after q (laterLowers i (j + 1)) (limit.mostSteps * i + (j + 1))
         unfolding stateAt stateOf tryAll
         underway-pair =
             let stops = limited limits in
             let w = variableOf v in
             let steps = stepsIn proof (p .steps) in
             let rest = laterLowers i (j + 1) in
-            let tried-same : tried stops w (pairOf proof i j) (resolventOf proof v i j) steps (suc (p .pairs))
-            ≡ tried stops w (pairOf start i j) (resolventOf start v i j) steps (suc (p .pairs)) =
+            let tried-same : tried stops w (pairOf proof x) (resolventOf proof x) steps (suc (p .pairs))
+            ≡ tried stops w (pairOf start x) (resolventOf start x) steps (suc (p .pairs)) =
             (λ x.
             let u = meaning (same-line i at-upper x) in
             let l = meaning (same-line j at-lower x) in
             tried stops w (record { upper = record { number = i; line = u }; lower = record { number = j; line = l } }) (resolve w u l)
             steps (suc (p .pairs))) in
-            let before : tryAll stops w (pairOf start i j ∷ rest) (running steps (p .pairs)) ≡ afterRound =
+            let before : tryAll stops w (pairOf start x ∷ rest) (running steps (p .pairs)) ≡ afterRound =
             (λ x. tryAll stops w (sym (within-lower start (from .steps) w t i j at-lower (r .lower at-lower)) x)
             (stateOf (sym (r .going) x) steps (p .pairs))) ∙ r .underway .same in
             record {
@@ -176,7 +183,7 @@ module _ (limits : Limits) (v : Variable) (t : ℕ) (start : List ℕ) (from : P
                 arith,
                 r .underway .counted,
                 sym (pairs-at after q) ∙ ap pairsOf (reaches .is)
-                    ∙ tried-pairs stops w (pairOf proof i j) (resolventOf proof v i j) steps (suc (p .pairs)),
+                    ∙ tried-pairs stops w (pairOf proof x) (resolventOf proof x) steps (suc (p .pairs)),
               );
               same = ap (tryAll stops w rest) (reaches .is ∙ tried-same) ∙ before;
             }

@@ -1,4 +1,4 @@
--- A turn's lines with its variable on one side, found by their bytes and from number to number.
+-- A round's lines with its variable on one side, found by their bytes and from number to number.
 use mathlib.Core.Path.{_≡_, sym, ap, _∙_}
 use mathlib.Core.Bool.{Bool, true, false, _&&_}
 use mathlib.Core.List.{List, [], _∷_}
@@ -7,29 +7,20 @@ use native.Mathlib.Numerals.{add-one}
 use native.Mathlib.Omega.{arith}
 use lib.Dec.{eqb}
 use lib.ListN.{length, drop, drop-of-length-le}
+use Rattle.rules_types.specs.Limits.{rationals, stepBytes}
+use Rattle.rules_types.specs.Layout.{stepCoefficients, stepPositive, stepNegative}
 use Rattle.rules.specs.Bytes.{fromUnsigned, fieldAt}
 use Rattle.rules.specs.Lines as rules
-use Rattle.rules.specs.Lines.{rational, boolean, coefficient, positively, negatively}
+use Rattle.rules.specs.Lines.{coefficient, positively, negatively}
 use Rattle.rules.specs.Steps.{Step}
 use Rattle.rules.specs.Elimination.{order, roundOf, Numbered, select}
 use Rattle.theory_lists.specs.Tabulated.{drop-tabulate}
 use Rattle.lines.specs.Line.{meaning, Shaped}
 use Rattle.lines.specs.Forms.{coefficient-is}
 use Rattle.steps.specs.Decoding.{decoded, getD-amountsAt}
-use Rattle.steps.specs.Places.{stepAt}
+use Rattle.steps.specs.Places.{stepAt, HasStep, field-stepAt}
 use Rattle.steps.specs.Lines.{lineAt}
-use Rattle.steps.specs.Held.{stepFrom, stepsIn, length-stepsIn, field-stepAt}
-use Rattle.rounds.specs.declared.side.Variable.{Variable}
-use Rattle.rounds.specs.declared.side.Variable.the-variants.{Rational, Boolean}
-
-unfoldable pub variableOf : Variable → rules.Variable
-variableOf (Rational f) = rational f
-variableOf (Boolean i) = boolean i
-
--- one of the order
-abbrev pub Ranged : Variable → Type 0
-Ranged (Rational f) = f < 8
-Ranged (Boolean i) = i < 32
+use Rattle.steps.specs.Held.{stepFrom, stepsIn, length-stepsIn}
 
 -- positive, an upper bound, or negative
 unfoldable pub onSide : Bool → rules.Variable → rules.Line → Bool
@@ -41,23 +32,21 @@ unfoldable pub chosen : Bool → rules.Variable → ℕ → rules.Line → Bool
 chosen upper v t l = onSide upper v l && eqb (roundOf order l) t
 
 -- ---- by their bytes
-module _ (proof : List ℕ) (i : ℕ) (room : 64 * i + 64 ≤ length proof) where
-  pub coefficient-bytes : Shaped (lineAt proof i) → (f : ℕ) → f < 8
-      → fromUnsigned (fieldAt (64 * i + 16 + 4 * f) 4 proof) ≡ coefficient f (meaning (lineAt proof i) .constraint)
+module _ (proof : List ℕ) (i : ℕ) (room : HasStep proof i) where
+  pub coefficient-bytes : Shaped (lineAt proof i) → (f : ℕ) → f < rationals
+      → fromUnsigned (fieldAt (stepBytes * i + (stepCoefficients + 4 * f)) 4 proof) ≡ coefficient f (meaning (lineAt proof i) .constraint)
   unfolding lineAt decoded
   coefficient-bytes h f l =
-      let e : 64 * i + 16 + 4 * f ≡ 64 * i + (16 + 4 * f) = omega arith in
-      ap (λ (k : ℕ). fromUnsigned (fieldAt k 4 proof)) e
-      ∙ ap fromUnsigned (sym (field-stepAt proof i room (16 + 4 * f) (omega arith)))
-      ∙ sym (coefficient-is (lineAt proof i) h f ∙ getD-amountsAt 8 16 f (stepAt proof i) l)
+      ap fromUnsigned (sym (field-stepAt proof i room (stepCoefficients + 4 * f) 4 (omega arith)))
+      ∙ sym (coefficient-is (lineAt proof i) h f ∙ getD-amountsAt rationals stepCoefficients f (stepAt proof i) l)
 
-  pub positive-bytes : fieldAt (64 * i + 8) 4 proof ≡ lineAt proof i .positive
+  pub positive-bytes : fieldAt (stepBytes * i + stepPositive) 4 proof ≡ lineAt proof i .positive
   unfolding lineAt decoded
-  positive-bytes = sym (field-stepAt proof i room 8 (omega arith))
+  positive-bytes = sym (field-stepAt proof i room stepPositive 4 (omega arith))
 
-  pub negative-bytes : fieldAt (64 * i + 12) 4 proof ≡ lineAt proof i .negative
+  pub negative-bytes : fieldAt (stepBytes * i + stepNegative) 4 proof ≡ lineAt proof i .negative
   unfolding lineAt decoded
-  negative-bytes = sym (field-stepAt proof i room 12 (omega arith))
+  negative-bytes = sym (field-stepAt proof i room stepNegative 4 (omega arith))
 
 -- ---- from number to number
 -- a line of the proof with its number

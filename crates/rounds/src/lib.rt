@@ -1,4 +1,4 @@
-// The turns, one after another: each pairs the lines of its variable.
+// The rounds, one after another: each pairs the lines of its variable.
 pub mod pair;
 pub mod round;
 pub mod sequence;

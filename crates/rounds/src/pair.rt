@@ -1,6 +1,6 @@
-// One pair of a turn: its result, counted, and put to the tests where it is not dropped.
-use crate::side::Variable;
+// One pair of a round: counted, and its resolvent put to the tests of a line where it is not dropped.
 use lines::line::Line;
+use lines::order::Variable;
 use placing::place::Point;
 use placing::place::Progress;
 use placing::place::place;
@@ -10,17 +10,26 @@ use resolvents::resolve::resolve_boolean;
 use resolvents::resolve::resolve_rational;
 use rules_types::limits::Limits;
 use steps::access::line_at;
+use steps::origin::Origin;
+use steps::origin::Step;
 ghost use mathlib.Core.Path.{_≡_};
 ghost use mathlib.Core.Bool.{true};
-ghost use Prim.Native.Nat.{suc, _<_};
+ghost use Prim.Native.Nat.{_<_};
 ghost use Rattle.rules.specs.Lines.{positively, negatively};
 ghost use Rattle.rules.specs.Resolve.{resolve};
+ghost use Rattle.lines.specs.Order.{variableOf, Ranged};
 ghost use Rattle.lines.specs.Line.{meaning, Ready};
 ghost use Rattle.steps.specs.Lines.{lineAt};
 ghost use Rattle.resolvents.specs.Resolved.{Gives};
 ghost use Rattle.placing.specs.Point.{Standing, Reaches};
-ghost use Rattle.rounds.specs.Sides.{variableOf, Ranged};
-ghost use Rattle.rounds.specs.Pairs.{howOf, whichOf, left, counted, settled, resolventOf, Pairable};
+ghost use Rattle.rounds.specs.Pairs.{howOf, whichOf, originFor, left, counted, triedPair, Pairable, settledBy};
+
+// A pair by the numbers of its two lines, and the variable that it is resolved by.
+pub struct Parents {
+    pub variable: Variable,
+    pub upper: usize,
+    pub lower: usize,
+}
 
 fn resolve(v: Variable, upper: Line, lower: Line) -> Resolved
     requires { ⌜ Ranged v ⌝ }
@@ -56,72 +65,68 @@ fn which_of(v: Variable) -> u8
     }
 }
 
-// The point with the count.
-fn counted(p: Point, pairs: u64, progress: Progress) -> Point
-    ensures { λ q. ⌜ q ≡ counted p pairs progress ⌝ }
+fn origin_of(parents: Parents) -> Origin
+    requires { ⌜ Ranged (parents .variable) ⌝ }
+    ensures { λ o. ⌜ o ≡ originFor parents ⌝ }
+{
+    let v = parents.variable;
+    Origin {
+        how: how_of(v),
+        which: which_of(v),
+        first: parents.upper as u64,
+        second: parents.lower as u64,
+    }
+}
+
+// The point with one pair more.
+fn counted(p: Point, progress: Progress) -> Point
+    requires { ⌜ p .pairs < 1000000000000 ⌝ }
+    ensures { λ q. ⌜ q ≡ counted p progress ⌝ }
 {
     Point {
         progress: progress,
         steps: p.steps,
-        pairs: pairs,
+        pairs: p.pairs + 1,
     }
 }
 
-// What is left of a result: dropped, wide, or a line put to the tests. `pairs` counts the pair.
-fn settle(
-    proof: &mut [u8],
-    v: Variable,
-    i: usize,
-    j: usize,
-    r: Resolved,
-    p: Point,
-    pairs: u64,
-    limits: Limits,
-) -> Point
+// What is left of a resolvent: dropped, an overflow, or a line put to the tests.
+fn settle(proof: &mut [u8], parents: Parents, r: Resolved, p: Point, limits: Limits) -> Point
     requires { ⌜ Standing limits (now proof) (p .steps) ⌝ }
-    requires { ⌜ Ranged v ⌝ }
-    requires { ⌜ i < 65536 ⌝ }
-    requires { ⌜ j < 65536 ⌝ }
+    requires { ⌜ Pairable (now proof) parents p ⌝ }
     requires { ⌜ Gives (left r) r ⌝ }
-    ensures { λ q. ⌜ Reaches limits (now (proof .entry)) p (now (proof .exit)) q (settled limits (now (proof .entry)) v i j (left r) p pairs) ⌝ }
+    ensures { λ q. ⌜ Reaches limits (now (proof .entry)) p (now (proof .exit)) q (settledBy r limits (now (proof .entry)) parents p) ⌝ }
 {
     let outcome = r.outcome;
     match outcome {
-        Outcome::Dropped => counted(p, pairs, Progress::Running),
-        Outcome::Overflows => counted(p, pairs, Progress::Overflow),
+        Outcome::Dropped => counted(p, Progress::Running),
+        Outcome::Overflows => counted(p, Progress::Overflow),
         Outcome::Made => {
             let line = r.line;
-            let next = counted(p, pairs, Progress::Running);
+            let next = counted(p, Progress::Running);
+            let origin = origin_of(parents);
             place(
                 proof,
                 next,
+                Step {
+                    origin: origin,
+                    line: line,
+                },
                 limits,
-                line,
-                how_of(v),
-                which_of(v),
-                i as u64,
-                j as u64,
             )
         }
     }
 }
 
-// The lines i, given, and j. "Every pair counts, dropped ones too."
-pub fn pair(
-    proof: &mut [u8],
-    v: Variable,
-    i: usize,
-    upper: Line,
-    j: usize,
-    p: Point,
-    limits: Limits,
-) -> Point
+// "Every pair counts, dropped ones too." The upper line is given.
+pub fn pair(proof: &mut [u8], parents: Parents, upper: Line, p: Point, limits: Limits) -> Point
     requires { ⌜ Standing limits (now proof) (p .steps) ⌝ }
-    requires { ⌜ Pairable (now proof) v i j p ⌝ }
-    requires { ⌜ upper ≡ lineAt (now proof) i ⌝ }
-    ensures { λ q. ⌜ Reaches limits (now (proof .entry)) p (now (proof .exit)) q (settled limits (now (proof .entry)) v i j (resolventOf (now (proof .entry)) v i j) p (suc (p .pairs))) ⌝ }
+    requires { ⌜ Pairable (now proof) parents p ⌝ }
+    requires { ⌜ upper ≡ lineAt (now proof) (parents .upper) ⌝ }
+    ensures { λ q. ⌜ Reaches limits (now (proof .entry)) p (now (proof .exit)) q (triedPair limits (now (proof .entry)) parents p) ⌝ }
 {
-    let lower = line_at(proof, j);
+    let lower = line_at(proof, parents.lower);
+    let v = parents.variable;
     let r = resolve(v, upper, lower);
-    settle(proof, v, i, j, r, p, p.pairs + 1, limits)
+    settle(proof, parents, r, p, limits)
 }

@@ -1,16 +1,18 @@
-// A turn's pairs: the uppers in line order, each with the lowers, to the end of the course if it comes.
+// A round's pairs: the uppers in the order of the steps, each with the lowers, to the end of the elimination if it comes.
+use crate::pair::Parents;
 use crate::pair::pair;
-use crate::side::Variable;
 use crate::side::next;
+use lines::order::Variable;
 use placing::place::Point;
 use placing::place::is_running;
 use rules_types::limits::Limits;
 use steps::access::line_at;
 ghost use mathlib.Core.Path.{_≡_};
 ghost use Prim.Native.Nat.{_+_, _≤_};
+ghost use Rattle.lines.specs.Order.{Ranged};
+ghost use Rattle.rules_types.specs.Limits.{mostSteps};
 ghost use Rattle.placing.specs.Point.{Standing, Reaches};
 ghost use Rattle.placing.specs.declared.place.Progress.the-variants.{Running};
-ghost use Rattle.rounds.specs.Sides.{Ranged};
 ghost use Rattle.rounds.specs.Round.{afterRound};
 
 // "The first empty line, wide result or line too many ends the course."
@@ -18,7 +20,7 @@ pub fn round(proof: &mut [u8], t: usize, v: Variable, from: Point, limits: Limit
     requires { ⌜ Standing limits (now proof) (from .steps) ⌝ }
     requires { ⌜ from .progress ≡ Running ⌝ }
     requires { ⌜ Ranged v ⌝ }
-    requires { ⌜ limits .steps ≤ 65536 ⌝ }
+    requires { ⌜ limits .steps ≤ mostSteps ⌝ }
     requires { ⌜ from .pairs ≤ 900000000000 ⌝ }
     ensures { λ p. ⌜ Reaches limits (now (proof .entry)) from (now (proof .exit)) p (afterRound limits v t (now (proof .entry)) from) ⌝ }
     ensures { λ p. ⌜ p .pairs ≤ from .pairs + 4294967296 ⌝ }
@@ -31,7 +33,12 @@ pub fn round(proof: &mut [u8], t: usize, v: Variable, from: Point, limits: Limit
         let upper = line_at(proof, i);
         let mut j = first;
         while j < m {
-            p = pair(proof, v, i, upper, j, p, limits);
+            let parents = Parents {
+                variable: v,
+                upper: i,
+                lower: j,
+            };
+            p = pair(proof, parents, upper, p, limits);
             let progress = p.progress;
             if !is_running(progress) {
                 break 'pairs;

@@ -1,37 +1,26 @@
-// The lines of a turn that have its variable on one side: positive (an upper bound) or negative.
-use fields::amount_at;
+// The lines of a round that have its variable on one side: positive (an upper bound) or negative.
+use lines::order::Variable;
 use machine::sign::is_negative;
 use machine::sign::is_positive;
 use masks::member;
+use steps::access::coefficient_at;
 use steps::access::line_at;
-use steps::decode::mask_at;
+use steps::access::negative_at;
+use steps::access::positive_at;
 ghost use mathlib.Core.Path.{_≡_};
-ghost use Prim.Native.Nat.{_+_, _*_, _≤_, _<_};
-ghost use lib.ListN.{length};
-ghost use Rattle.rules.specs.Lines.{rational, boolean, coefficient};
+ghost use Prim.Native.Nat.{_+_, _≤_, _<_};
+ghost use Rattle.rules.specs.Lines.{rational, boolean};
+ghost use Rattle.lines.specs.Order.{variableOf, Ranged};
+ghost use Rattle.rules_types.specs.Limits.{rationals, allBooleans};
 ghost use Rattle.lines.specs.Line.{meaning, Shaped};
+ghost use Rattle.steps.specs.Places.{HasStep};
 ghost use Rattle.steps.specs.Lines.{lineAt};
 ghost use Rattle.steps.specs.Held.{Held};
-ghost use Rattle.rounds.specs.Sides.{variableOf, Ranged, onSide, chosen, Next};
-
-// A turn's variable.
-pub enum Variable {
-    Rational(usize),
-    Boolean(usize),
-}
-
-fn coefficient_at(proof: &[u8], i: usize, f: usize) -> i64
-    requires { ⌜ 64 * i + 64 ≤ length (now proof) ⌝ }
-    requires { ⌜ f < 8 ⌝ }
-    requires { ⌜ Shaped (lineAt (now proof) i) ⌝ }
-    ensures { λ r. ⌜ r ≡ coefficient f (meaning (lineAt (now (proof .entry)) i) .constraint) ⌝ }
-{
-    amount_at(proof, 64 * i + 16 + 4 * f)
-}
+ghost use Rattle.rounds.specs.Sides.{onSide, chosen, Next};
 
 fn rational_side(proof: &[u8], i: usize, f: usize, upper: bool) -> bool
-    requires { ⌜ 64 * i + 64 ≤ length (now proof) ⌝ }
-    requires { ⌜ f < 8 ⌝ }
+    requires { ⌜ HasStep (now proof) i ⌝ }
+    requires { ⌜ f < rationals ⌝ }
     requires { ⌜ Shaped (lineAt (now proof) i) ⌝ }
     ensures { λ r. ⌜ r ≡ onSide upper (rational f) (meaning (lineAt (now (proof .entry)) i)) ⌝ }
 {
@@ -43,18 +32,18 @@ fn rational_side(proof: &[u8], i: usize, f: usize, upper: bool) -> bool
 }
 
 fn boolean_side(proof: &[u8], i: usize, b: usize, upper: bool) -> bool
-    requires { ⌜ 64 * i + 64 ≤ length (now proof) ⌝ }
-    requires { ⌜ b < 32 ⌝ }
+    requires { ⌜ HasStep (now proof) i ⌝ }
+    requires { ⌜ b < allBooleans ⌝ }
     ensures { λ r. ⌜ r ≡ onSide upper (boolean b) (meaning (lineAt (now (proof .entry)) i)) ⌝ }
 {
     if upper {
-        return member(mask_at(proof, 64 * i + 8), b);
+        return member(positive_at(proof, i), b);
     }
-    member(mask_at(proof, 64 * i + 12), b)
+    member(negative_at(proof, i), b)
 }
 
 fn has_side(proof: &[u8], i: usize, v: Variable, upper: bool) -> bool
-    requires { ⌜ 64 * i + 64 ≤ length (now proof) ⌝ }
+    requires { ⌜ HasStep (now proof) i ⌝ }
     requires { ⌜ Ranged v ⌝ }
     requires { ⌜ Shaped (lineAt (now proof) i) ⌝ }
     ensures { λ r. ⌜ r ≡ onSide upper (variableOf v) (meaning (lineAt (now (proof .entry)) i)) ⌝ }
@@ -65,9 +54,9 @@ fn has_side(proof: &[u8], i: usize, v: Variable, upper: bool) -> bool
     }
 }
 
-// Whether line i is one of turn t and has the variable on this side. The bytes of the variable are read first.
+// Whether line i is one of round t and has the variable on this side. The bytes of the variable are read first.
 fn stands(proof: &[u8], i: usize, t: usize, v: Variable, upper: bool) -> bool
-    requires { ⌜ 64 * i + 64 ≤ length (now proof) ⌝ }
+    requires { ⌜ HasStep (now proof) i ⌝ }
     requires { ⌜ Ranged v ⌝ }
     requires { ⌜ Shaped (lineAt (now proof) i) ⌝ }
     ensures { λ r. ⌜ r ≡ chosen upper (variableOf v) t (meaning (lineAt (now (proof .entry)) i)) ⌝ }

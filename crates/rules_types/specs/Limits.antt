@@ -49,6 +49,10 @@ amount = 1000000000
 abbrev pub steps : ℕ
 steps = 1024
 
+-- as many as the two bytes of a parent can number
+abbrev pub mostSteps : ℕ
+mostSteps = 65536
+
 -- the limits of a caller who lends the whole proof, and the bytes of a proof of so many steps
 abbrev pub standard : Limits
 standard = record { steps = steps }

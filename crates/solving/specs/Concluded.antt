@@ -1,4 +1,4 @@
--- What each end of a course concludes.
+-- What each end of an elimination concludes.
 use mathlib.Core.Path.{_≡_, refl}
 use mathlib.Core.List.{List, map}
 use mathlib.Core.Option.{Option, none, some}
@@ -13,12 +13,12 @@ use Rattle.rules.specs.Needs.{stepsOf, pairsOf}
 use Rattle.rules.specs.Values.{walk}
 use Rattle.rules.specs.Model.{written}
 use Rattle.rules.specs.Calls.{Outcome, stopped, decided, noModel, concluded}
-use Rattle.elimination.specs.declared.eliminate.End.{End}
-use Rattle.elimination.specs.declared.eliminate.End.the-variants.{Saturated, Empty, Overflow, OutOfSteps}
-use Rattle.elimination.specs.Ends.{endOf}
+use Rattle.placing.specs.declared.place.Progress.{Progress}
+use Rattle.placing.specs.declared.place.Progress.the-variants.{Running, Empty, Overflow, OutOfSteps}
+use Rattle.placing.specs.Point.{progressOf}
 
 module _ (p : Problem) where
-  -- by the sheet of the walk
+  -- by the model of the walk
   abbrev pub finished : State → Option (List ℕ) → Outcome
   finished s none = decided Unwritten (stepsOf s) (pairsOf s) noModel
   finished s (some bytes) = decided Satisfiable (stepsOf s) (pairsOf s) bytes
@@ -26,14 +26,14 @@ module _ (p : Problem) where
   abbrev pub modelOf : List Step → Option (List ℕ)
   modelOf steps = written (p .booleans) (p .rationals) (walk order (map (λ s. s .line) steps))
 
-  abbrev pub Concludes : State → End → Type 0
+  abbrev pub Concludes : State → Progress → Type 0
   Concludes s Overflow = concluded p s ≡ stopped refusal.Overflow (length (stepsOf s)) (pairsOf s)
   Concludes s OutOfSteps = concluded p s ≡ stopped refusal.OutOfSteps (length (stepsOf s)) (pairsOf s)
   Concludes s Empty = concluded p s ≡ decided Unsatisfiable (stepsOf s) (pairsOf s) noModel
-  Concludes s Saturated = (o : Option (List ℕ)) → modelOf (stepsOf s) ≡ o → concluded p s ≡ finished s o
+  Concludes s Running = (o : Option (List ℕ)) → modelOf (stepsOf s) ≡ o → concluded p s ≡ finished s o
 
-  pub concludes : (s : State) → Concludes s (endOf s)
-  unfolding concluded endOf stepsOf pairsOf
+  pub concludes : (s : State) → Concludes s (progressOf s)
+  unfolding concluded progressOf stepsOf pairsOf
   concludes (running steps n) = by
     where
       by : (o : Option (List ℕ)) → modelOf steps ≡ o → concluded p (running steps n) ≡ finished (running steps n) o

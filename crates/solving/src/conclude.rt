@@ -1,6 +1,7 @@
-// What each end of a course leaves: the answer, the proof's bytes and the model's.
-use elimination::eliminate::Elimination;
+// What each end of an elimination leaves: the answer, the proof's bytes and the model's.
+use fields::put_zeros;
 use models::encode::write_model;
+use placing::place::Point;
 use rules_types::answers::Answer;
 use rules_types::answers::Refusal;
 use rules_types::answers::Solved;
@@ -11,14 +12,15 @@ use walk::backwards::walk;
 ghost use mathlib.Core.Path.{_≡_};
 ghost use Prim.Native.Nat.{_*_, _≤_};
 ghost use lib.ListN.{length};
+ghost use Rattle.rules_types.specs.Limits.{stepBytes, modelBytes, booleans, rationals};
 ghost use Rattle.steps.specs.Places.{zeroed};
 ghost use Rattle.steps.specs.Lines.{ReadyLines};
 ghost use Rattle.walk.specs.Narrow.{Narrow};
-ghost use Rattle.solving.specs.Ends.{refusedBy, decidedBy, Written};
+ghost use Rattle.solving.specs.Ends.{refusedBy, decidedBy, zeroModel, Written};
 
 // "zero the book's 65,536 bytes and leave the sheet"
-pub fn refuse(proof: &mut [u8], f: Refusal, c: Elimination, limits: Limits) -> Solved
-    requires { ⌜ 64 * limits .steps ≤ length (now proof) ⌝ }
+pub fn refuse(proof: &mut [u8], f: Refusal, c: Point, limits: Limits) -> Solved
+    requires { ⌜ stepBytes * limits .steps ≤ length (now proof) ⌝ }
     ensures { λ s. ⌜ s ≡ refusedBy f c ⌝ }
     ensures { λ _. ⌜ now (proof .exit) ≡ zeroed 0 (limits .steps) (now (proof .entry)) ⌝ }
 {
@@ -29,7 +31,7 @@ pub fn refuse(proof: &mut [u8], f: Refusal, c: Elimination, limits: Limits) -> S
     }
 }
 
-fn decided(v: Verdict, c: Elimination) -> Solved
+fn decided(v: Verdict, c: Point) -> Solved
     ensures { λ s. ⌜ s ≡ decidedBy v c ⌝ }
 {
     Solved {
@@ -43,18 +45,18 @@ pub fn without_model(
     proof: &mut [u8],
     model: &mut [u8],
     v: Verdict,
-    c: Elimination,
+    c: Point,
     limits: Limits,
 ) -> Solved
     requires { ⌜ c .steps ≤ limits .steps ⌝ }
-    requires { ⌜ 64 * limits .steps ≤ length (now proof) ⌝ }
-    requires { ⌜ 64 ≤ length (now model) ⌝ }
+    requires { ⌜ stepBytes * limits .steps ≤ length (now proof) ⌝ }
+    requires { ⌜ modelBytes ≤ length (now model) ⌝ }
     ensures { λ s. ⌜ s ≡ decidedBy v c ⌝ }
     ensures { λ _. ⌜ now (proof .exit) ≡ zeroed (c .steps) (limits .steps) (now (proof .entry)) ⌝ }
-    ensures { λ _. ⌜ now (model .exit) ≡ zeroed 0 1 (now (model .entry)) ⌝ }
+    ensures { λ _. ⌜ now (model .exit) ≡ zeroModel (now (model .entry)) ⌝ }
 {
     zero(proof, c.steps, limits.steps as usize);
-    zero(model, 0, 1);
+    put_zeros(model, 0, Limits::MODEL_BYTES);
     decided(v, c)
 }
 
@@ -64,14 +66,14 @@ pub fn saturated(
     r: u8,
     proof: &mut [u8],
     model: &mut [u8],
-    c: Elimination,
+    c: Point,
     limits: Limits,
 ) -> Solved
-    requires { ⌜ b ≤ 16 ⌝ }
-    requires { ⌜ r ≤ 8 ⌝ }
+    requires { ⌜ b ≤ booleans ⌝ }
+    requires { ⌜ r ≤ rationals ⌝ }
     requires { ⌜ c .steps ≤ limits .steps ⌝ }
-    requires { ⌜ 64 * limits .steps ≤ length (now proof) ⌝ }
-    requires { ⌜ 64 ≤ length (now model) ⌝ }
+    requires { ⌜ stepBytes * limits .steps ≤ length (now proof) ⌝ }
+    requires { ⌜ modelBytes ≤ length (now model) ⌝ }
     requires { ⌜ ReadyLines (now proof) (c .steps) ⌝ }
     requires { ⌜ Narrow (now proof) (c .steps) r ⌝ }
     ensures { λ s. ⌜ Written b r c (now (proof .entry)) (now (model .entry)) (now (model .exit)) s ⌝ }

@@ -1,42 +1,43 @@
-// A question that was read without fault: its course, and what the end of it leaves.
+// A problem that was read without fault: its elimination, and what the end of it leaves.
 use crate::conclude::refuse;
 use crate::conclude::saturated;
 use crate::conclude::without_model;
-use elimination::eliminate::End;
 use elimination::eliminate::eliminate;
+use placing::place::Progress;
+use problem_scan::cursor::Sizes;
 use rules_types::answers::Refusal;
 use rules_types::answers::Solved;
 use rules_types::answers::Verdict;
 use rules_types::limits::Limits;
+ghost use mathlib.Core.Path.{_≡_};
 ghost use Prim.Native.Nat.{_*_, _≤_};
 ghost use lib.ListN.{length};
-ghost use Rattle.rules.specs.Elimination.{limited, elimination};
-ghost use Rattle.rules.specs.Calls.{concluded};
-ghost use Rattle.problem_read.specs.Parsed.{problemAt};
+ghost use Rattle.rules_types.specs.Limits.{stepBytes, modelBytes, mostSteps};
+ghost use Rattle.rules.specs.Calls.{said, proofAfter, modelAfter};
 ghost use Rattle.problem_read.specs.Readable.{Readable};
-ghost use Rattle.solving.specs.Leaves.{Leaves};
+ghost use Rattle.solving.specs.Leaves.{outcomeAt};
 
 pub fn decide(
     input: &[u8],
-    b: u8,
-    r: u8,
-    n: u64,
+    sizes: Sizes,
     proof: &mut [u8],
     model: &mut [u8],
     limits: Limits,
 ) -> Solved
-    requires { ⌜ Readable (now input) b r n ⌝ }
-    requires { ⌜ 64 * limits .steps ≤ length (now proof) ⌝ }
-    requires { ⌜ 64 ≤ length (now model) ⌝ }
-    requires { ⌜ limits .steps ≤ 65536 ⌝ }
-    ensures { λ s. ⌜ Leaves limits (concluded (problemAt (now (input .entry)) b r n) (elimination (limited limits) (problemAt (now (input .entry)) b r n))) (now (proof .entry)) (now (model .entry)) (now (proof .exit)) (now (model .exit)) s ⌝ }
+    requires { ⌜ Readable (now input) sizes ⌝ }
+    requires { ⌜ stepBytes * limits .steps ≤ length (now proof) ⌝ }
+    requires { ⌜ modelBytes ≤ length (now model) ⌝ }
+    requires { ⌜ limits .steps ≤ mostSteps ⌝ }
+    ensures { λ s. ⌜ s ≡ said (outcomeAt limits (now (input .entry)) sizes) ⌝ }
+    ensures { λ _. ⌜ now (proof .exit) ≡ proofAfter limits (outcomeAt limits (now (input .entry)) sizes) (now (proof .entry)) ⌝ }
+    ensures { λ _. ⌜ now (model .exit) ≡ modelAfter (outcomeAt limits (now (input .entry)) sizes) (now (model .entry)) ⌝ }
 {
-    let c = eliminate(input, b, r, n, proof, limits);
-    let end = c.end;
-    match end {
-        End::Overflow => refuse(proof, Refusal::Overflow, c, limits),
-        End::OutOfSteps => refuse(proof, Refusal::OutOfSteps, c, limits),
-        End::Empty => without_model(proof, model, Verdict::Unsatisfiable, c, limits),
-        End::Saturated => saturated(b, r, proof, model, c, limits),
+    let c = eliminate(input, sizes, proof, limits);
+    let progress = c.progress;
+    match progress {
+        Progress::Overflow => refuse(proof, Refusal::Overflow, c, limits),
+        Progress::OutOfSteps => refuse(proof, Refusal::OutOfSteps, c, limits),
+        Progress::Empty => without_model(proof, model, Verdict::Unsatisfiable, c, limits),
+        Progress::Running => saturated(sizes.booleans, sizes.rationals, proof, model, c, limits),
     }
 }

@@ -1,4 +1,4 @@
-// Solving: the buffers' sizes, the question's faults, the course, and what its end leaves in book and sheet.
+// Solving: the buffers' sizes, the problem's faults, the elimination, and what its end leaves in proof and model.
 pub mod conclude;
 mod decide;
 pub mod solve;

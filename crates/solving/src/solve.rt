@@ -8,9 +8,9 @@ use rules_types::answers::Solved;
 use rules_types::limits::Limits;
 ghost use mathlib.Core.Path.{_≡_};
 ghost use Prim.Native.Nat.{_≤_};
-ghost use Rattle.rules_types.specs.Limits.{standard};
-ghost use Rattle.rules.specs.Calls.{lent, solve};
-ghost use Rattle.solving.specs.Leaves.{Leaves, faultedBy};
+ghost use Rattle.rules_types.specs.Limits.{mostSteps, standard};
+ghost use Rattle.rules.specs.Calls.{solve};
+ghost use Rattle.solving.specs.Leaves.{faultedBy};
 
 fn faulted(f: Refusal, place: usize) -> Solved
     ensures { λ s. ⌜ s ≡ faultedBy f place ⌝ }
@@ -21,10 +21,12 @@ fn faulted(f: Refusal, place: usize) -> Solved
     }
 }
 
-// With every limit of lines up to 65,536.
+// With every limit of steps up to 65,536.
 pub fn solve_within(input: &[u8], proof: &mut [u8], model: &mut [u8], limits: Limits) -> Solved
-    requires { ⌜ limits .steps ≤ 65536 ⌝ }
-    ensures { λ s. ⌜ Leaves limits (lent limits (now (input .entry)) (now (proof .entry)) (now (model .entry))) (now (proof .entry)) (now (model .entry)) (now (proof .exit)) (now (model .exit)) s ⌝ }
+    requires { ⌜ limits .steps ≤ mostSteps ⌝ }
+    ensures { λ s. ⌜ s ≡ solve limits (now (input .entry)) (now (proof .entry)) (now (model .entry)) .solved ⌝ }
+    ensures { λ _. ⌜ now (proof .exit) ≡ solve limits (now (input .entry)) (now (proof .entry)) (now (model .entry)) .proof ⌝ }
+    ensures { λ _. ⌜ now (model .exit) ≡ solve limits (now (input .entry)) (now (proof .entry)) (now (model .entry)) .model ⌝ }
 {
     if proof.len() < limits.proof_bytes() {
         return faulted(Refusal::ShortProof, 0);
@@ -35,7 +37,7 @@ pub fn solve_within(input: &[u8], proof: &mut [u8], model: &mut [u8], limits: Li
     let s = read(input);
     match s {
         Scan::Fault(f, place) => faulted(f, place),
-        Scan::Sound(b, r, n) => decide(input, b, r, n, proof, model, limits),
+        Scan::Sound(sizes) => decide(input, sizes, proof, model, limits),
     }
 }
 

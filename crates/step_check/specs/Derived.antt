@@ -1,4 +1,4 @@
--- The resolvent that a step's bytes name, by its first six.
+-- The resolvent that a step's bytes name, by its origin.
 use mathlib.Core.Path.{_≡_, refl, ap, _∙_}
 use mathlib.Core.Bool.{Bool, true, false, cond, _&&_}
 use mathlib.Core.List.{List, [], _∷_}
@@ -7,13 +7,13 @@ use Prim.Native.Nat.{ℕ}
 use native.Mathlib.Omega.{arith}
 use lib.Dec.{eqb, eqb→eq}
 use lib.ListN.{getElem?}
-use Rattle.rules.specs.Bytes.{fieldAt}
 use Rattle.rules.specs.Lines.{Line, Variable, rational, boolean, positively, negatively}
 use Rattle.rules.specs.Resolve.{resolve}
 use Rattle.rules.specs.Steps.{Header, Step, resolved, header}
 use Rattle.rules.specs.Elimination.{overflows}
 use Rattle.rules.specs.Checker.{derived, pairable, variableNamed, resolventNamed, lineAmong}
-use Rattle.steps.specs.Encoding.{headerOf}
+use Rattle.steps.specs.declared.origin.Origin.{Origin}
+use Rattle.steps.specs.Origin.{headerOf, originAt}
 use Rattle.theory_lists.specs.Tests.{of-true}
 use Rattle.step_check.specs.Stated.{matched, among-one}
 
@@ -63,27 +63,27 @@ pub derived-absent : (v : Variable) (o : Option Line) → derived v none o ≡ n
 unfolding derived
 derived-absent v o = refl
 
--- ---- by the variable that a step's first two bytes name
-unfoldable pub derivedBy : ℕ → ℕ → Option Line → Option Line → Option Line
-derivedBy how which u l = elim (variableNamed how which) [ none ↦ none | some v ↦ derived v u l ]
+-- ---- by the variable that an origin names
+unfoldable pub derivedBy : Origin → Option Line → Option Line → Option Line
+derivedBy o u l = elim (variableNamed (o .how) (o .which)) [ none ↦ none | some v ↦ derived v u l ]
 
-module _ (how which : ℕ) where
-  pub by-rational : how ≡ 1 → (u l : Option Line) → derivedBy how which u l ≡ derived (rational which) u l
+module _ (o : Origin) where
+  pub by-rational : o .how ≡ 1 → (u l : Option Line) → derivedBy o u l ≡ derived (rational (o .which)) u l
   unfolding derivedBy variableNamed
   by-rational e u l = rw e
 
-  pub by-boolean : how ≡ 2 → (u l : Option Line) → derivedBy how which u l ≡ derived (boolean which) u l
+  pub by-boolean : o .how ≡ 2 → (u l : Option Line) → derivedBy o u l ≡ derived (boolean (o .which)) u l
   unfolding derivedBy variableNamed
   by-boolean e u l = rw e
 
-  pub by-none : eqb how 1 ≡ false → eqb how 2 ≡ false → (u l : Option Line) → derivedBy how which u l ≡ none
+  pub by-none : eqb (o .how) 1 ≡ false → eqb (o .how) 2 ≡ false → (u l : Option Line) → derivedBy o u l ≡ none
   unfolding derivedBy variableNamed
   by-none a b u l = rw (a, b, derivedBy, variableNamed)
 
   -- whatever it is, of two parents
-  pub by-neither : (u l : Option Line) → ((v : Variable) → derived v u l ≡ none) → derivedBy how which u l ≡ none
+  pub by-neither : (u l : Option Line) → ((v : Variable) → derived v u l ≡ none) → derivedBy o u l ≡ none
   unfolding derivedBy
-  by-neither u l h = by (variableNamed how which)
+  by-neither u l h = by (variableNamed (o .how) (o .which))
     where
       by : (o : Option Variable) → _≡_ {A = Option Line} (elim o [ none ↦ none | some v ↦ derived v u l ]) none
       by none = refl
@@ -93,20 +93,21 @@ module _ (how which : ℕ) where
 unfoldable pub resolventStated : List Line → List ℕ → Option Line
 resolventStated earlier bytes = elim (resolventNamed earlier bytes) [ none ↦ none | some s ↦ lineAmong (s ∷ []) bytes ]
 
-named-header : (how which first second : ℕ) (v : Variable) → variableNamed how which ≡ some v
-    → header (resolved v first second) ≡ headerOf how which first second
+named-header : (o : Origin) (v : Variable) → variableNamed (o .how) (o .which) ≡ some v
+    → header (resolved v (o .first) (o .second)) ≡ headerOf o
 unfolding variableNamed header
-named-header how which first second v e = by (eqb how 1) (eqb how 2) refl refl e
+named-header o v e = by (eqb (o .how) 1) (eqb (o .how) 2) refl refl e
   where
-    by : (a b : Bool) → eqb how 1 ≡ a → eqb how 2 ≡ b → cond a (some (rational which)) (cond b (some (boolean which)) none) ≡ some v
-        → header (resolved v first second) ≡ headerOf how which first second
+    by : (a b : Bool) → eqb (o .how) 1 ≡ a → eqb (o .how) 2 ≡ b
+        → cond a (some (rational (o .which))) (cond b (some (boolean (o .which))) none) ≡ some v
+        → header (resolved v (o .first) (o .second)) ≡ headerOf o
     by true b x y e =
-        let i : v ≡ rational which = cc in
-        let n : how ≡ 1 = eqb→eq how 1 (of-true (eqb how 1) x) in
+        let i : v ≡ rational (o .which) = cc in
+        let n : o .how ≡ 1 = eqb→eq (o .how) 1 (of-true (eqb (o .how) 1) x) in
         rw (i, n)
     by false true x y e =
-        let i : v ≡ boolean which = cc in
-        let n : how ≡ 2 = eqb→eq how 2 (of-true (eqb how 2) y) in
+        let i : v ≡ boolean (o .which) = cc in
+        let n : o .how ≡ 2 = eqb→eq (o .how) 2 (of-true (eqb (o .how) 2) y) in
         rw (i, n)
     by false false x y e = let z : _≡_ {A = ℕ} 0 1 = cc in absurd (omega arith)
 
@@ -119,26 +120,16 @@ module _ (earlier : List Line) (bytes : List ℕ) where
   by-line h v first second e (some l) = among-one (record { origin = resolved v first second; line = l }) bytes
       ∙ ap (λ (h : Header). matched h bytes (some l)) e
 
-  pub resolvent-is : resolventStated earlier bytes
-      ≡ matched (headerOf (fieldAt 0 1 bytes) (fieldAt 1 1 bytes) (fieldAt 2 2 bytes) (fieldAt 4 2 bytes)) bytes
-      (derivedBy (fieldAt 0 1 bytes) (fieldAt 1 1 bytes) (getElem? earlier (fieldAt 2 2 bytes)) (getElem? earlier (fieldAt 4 2 bytes)))
+  pub resolvent-is : let o = originAt bytes 0 in resolventStated earlier bytes
+      ≡ matched (headerOf o) bytes (derivedBy o (getElem? earlier (o .first)) (getElem? earlier (o .second)))
   unfolding resolventStated resolventNamed derivedBy matched
-  resolvent-is = by (variableNamed how which) refl
+  resolvent-is = by (variableNamed (o .how) (o .which)) refl
     where
-      how : ℕ
-      how = fieldAt 0 1 bytes
+      o : Origin
+      o = originAt bytes 0
 
-      which : ℕ
-      which = fieldAt 1 1 bytes
-
-      first : ℕ
-      first = fieldAt 2 2 bytes
-
-      second : ℕ
-      second = fieldAt 4 2 bytes
-
-      by : (o : Option Variable) → variableNamed how which ≡ o → resolventStated earlier bytes
-          ≡ matched (headerOf how which first second) bytes (derivedBy how which (getElem? earlier first) (getElem? earlier second))
+      by : (w : Option Variable) → variableNamed (o .how) (o .which) ≡ w → resolventStated earlier bytes
+          ≡ matched (headerOf o) bytes (derivedBy o (getElem? earlier (o .first)) (getElem? earlier (o .second)))
       by none e = rw (e, resolventStated, resolventNamed, derivedBy)
-      by (some v) e = rw (e, resolventStated, resolventNamed, derivedBy) (by-line (headerOf how which first second) v first second
-          (named-header how which first second v e) (derived v (getElem? earlier first) (getElem? earlier second)))
+      by (some v) e = rw (e, resolventStated, resolventNamed, derivedBy) (by-line (headerOf o) v (o .first) (o .second) (named-header o v e)
+          (derived v (getElem? earlier (o .first)) (getElem? earlier (o .second))))

@@ -7,6 +7,7 @@ use native.Mathlib.Omega.{arith}
 use lib.IntN.{pos}
 use lib.Dec.{eqb, eqb·suc-zero}
 use lib.ListN.{length, List·getD-eq-default}
+use Rattle.rules_types.specs.Limits as limit
 use Rattle.rules.specs.Arithmetic.{isPositive}
 use Rattle.rules.specs.Lines as rules
 use Rattle.rules.specs.Lines.{Variable, rational, boolean, positively, noConstraint}
@@ -70,13 +71,15 @@ pub holds-no : (v : Variable) (u l : rules.Line) {s : Stated} → suited v u l �
 holds-no v u l e h = holds-same (derived-no v u l e) h
 
 -- ---- variables that occur in no line
-pub rational-beyond : (f : ℕ) (l : Line) → Ready l → length (l .coefficients) ≡ 8 → 8 ≤ f → positively (rational f) (meaning l) ≡ false
+pub rational-beyond : (f : ℕ) (l : Line) → Ready l → length (l .coefficients) ≡ limit.rationals → limit.rationals ≤ f
+    → positively (rational f) (meaning l) ≡ false
 unfolding positively isPositive
 rational-beyond f l h n k = ap isPositive (coefficient-is l (h .shaped) f ∙ List·getD-eq-default (l .coefficients) (pos 0) (omega arith))
 
-pub boolean-beyond : (i : ℕ) (l : Line) → 32 ≤ i → positively (boolean i) (meaning l) ≡ false
+pub boolean-beyond : (i : ℕ) (l : Line) → limit.allBooleans ≤ i → positively (boolean i) (meaning l) ≡ false
 unfolding positively meaning
-boolean-beyond i l h = List·getD-eq-default (bits 32 (l .positive)) false (omega (arith, length-bits 32 (l .positive)))
+boolean-beyond i l h =
+    List·getD-eq-default (bits limit.allBooleans (l .positive)) false (omega (arith, length-bits limit.allBooleans (l .positive)))
 
 -- ---- constraints
 module _ (l : Line) where

@@ -7,6 +7,8 @@ use Prim.Native.Nat.{ℕ, zero, suc, _+_, _≤_, _<_}
 use native.Mathlib.Omega.{arith}
 use lib.Dec.{T, eqb, eqb→eq}
 use lib.ListN.{length, getElem?}
+use Rattle.rules_types.specs.Limits.{mostSteps}
+use Rattle.rules_types.specs.Layout.{stepFirst, stepSecond}
 use Rattle.rules.specs.Lists.{same}
 use Rattle.rules.specs.Bytes.{fieldAt}
 use Rattle.rules.specs.Problem.{Clause}
@@ -28,14 +30,14 @@ partNamed base (x ∷ xs) (suc c) k = partNamed (base + splitsOf x) xs c k
 -- few parts in each clause
 abbrev pub Few : List Clause → Type 0
 Few [] = Unit {0}
-Few (x ∷ xs) = ((base : ℕ) → length (partsOf base x) ≤ 65536) × Few xs
+Few (x ∷ xs) = ((base : ℕ) → length (partsOf base x) ≤ mostSteps) × Few xs
 
 module _ (bytes : List ℕ) where
   abbrev pub clause : ℕ
-  clause = fieldAt 2 2 bytes
+  clause = fieldAt stepFirst 2 bytes
 
   abbrev pub part : ℕ
-  part = fieldAt 4 2 bytes
+  part = fieldAt stepSecond 2 bytes
 
   -- the step of a part, if there is one and these are its bytes
   unfoldable pub ownStep : ℕ → ℕ → Option Line → Option Line
@@ -46,13 +48,13 @@ module _ (bytes : List ℕ) where
   step c k l = record { origin = loaded c k; line = l }
 
   -- ---- one step
-  numbers : (c k : ℕ) (l : Line) → c < 65536 → k < 65536 → T (same eqb (encodeStep (step c k l)) bytes) → (clause ≡ c) × (part ≡ k)
+  numbers : (c k : ℕ) (l : Line) → c < mostSteps → k < mostSteps → T (same eqb (encodeStep (step c k l)) bytes) → (clause ≡ c) × (part ≡ k)
   unfolding header
   numbers c k l h i t =
       let e = same-yes eqb eqb→eq (encodeStep (step c k l)) bytes t in
-      (ap (fieldAt 2 2) (sym e) ∙ first-back (step c k l) h, ap (fieldAt 4 2) (sym e) ∙ second-back (step c k l) i)
+      (ap (fieldAt stepFirst 2) (sym e) ∙ first-back (step c k l) h, ap (fieldAt stepSecond 2) (sym e) ∙ second-back (step c k l) i)
 
-  other : (c k : ℕ) (l : Line) (ss : List Step) → c < 65536 → k < 65536 → ((clause ≡ c) × (part ≡ k) → ⊥)
+  other : (c k : ℕ) (l : Line) (ss : List Step) → c < mostSteps → k < mostSteps → ((clause ≡ c) × (part ≡ k) → ⊥)
       → lineAmong (step c k l ∷ ss) bytes ≡ lineAmong ss bytes
   unfolding lineAmong
   other c k l ss h i d = ⊎-elim
@@ -69,7 +71,7 @@ module _ (bytes : List ℕ) where
       (split (same eqb (encodeStep s) bytes))
 
   -- ---- the parts of a clause, from part p on
-  parts-other : (c p : ℕ) (ls : List Line) → c < 65536 → p + length ls ≤ 65536 → (clause ≡ c → part < p)
+  parts-other : (c p : ℕ) (ls : List Line) → c < mostSteps → p + length ls ≤ mostSteps → (clause ≡ c → part < p)
       → lineAmong (partSteps c p ls) bytes ≡ none
   unfolding partSteps lineAmong
   parts-other c p [] h i d = refl
@@ -77,7 +79,7 @@ module _ (bytes : List ℕ) where
       other c p l (partSteps c (suc p) ls) h (omega arith) (λ e. omega (arith, d (e .0), e .1))
       ∙ parts-other c (suc p) ls h (omega arith) (λ e. omega (arith, d e))
 
-  parts-own : (c p d : ℕ) (ls : List Line) → c < 65536 → p + length ls ≤ 65536 → clause ≡ c → part ≡ p + d
+  parts-own : (c p d : ℕ) (ls : List Line) → c < mostSteps → p + length ls ≤ mostSteps → clause ≡ c → part ≡ p + d
       → lineAmong (partSteps c p ls) bytes ≡ ownStep c (p + d) (getElem? ls d)
   unfolding partSteps lineAmong ownStep
   parts-own c p d [] h i e f = refl
@@ -111,7 +113,7 @@ module _ (bytes : List ℕ) where
       (λ t. rw (is-false (same eqb (encodeStep s) bytes) t, lineAmong) (among-front ss ts e))
       (split (same eqb (encodeStep s) bytes))
 
-  loadable-other : (c base : ℕ) (xs : List Clause) → c + length xs ≤ 65536 → Few xs → clause < c
+  loadable-other : (c base : ℕ) (xs : List Clause) → c + length xs ≤ mostSteps → Few xs → clause < c
       → lineAmong (loadable c base xs) bytes ≡ none
   unfolding loadable lineAmong
   loadable-other c base [] h f d = refl
@@ -120,7 +122,7 @@ module _ (bytes : List ℕ) where
       (parts-other c 0 (partsOf base x) (omega arith) (omega (arith, f .0 base)) (λ e. omega arith))
       ∙ loadable-other (suc c) (base + splitsOf x) xs (omega arith) (f .1) (omega arith)
 
-  pub among-named : (c d base : ℕ) (xs : List Clause) → c + length xs ≤ 65536 → Few xs → clause ≡ c + d
+  pub among-named : (c d base : ℕ) (xs : List Clause) → c + length xs ≤ mostSteps → Few xs → clause ≡ c + d
       → lineAmong (loadable c base xs) bytes ≡ ownStep clause part (partNamed base xs d part)
   unfolding loadable lineAmong partNamed ownStep
   among-named c d base [] h f e = refl

@@ -4,13 +4,13 @@ use mathlib.Core.List.{List}
 use mathlib.Core.Option.{Option, none, some}
 use Prim.Native.Nat.{ℕ, _<_, _≤_}
 use lib.ListN.{getElem?}
-use Rattle.rules.specs.Bytes.{fieldAt}
 use Rattle.rules.specs.Lines as rules
 use Rattle.rules.specs.Checker.{derived}
 use Rattle.theory_lists.specs.Tabulated.{element-tabulate, element-beyond}
 use Rattle.lines.specs.declared.line.Line.{Line}
 use Rattle.lines.specs.Line.{meaning}
-use Rattle.steps.specs.Encoding.{headerOf}
+use Rattle.steps.specs.declared.origin.Origin.{Origin}
+use Rattle.steps.specs.Origin.{headerOf, originAt}
 use Rattle.steps.specs.Lines.{lineAt, linesIn}
 use Rattle.step_check.specs.declared.compare.Stated.{Stated}
 use Rattle.step_check.specs.Stated.{lineFound, Holds, States, matched}
@@ -31,30 +31,30 @@ module _ (proof bytes : List ℕ) (i : ℕ) where
   unfolding linesIn
   no-element k h = element-beyond i (λ k. meaning (lineAt proof k)) k h
 
+  abbrev origin : Origin
+  origin = originAt bytes 0
+
   -- no resolvent of these parents by any variable
-  no-resolvent : (u l : Option rules.Line) → getElem? earlier (fieldAt 2 2 bytes) ≡ u → getElem? earlier (fieldAt 4 2 bytes) ≡ l
+  no-resolvent : (u l : Option rules.Line) → getElem? earlier (origin .first) ≡ u → getElem? earlier (origin .second) ≡ l
       → ((v : rules.Variable) → derived v u l ≡ none) → resolventStated earlier bytes ≡ none
   unfolding matched
-  no-resolvent u l a b h = resolvent-is earlier bytes ∙ rw (a, b, by-neither (fieldAt 0 1 bytes) (fieldAt 1 1 bytes) u l h)
+  no-resolvent u l a b h = resolvent-is earlier bytes ∙ rw (a, b, by-neither origin u l h)
 
-  pub first-beyond : i ≤ fieldAt 2 2 bytes → resolventStated (linesIn proof i) bytes ≡ none
-  first-beyond h = no-resolvent none (getElem? earlier (fieldAt 4 2 bytes)) (no-element (fieldAt 2 2 bytes) h) refl
-      (λ v. derived-absent v (getElem? earlier (fieldAt 4 2 bytes)))
+  pub first-beyond : i ≤ origin .first → resolventStated (linesIn proof i) bytes ≡ none
+  first-beyond h = no-resolvent none (getElem? earlier (origin .second)) (no-element (origin .first) h) refl
+      (λ v. derived-absent v (getElem? earlier (origin .second)))
 
-  pub second-beyond : i ≤ fieldAt 4 2 bytes → resolventStated (linesIn proof i) bytes ≡ none
-  second-beyond h = no-resolvent (getElem? earlier (fieldAt 2 2 bytes)) none refl (no-element (fieldAt 4 2 bytes) h)
-      (λ v. derived-alone v (getElem? earlier (fieldAt 2 2 bytes)))
+  pub second-beyond : i ≤ origin .second → resolventStated (linesIn proof i) bytes ≡ none
+  second-beyond h = no-resolvent (getElem? earlier (origin .first)) none refl (no-element (origin .second) h)
+      (λ v. derived-alone v (getElem? earlier (origin .first)))
 
-  pub resolvent-found : {how which first second : ℕ} {u l : Line} {s : Stated}
-      → fieldAt 0 1 bytes ≡ how → fieldAt 1 1 bytes ≡ which → first ≡ fieldAt 2 2 bytes
-      → second ≡ fieldAt 4 2 bytes → first < i → second < i
-      → u ≡ lineAt proof first → l ≡ lineAt proof second
-      → Holds (derivedBy how which (some (meaning u)) (some (meaning l))) s
-      → resolventStated (linesIn proof i) bytes ≡ matched (headerOf how which first second) bytes (lineFound s)
-  resolvent-found {how} {which} {first} {second} {u} {l} {s} a b f g x y p q h =
+  pub resolvent-found : {o : Origin} {u l : Line} {s : Stated} → o ≡ origin → o .first < i → o .second < i
+      → u ≡ lineAt proof (o .first) → l ≡ lineAt proof (o .second)
+      → Holds (derivedBy o (some (meaning u)) (some (meaning l))) s
+      → resolventStated (linesIn proof i) bytes ≡ matched (headerOf o) bytes (lineFound s)
+  resolvent-found {o} {u} {l} {s} e x y p q h =
       resolvent-is earlier bytes
-      ∙ (λ t. matched (headerOf (a t) (b t) (sym f t) (sym g t)) bytes
-      (derivedBy (a t) (b t) (getElem? earlier (sym f t)) (getElem? earlier (sym g t))))
-      ∙ (λ t. matched (headerOf how which first second) bytes (derivedBy how which (element first x t) (element second y t)))
-      ∙ (λ t. matched (headerOf how which first second) bytes (derivedBy how which (some (meaning (sym p t))) (some (meaning (sym q t)))))
-      ∙ ap (matched (headerOf how which first second) bytes) (sym (h .line))
+      ∙ ap (λ (o : Origin). matched (headerOf o) bytes (derivedBy o (getElem? earlier (o .first)) (getElem? earlier (o .second)))) (sym e)
+      ∙ (λ t. matched (headerOf o) bytes (derivedBy o (element (o .first) x t) (element (o .second) y t)))
+      ∙ (λ t. matched (headerOf o) bytes (derivedBy o (some (meaning (sym p t))) (some (meaning (sym q t)))))
+      ∙ ap (matched (headerOf o) bytes) (sym (h .line))

@@ -1,4 +1,4 @@
--- What a step's bytes state: the line of a step that was computed, if all 64 bytes are that step's.
+-- What a step's bytes state: the line of a step that was computed, if all its bytes are that step's.
 use mathlib.Core.Path.{_≡_, refl, sym, ap, _∙_}
 use mathlib.Core.Bool.{true, false}
 use mathlib.Core.List.{List, [], _∷_}
@@ -8,6 +8,7 @@ use native.Mathlib.Omega.{arith}
 use lib.Dec.{eqb, eqb→eq}
 use lib.IntN.{pos}
 use lib.ListN.{length, replicate}
+use Rattle.rules_types.specs.Limits as limit
 use Rattle.rules.specs.Lists.{same}
 use Rattle.rules.specs.Lines as rules
 use Rattle.rules.specs.Steps.{Header, Step, header}
@@ -75,7 +76,7 @@ module _ (h : Header) (bytes : List ℕ) (s : Stated) where
     unfolding matched
     matched-other n = rw (found-is s e, n, matched)
 
-    pub matched-same : Ready (s .line) → length (s .line .coefficients) ≡ 8 → s .line .positive < 4294967296
+    pub matched-same : Ready (s .line) → length (s .line .coefficients) ≡ limit.rationals → s .line .positive < 4294967296
         → s .line .negative < 4294967296
         → same eqb (encoded h (meaning (s .line))) bytes ≡ true → States (matched h bytes (lineFound s)) bytes s
     unfolding matched
@@ -89,10 +90,16 @@ module _ (h : Header) (bytes : List ℕ) (s : Stated) where
         }
 
 -- the line without literal and constraint
-pub empty-ready : Ready (record { positive = 0; negative = 0; relation = 0; coefficients = replicate 8 (pos 0); bound = pos 0 })
+pub empty-ready : Ready (record {
+  positive = 0;
+  negative = 0;
+  relation = 0;
+  coefficients = replicate limit.rationals (pos 0);
+  bound = pos 0;
+})
 empty-ready =
     record {
       shaped = record { related = omega arith; coefficients = λ e. refl; bound = λ e. refl };
-      coefficients = zeros-amounts 8;
+      coefficients = zeros-amounts limit.rationals;
       bound = omega arith;
     }

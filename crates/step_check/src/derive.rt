@@ -1,19 +1,23 @@
-// "the result of two earlier lines, neither wide nor dropped by tidying, first parent positive; by a mark at most one parent has a condition".
+// "the result of two earlier lines, neither wide nor dropped by tidying, first parent positive; by a mark at most one parent has a
+// condition".
 use crate::compare::Stated;
 use crate::compare::compared;
 use crate::compare::unstated;
-use fields::u16_at;
 use lines::line::Line;
 use resolvents::resolve::Outcome;
 use resolvents::resolve::Resolved;
 use resolvents::resolve::resolve_boolean;
 use resolvents::resolve::resolve_rational;
+use rules_types::limits::Limits;
 use steps::access::line_at;
+use steps::access::origin_at;
+use steps::origin::Origin;
 ghost use mathlib.Core.Path.{_≡_};
 ghost use mathlib.Core.Bool.{_||_};
 ghost use mathlib.Core.Option.{some};
 ghost use Prim.Native.Nat.{_*_, _≤_, _<_};
 ghost use lib.ListN.{length};
+ghost use Rattle.rules_types.specs.Limits.{stepBytes, allBooleans};
 ghost use Rattle.rules.specs.Lines.{rational, boolean, noConstraint};
 ghost use Rattle.rules.specs.Checker.{derived};
 ghost use Rattle.lines.specs.Line.{meaning, Ready};
@@ -39,13 +43,13 @@ fn made(r: Resolved) -> Stated
     }
 }
 
-// A rational variable from 8 on occurs in no line.
+// A rational variable beyond the limit occurs in no line.
 fn by_rational(f: usize, upper: Line, lower: Line) -> Stated
     requires { ⌜ Ready upper ⌝ }
     requires { ⌜ Ready lower ⌝ }
     ensures { λ s. ⌜ Holds (derived (rational f) (some (meaning upper)) (some (meaning lower))) s ⌝ }
 {
-    if 8 <= f {
+    if Limits::RATIONALS <= f {
         return unstated();
     }
     if !upper.has_positive_rational(f) {
@@ -69,7 +73,7 @@ fn single(upper: Line, lower: Line) -> bool
 
 // It is positive in the first and negative in the second, and at most one has a constraint.
 fn resolvable(i: usize, upper: Line, lower: Line) -> bool
-    requires { ⌜ i < 32 ⌝ }
+    requires { ⌜ i < allBooleans ⌝ }
     ensures { λ b. ⌜ b ≡ suited (boolean i) (meaning upper) (meaning lower) ⌝ }
 {
     if !upper.has_positive_boolean(i) {
@@ -81,13 +85,13 @@ fn resolvable(i: usize, upper: Line, lower: Line) -> bool
     single(upper, lower)
 }
 
-// A Boolean variable from 32 on occurs in no line.
+// A Boolean variable beyond the limit occurs in no line.
 fn by_boolean(i: usize, upper: Line, lower: Line) -> Stated
     requires { ⌜ Ready upper ⌝ }
     requires { ⌜ Ready lower ⌝ }
     ensures { λ s. ⌜ Holds (derived (boolean i) (some (meaning upper)) (some (meaning lower))) s ⌝ }
 {
-    if 32 <= i {
+    if Limits::ALL_BOOLEANS <= i {
         return unstated();
     }
     if !resolvable(i, upper, lower) {
@@ -96,41 +100,40 @@ fn by_boolean(i: usize, upper: Line, lower: Line) -> Stated
     made(resolve_boolean(i, upper, lower))
 }
 
-// By the variable that a step's first two bytes name.
-fn by_named(how: u8, which: u8, upper: Line, lower: Line) -> Stated
+// By the variable that an origin names.
+fn by_named(origin: Origin, upper: Line, lower: Line) -> Stated
     requires { ⌜ Ready upper ⌝ }
     requires { ⌜ Ready lower ⌝ }
-    ensures { λ s. ⌜ Holds (derivedBy how which (some (meaning upper)) (some (meaning lower))) s ⌝ }
+    ensures { λ s. ⌜ Holds (derivedBy origin (some (meaning upper)) (some (meaning lower))) s ⌝ }
 {
+    let how = origin.how;
+    let which = origin.which as usize;
     if how == 1 {
-        return by_rational(which as usize, upper, lower);
+        return by_rational(which, upper, lower);
     }
     if how == 2 {
-        return by_boolean(which as usize, upper, lower);
+        return by_boolean(which, upper, lower);
     }
     unstated()
 }
 
 // The resolvent that these bytes name, if they are its step's: its parents are among the first i lines.
-pub fn derived(proof: &[u8], i: usize, bytes: [u8; 64]) -> Stated
-    requires { ⌜ 64 * i ≤ length (now proof) ⌝ }
+pub fn derived(proof: &[u8], i: usize, bytes: [u8; Limits::STEP_BYTES]) -> Stated
+    requires { ⌜ stepBytes * i ≤ length (now proof) ⌝ }
     requires { ⌜ ReadyLines (now proof) i ⌝ }
     ensures { λ s. ⌜ States (resolventStated (linesIn (now (proof .entry)) i) bytes) bytes s ⌝ }
 {
-    let first = u16_at(&bytes, 2);
-    let second = u16_at(&bytes, 4);
-    let at = first as usize;
-    let other = second as usize;
-    if i <= at {
+    let origin = origin_at(&bytes, 0);
+    let first = origin.first as usize;
+    let second = origin.second as usize;
+    if i <= first {
         return unstated();
     }
-    if i <= other {
+    if i <= second {
         return unstated();
     }
-    let upper = line_at(proof, at);
-    let lower = line_at(proof, other);
-    let how = bytes[0];
-    let which = bytes[1];
-    let s = by_named(how, which, upper, lower);
-    compared(how, which, first, second, s, bytes)
+    let upper = line_at(proof, first);
+    let lower = line_at(proof, second);
+    let s = by_named(origin, upper, lower);
+    compared(origin, s, bytes)
 }

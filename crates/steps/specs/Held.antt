@@ -1,51 +1,48 @@
 -- The steps that a proof's bytes hold: a step's origin and line come back from its bytes, and one is put behind the others.
-use mathlib.Core.Path.{_≡_, sym, ap, subst, _∙_}
-use mathlib.Core.List.{List, [], _∷_, _++_, append-assoc}
+use mathlib.Core.Path.{_≡_, refl, sym, ap, subst, _∙_}
+use mathlib.Core.List.{List, [], _∷_, _++_, map, append-assoc, append-nil}
 use Prim.Native.Nat.{ℕ, zero, suc, _+_, _*_, _≤_, _<_}
 use native.Mathlib.Omega.{arith}
 use borrow.Author.Count.{below-more}
-use lib.ListN.{length, getD, take, drop, length-drop}
-use lib.Seq.{take-at, drop-at, take-take, take-add, length-take-le, getD-take, getD-drop}
+use lib.ListN.{length, take, drop}
+use lib.Seq.{take-at, drop-at, take-take, take-add, length-take-le}
+use Rattle.rules_types.specs.Limits.{stepBytes, rationals}
+use Rattle.rules_types.specs.Layout.{stepCoefficients, stepHow, stepWhich, stepFirst, stepSecond}
 use Rattle.rules.specs.Lists.{tabulate}
 use Rattle.rules.specs.Bytes.{fieldAt}
-use Rattle.rules.specs.Lines.{rational, boolean}
-use Rattle.rules.specs.Steps.{Origin, loaded, resolved, Step, Header, header, encodeStep}
-use Rattle.theory_lists.specs.Tabulated.{length-tabulate, tabulate-snoc, tabulate-cong}
-use Rattle.theory_bytes.specs.Fields.{fieldAt-4}
+use Rattle.rules.specs.Steps as rules
+use Rattle.rules.specs.Steps.{Header, encodeStep, encodeProof}
+use Rattle.theory_lists.specs.Tabulated.{length-tabulate, tabulate-snoc, tabulate-cong, map-tabulate}
 use Rattle.theory_bytes.specs.Headers.{how-back, which-back, first-back, second-back}
 use Rattle.fields.specs.Field.{stored}
 use Rattle.lines.specs.declared.line.Line.{Line}
 use Rattle.lines.specs.Line.{meaning, Ready}
-use Rattle.steps.specs.Encoding.{headerOf, encoded, encodeStep-is}
+use Rattle.steps.specs.declared.origin.Step.{Step}
+use Rattle.steps.specs.Origin.{headerOf, originOf, stepOf, originAt, Named}
+use Rattle.steps.specs.Encoding.{encoded, encodeStep-is}
 use Rattle.steps.specs.Decoding.{decoded, decoded-encoded, length-amountsAt}
-use Rattle.steps.specs.Places.{stepAt, part-after, length-put, put-here}
+use Rattle.steps.specs.Places.{stepAt, HasStep, part-after, length-put, put-here}
+use Rattle.steps.specs.Lines.{lineAt, linesIn, ReadyLines}
 
 -- ---- a step by its bytes
--- "Byte 0: how (0 loaded, 1 by a figure, 2 by a mark)."
-unfoldable pub originOf : ℕ → ℕ → ℕ → ℕ → Origin
-originOf zero which first second = loaded first second
-originOf (suc zero) which first second = resolved (rational which) first second
-originOf (suc (suc how)) which first second = resolved (boolean which) first second
-
-unfoldable pub stepFrom : List ℕ → Step
-stepFrom b = record { origin = originOf (fieldAt 0 1 b) (fieldAt 1 1 b) (fieldAt 2 2 b) (fieldAt 4 2 b); line = meaning (decoded b) }
+unfoldable pub stepFrom : List ℕ → rules.Step
+stepFrom b = record { origin = originOf (originAt b 0); line = meaning (decoded b) }
 
 -- the first n steps
-unfoldable pub stepsIn : List ℕ → ℕ → List Step
+unfoldable pub stepsIn : List ℕ → ℕ → List rules.Step
 stepsIn proof n = tabulate n (λ i. stepFrom (stepAt proof i))
 
--- the numbers of an origin, as its header has them
-pub record Named (how which first second : ℕ) : Type 0 where
-  pub is : header (originOf how which first second) ≡ headerOf how which first second
-  pub first-fits : first < 65536
-  pub second-fits : second < 65536
+pub length-stepsIn : (proof : List ℕ) (n : ℕ) → length (stepsIn proof n) ≡ n
+unfolding stepsIn
+length-stepsIn proof n = length-tabulate n (λ i. stepFrom (stepAt proof i))
 
--- the step of these numbers and a line
-abbrev pub stepOf : ℕ → ℕ → ℕ → ℕ → Line → Step
-stepOf how which first second l = record { origin = originOf how which first second; line = meaning l }
+-- their lines
+pub lines-stepsIn : (proof : List ℕ) (n : ℕ) → linesIn proof n ≡ map (λ s. s .line) (stepsIn proof n)
+unfolding linesIn stepsIn stepFrom lineAt
+lines-stepsIn proof n = sym (map-tabulate (λ (s : rules.Step). s .line) n (λ i. stepFrom (stepAt proof i)))
 
 -- ---- bytes that are those of a step
-pub record Kept (b : List ℕ) : Type 0 where
+pub record StepBytes (b : List ℕ) : Type 0 where
   pub ready : Ready (decoded b)
   pub positive : decoded b .positive < 4294967296
   pub negative : decoded b .negative < 4294967296
@@ -53,67 +50,89 @@ pub record Kept (b : List ℕ) : Type 0 where
 
 -- of the first n steps each is
 pub record Held (proof : List ℕ) (n : ℕ) : Type 0 where
-  pub room : 64 * n ≤ length proof
-  pub steps : (i : ℕ) → i < n → Kept (stepAt proof i)
+  pub room : stepBytes * n ≤ length proof
+  pub steps : (i : ℕ) → i < n → StepBytes (stepAt proof i)
 
 pub held-fewer : {proof : List ℕ} {m n : ℕ} → Held proof n → m ≤ n → Held proof m
 held-fewer h l = record { room = omega (arith, h .room); steps = λ i k. h .steps i (omega arith) }
 
+pub held-ready : {proof : List ℕ} {n : ℕ} → Held proof n → ReadyLines proof n
+unfolding lineAt
+held-ready h i k = h .steps i k .ready
+
 -- a line in machine words that a proof can hold
 pub record Words (l : Line) : Type 0 where
   pub ready : Ready l
-  pub eight : length (l .coefficients) ≡ 8
+  pub eight : length (l .coefficients) ≡ rationals
   pub positive : l .positive < 4294967296
   pub negative : l .negative < 4294967296
 
-pub kept-words : (b : List ℕ) → Kept b → Words (decoded b)
+pub step-words : (b : List ℕ) → StepBytes b → Words (decoded b)
 unfolding decoded
-kept-words b k = record { ready = k .ready; eight = length-amountsAt 8 16 b; positive = k .positive; negative = k .negative }
+step-words b k = record {
+  ready = k .ready;
+  eight = length-amountsAt rationals stepCoefficients b;
+  positive = k .positive;
+  negative = k .negative;
+}
 
-module _ {how which first second : ℕ} (named : Named how which first second) (l : Line) (words : Words l) where
+-- the bytes that are written for a step
+module _ (s : Step) (named : Named (s .origin)) (words : Words (s .line)) where
+  abbrev h : Header
+  h = headerOf (s .origin)
+
   abbrev bytes : List ℕ
-  bytes = encoded (headerOf how which first second) (meaning l)
+  bytes = encoded h (meaning (s .line))
 
-  is-step : bytes ≡ encodeStep (stepOf how which first second l)
-  is-step = sym (encodeStep-is (stepOf how which first second l) ∙ ap (λ (h : Header). encoded h (meaning l)) (named .is))
+  written : bytes ≡ encodeStep (stepOf s)
+  written = sym (encodeStep-is (stepOf s) ∙ ap (λ (h : Header). encoded h (meaning (s .line))) (named .is))
 
-  is-line : decoded bytes ≡ l
-  is-line = decoded-encoded (headerOf how which first second) l (words .ready) (words .eight) (words .positive) (words .negative)
+  line-back : decoded bytes ≡ s .line
+  line-back = decoded-encoded h (s .line) (words .ready) (words .eight) (words .positive) (words .negative)
 
-  pub step-back : stepFrom bytes ≡ stepOf how which first second l
+  pub step-back : stepFrom bytes ≡ stepOf s
   unfolding stepFrom
   step-back =
-      let s = stepOf how which first second l in
-      let a : fieldAt 0 1 bytes ≡ how = ap (fieldAt 0 1) is-step ∙ how-back s ∙ ap (λ (h : Header). h .how) (named .is) in
-      let b : fieldAt 1 1 bytes ≡ which = ap (fieldAt 1 1) is-step ∙ which-back s ∙ ap (λ (h : Header). h .which) (named .is) in
-      let c : fieldAt 2 2 bytes ≡ first = ap (fieldAt 2 2) is-step ∙ first-back s (rw (named .is) (named .first-fits))
-      ∙ ap (λ (h : Header). h .first) (named .is) in
-      let d : fieldAt 4 2 bytes ≡ second = ap (fieldAt 4 2) is-step ∙ second-back s (rw (named .is) (named .second-fits))
-      ∙ ap (λ (h : Header). h .second) (named .is) in
-      λ i. record { origin = originOf (a i) (b i) (c i) (d i); line = meaning (is-line i) }
+      let o = stepOf s in
+      let a : fieldAt stepHow 1 bytes ≡ h .how =
+      ap (fieldAt stepHow 1) written ∙ how-back o ∙ ap (λ (h : Header). h .how) (named .is) in
+      let b : fieldAt stepWhich 1 bytes ≡ h .which =
+      ap (fieldAt stepWhich 1) written ∙ which-back o ∙ ap (λ (h : Header). h .which) (named .is) in
+      let c : fieldAt stepFirst 2 bytes ≡ h .first = ap (fieldAt stepFirst 2) written
+      ∙ first-back o (rw (named .is) (named .first-fits)) ∙ ap (λ (h : Header). h .first) (named .is) in
+      let d : fieldAt stepSecond 2 bytes ≡ h .second = ap (fieldAt stepSecond 2) written
+      ∙ second-back o (rw (named .is) (named .second-fits)) ∙ ap (λ (h : Header). h .second) (named .is) in
+      λ i. record {
+        origin = originOf (record { how = a i; which = b i; first = c i; second = d i });
+        line = meaning (line-back i);
+      }
 
-  pub kept-new : Kept bytes
-  kept-new =
+  pub step-bytes : StepBytes bytes
+  step-bytes =
       record {
-        ready = rw is-line (words .ready);
-        positive = rw is-line (words .positive);
-        negative = rw is-line (words .negative);
-        written = is-step ∙ ap encodeStep (sym step-back);
+        ready = rw line-back (words .ready);
+        positive = rw line-back (words .positive);
+        negative = rw line-back (words .negative);
+        written = written ∙ ap encodeStep (sym step-back);
       }
 
 -- ---- a step's bytes are those of the bytes up to its end
-stepAt-front : (proof : List ℕ) (i : ℕ) → 64 * i ≤ length proof → stepAt proof i ≡ drop (64 * i) (take (64 * i + 64) proof)
+stepAt-front : (proof : List ℕ) (i : ℕ) → stepBytes * i ≤ length proof
+    → stepAt proof i ≡ drop (stepBytes * i) (take (stepBytes * i + stepBytes) proof)
 unfolding stepAt
-stepAt-front proof i h = sym (ap (drop (64 * i)) (take-add (64 * i) 64 proof)
-    ∙ drop-at (take (64 * i) proof) (take 64 (drop (64 * i) proof)) (64 * i) (length-take-le (64 * i) proof h))
+stepAt-front proof i h = sym (ap (drop (stepBytes * i)) (take-add (stepBytes * i) stepBytes proof)
+    ∙ drop-at (take (stepBytes * i) proof) (take stepBytes (drop (stepBytes * i) proof)) (stepBytes * i)
+    (length-take-le (stepBytes * i) proof h))
 
-module _ (before after : List ℕ) (n : ℕ) (same : take (64 * n) after ≡ take (64 * n) before) (room : 64 * n ≤ length before)
+module _ (before after : List ℕ) (n : ℕ) (same : take (stepBytes * n) after ≡ take (stepBytes * n) before)
+    (room : stepBytes * n ≤ length before)
     (as-long : length after ≡ length before) where
   pub stepAt-same : (i : ℕ) → i < n → stepAt after i ≡ stepAt before i
   stepAt-same i h =
       stepAt-front after i (omega arith)
-      ∙ ap (drop (64 * i)) (sym (take-take (64 * i + 64) (64 * n) after (omega arith)) ∙ ap (take (64 * i + 64)) same
-      ∙ take-take (64 * i + 64) (64 * n) before (omega arith))
+      ∙ ap (drop (stepBytes * i))
+      (sym (take-take (stepBytes * i + stepBytes) (stepBytes * n) after (omega arith)) ∙ ap (take (stepBytes * i + stepBytes)) same
+      ∙ take-take (stepBytes * i + stepBytes) (stepBytes * n) before (omega arith))
       ∙ sym (stepAt-front before i (omega arith))
 
   pub stepsIn-same : stepsIn after n ≡ stepsIn before n
@@ -121,28 +140,25 @@ module _ (before after : List ℕ) (n : ℕ) (same : take (64 * n) after ≡ tak
   stepsIn-same = tabulate-cong n (λ i. stepFrom (stepAt after i)) (λ i. stepFrom (stepAt before i)) (λ i h. ap stepFrom (stepAt-same i h))
 
   pub held-same : Held before n → Held after n
-  held-same h = record { room = omega arith; steps = λ i k. subst Kept (sym (stepAt-same i k)) (h .steps i k) }
-
-pub length-stepsIn : (proof : List ℕ) (n : ℕ) → length (stepsIn proof n) ≡ n
-unfolding stepsIn
-length-stepsIn proof n = length-tabulate n (λ i. stepFrom (stepAt proof i))
+  held-same h = record { room = omega arith; steps = λ i k. subst StepBytes (sym (stepAt-same i k)) (h .steps i k) }
 
 -- ---- one step more
-module _ (proof bytes : List ℕ) (n : ℕ) (room : 64 * n + 64 ≤ length proof) (whole : length bytes ≡ 64) where
+module _ (proof bytes : List ℕ) (n : ℕ) (room : HasStep proof n) (whole : length bytes ≡ stepBytes) where
   abbrev after : List ℕ
-  after = stored (64 * n) bytes proof
+  after = stored (stepBytes * n) bytes proof
 
-  front : length (take (64 * n) proof) ≡ 64 * n
-  front = length-take-le (64 * n) proof (omega arith)
+  front : length (take (stepBytes * n) proof) ≡ stepBytes * n
+  front = length-take-le (stepBytes * n) proof (omega arith)
 
-  pub stored-front : take (64 * n) after ≡ take (64 * n) proof
-  stored-front = rw append-assoc (take-at (take (64 * n) proof) (bytes ++ drop (64 * n + length bytes) proof) (64 * n) front)
+  pub stored-front : take (stepBytes * n) after ≡ take (stepBytes * n) proof
+  stored-front = rw append-assoc
+      (take-at (take (stepBytes * n) proof) (bytes ++ drop (stepBytes * n + length bytes) proof) (stepBytes * n) front)
 
   pub stored-step : stepAt after n ≡ bytes
   stored-step = put-here n bytes proof whole room
 
-  pub stored-rest : drop (64 * suc n) after ≡ drop (64 * suc n) proof
-  stored-rest = part-after (64 * n) bytes proof (omega arith) (64 * suc n) (omega arith)
+  pub stored-rest : drop (stepBytes * suc n) after ≡ drop (stepBytes * suc n) proof
+  stored-rest = part-after (stepBytes * n) bytes proof (omega arith) (stepBytes * suc n) (omega arith)
 
   pub stored-length : length after ≡ length proof
   stored-length = length-put n bytes proof whole room
@@ -153,31 +169,29 @@ module _ (proof bytes : List ℕ) (n : ℕ) (room : 64 * n + 64 ≤ length proof
       tabulate-snoc n (λ i. stepFrom (stepAt after i))
       ∙ (λ i. stepsIn-same proof after n stored-front (omega arith) stored-length i ++ (stepFrom (stored-step i) ∷ []))
 
-  pub stored-held : Held proof n → Kept bytes → Held after (suc n)
+  pub stored-held : Held proof n → StepBytes bytes → Held after (suc n)
   stored-held h k =
       record {
         room = omega (arith, stored-length);
-        steps = λ i l. below-more (λ i. Kept (stepAt after i)) n (held-same proof after n stored-front (omega arith) stored-length h .steps)
+        steps = λ i l. below-more (λ i. StepBytes (stepAt after i)) n
+            (held-same proof after n stored-front (omega arith) stored-length h .steps)
             (rw stored-step k) i (omega arith);
       }
 
--- ---- a step's bytes and fields, at their places in the proof's
-module _ (proof : List ℕ) (i : ℕ) (room : 64 * i + 64 ≤ length proof) where
-  pub length-stepAt : length (stepAt proof i) ≡ 64
-  unfolding stepAt
-  length-stepAt = length-take-le 64 (drop (64 * i) proof) (omega (arith, length-drop (64 * i) proof))
+-- ---- the bytes of the first n steps are those of the steps that they say
+encode-snoc : (ss : List rules.Step) (s : rules.Step) → encodeProof (ss ++ (s ∷ [])) ≡ encodeProof ss ++ encodeStep s
+unfolding encodeProof
+encode-snoc [] s = append-nil (encodeStep s)
+encode-snoc (x ∷ ss) s = ap (λ (b : List ℕ). encodeStep x ++ b) (encode-snoc ss s)
+    ∙ sym (append-assoc (encodeStep x) (encodeProof ss) (encodeStep s))
 
-  pub byte-stepAt : (k : ℕ) → k < 64 → getD (stepAt proof i) k 0 ≡ getD proof (64 * i + k) 0
-  unfolding stepAt
-  byte-stepAt k h = getD-take 64 (drop (64 * i) proof) k 0 h ∙ getD-drop (64 * i) proof k 0
-
-  pub field-stepAt : (at : ℕ) → at + 4 ≤ 64 → fieldAt at 4 (stepAt proof i) ≡ fieldAt (64 * i + at) 4 proof
-  field-stepAt at h =
-      fieldAt-4 at (stepAt proof i) (omega (arith, length-stepAt))
-      ∙ (λ j. byte-stepAt at (omega arith) j + 256 * byte 1 (omega arith) j + 65536 * byte 2 (omega arith)
-      j + 16777216 * byte 3 (omega arith) j)
-      ∙ sym (fieldAt-4 (64 * i + at) proof (omega arith))
-    where
-      byte : (d : ℕ) → d < 4 → getD (stepAt proof i) (at + d) 0 ≡ getD proof (64 * i + at + d) 0
-      byte d l = let e : 64 * i + (at + d) ≡ 64 * i + at + d = omega arith in byte-stepAt (at + d) (omega arith)
-          ∙ ap (λ (k : ℕ). getD proof k 0) e
+pub held-bytes : (proof : List ℕ) (n : ℕ) → Held proof n → take (stepBytes * n) proof ≡ encodeProof (stepsIn proof n)
+unfolding stepsIn tabulate encodeProof stepAt
+held-bytes proof zero h = refl
+held-bytes proof (suc n) h =
+    let s = stepFrom (stepAt proof n) in
+    let e : stepBytes * suc n ≡ stepBytes * n + stepBytes = omega arith in
+    ap (λ (k : ℕ). take k proof) e
+    ∙ take-add (stepBytes * n) stepBytes proof
+    ∙ (λ i. held-bytes proof n (held-fewer h (omega arith)) i ++ h .steps n (omega arith) .written i)
+    ∙ sym (ap encodeProof (tabulate-snoc n (λ i. stepFrom (stepAt proof i))) ∙ encode-snoc (stepsIn proof n) s)

@@ -1,5 +1,5 @@
+pub mod Origin
 pub mod Encoding
-pub mod Filled
 pub mod Decoding
 pub mod Places
 pub mod Lines

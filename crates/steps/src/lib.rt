@@ -1,5 +1,5 @@
-// The steps of a proof: a line as the 64 bytes of its step and back, and step i of a proof's bytes.
+// The steps of a proof: a step as its bytes, and step i of a proof's bytes, by its fields.
 pub mod access;
-pub mod decode;
 pub mod encode;
+pub mod origin;
 pub mod store;

@@ -5,7 +5,7 @@ use Rattle.rules_types.specs.Answers.{refusalNumber}
 use Rattle.rules.specs.Calls.{Reading, faulty, sound}
 use Rattle.problem_scan.specs.declared.cursor.Scan.{Scan}
 use Rattle.problem_scan.specs.declared.cursor.Scan.the-variants.{Sound, Fault}
-use Rattle.problem_read.specs.Outcome.{outcome}
+use Rattle.problem_read.specs.ScanOf.{scanOf}
 use Rattle.test_calls.specs.declared.ReadTold.{ReadTold}
 
 unfoldable pub told : Reading → ReadTold
@@ -15,9 +15,9 @@ told (sound p) = record { number = 0; place = 0; booleans = p .booleans; rationa
 -- by what the call for reading gives
 unfoldable pub toldOf : Scan → ReadTold
 toldOf (Fault f place) = record { number = refusalNumber f; place = place; booleans = 0; rationals = 0; clauses = 0 }
-toldOf (Sound b r n) = record { number = 0; place = 0; booleans = b; rationals = r; clauses = n }
+toldOf (Sound s) = record { number = 0; place = 0; booleans = s .booleans; rationals = s .rationals; clauses = s .clauses }
 
-pub told-is : (r : Reading) → toldOf (outcome r) ≡ told r
-unfolding told toldOf outcome
+pub told-is : (r : Reading) → toldOf (scanOf r) ≡ told r
+unfolding told toldOf scanOf
 told-is (faulty f place) = refl
 told-is (sound p) = refl

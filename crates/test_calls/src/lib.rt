@@ -5,7 +5,7 @@ ghost use mathlib.Core.Path.{_≡_};
 ghost use Rattle.rules.specs.Calls.{read};
 ghost use Rattle.test_calls.specs.Told.{told};
 
-// A fault's number and place; or 0, 0 and the counts of a question that is read without fault.
+// A fault's number and place; or 0, 0 and the sizes of a problem that is read without fault.
 #[repr(C)]
 pub struct ReadTold {
     pub number: u64,
@@ -21,12 +21,12 @@ pub extern "C" fn test_read(input: &[u8]) -> ReadTold
 {
     let s = read(input);
     match s {
-        Scan::Sound(b, r, n) => ReadTold {
+        Scan::Sound(sizes) => ReadTold {
             number: 0,
             place: 0,
-            booleans: b as u64,
-            rationals: r as u64,
-            clauses: n,
+            booleans: sizes.booleans as u64,
+            rationals: sizes.rationals as u64,
+            clauses: sizes.clauses,
         },
         Scan::Fault(f, place) => ReadTold {
             number: f.number() as u64,

@@ -107,7 +107,7 @@ module _ (b r : ℕ) (χ : Assignment) where
         (r₅ .0, rw (r₁ .1, r₂ .1, r₃ .1, r₄ .1, r₅ .1))
 
     -- ---- the model
-    content-length : length content ≤ 64
+    content-length : length content ≤ limit.modelBytes
     content-length =
         rw (length-append (b ∷ bits ++ (r ∷ toBytes 4 (χ .denominator))) amounts, length-append (b ∷ bits) (r ∷ toBytes 4 (χ .denominator)))
         (omega (
@@ -118,15 +118,15 @@ module _ (b r : ℕ) (χ : Assignment) where
           length-tabulate r (χ .numerators),
         ))
 
-    pub model-length : length (encodeModel b r χ) ≡ 64
+    pub model-length : length (encodeModel b r χ) ≡ limit.modelBytes
     unfolding encodeModel
-    model-length = length-padded 64 content content-length
+    model-length = length-padded limit.modelBytes content content-length
 
     pub model-back : (rest : List ℕ)
-        → Reads (model b r) (encodeModel b r χ ++ rest) (readBack b r χ) (replicate (64 - length content) 0 ++ rest)
+        → Reads (model b r) (encodeModel b r χ ++ rest) (readBack b r χ) (replicate (limit.modelBytes - length content) 0 ++ rest)
     unfolding encodeModel padded
     model-back rest =
-        let tail : List ℕ = replicate (64 - length content) 0 in
+        let tail : List ℕ = replicate (limit.modelBytes - length content) 0 in
         let d = toBytes 4 (χ .denominator) in
         let e : content ++ tail ++ rest ≡ b ∷ (bits ++ (r ∷ (d ++ (amounts ++ (tail ++ rest))))) = simp append-assoc in
         rw e (reads-parts (tail ++ rest))

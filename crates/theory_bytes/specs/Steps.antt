@@ -7,6 +7,8 @@ use Prim.Native.Nat.{ℕ, _*_, _-_, _<_}
 use native.Mathlib.Omega.{arith}
 use lib.ListN.{length, take, drop, replicate, length-append}
 use lib.Seq.{take-at, drop-at}
+use Rattle.rules_types.specs.Limits as limit
+use Rattle.rules_types.specs.Layout as layout
 use Rattle.rules.specs.Bytes.{toBytes, amountBytes, padded}
 use Rattle.rules.specs.Problem.{Constraint}
 use Rattle.rules.specs.Lines.{Line}
@@ -18,37 +20,38 @@ use Rattle.theory_resolution.specs.Formed.{Formed, Eight}
 use Rattle.theory_bytes.specs.Lines.{Encodable, length-row, line-injective}
 
 -- ---- 64 bytes
-line-length : (l : Line) → Eight (l .constraint) → length (lineBytes l) ≡ 46
+line-length : (l : Line) → Eight (l .constraint) → length (lineBytes l) ≡ layout.stepZeros - layout.stepRelation
 unfolding lineBytes toBytes
 line-length l f = omega (arith, length-amountBytes (row (l .constraint)), length-row (l .constraint) f)
 
-content-length : (s : Step) → Formed (s .line) → length (headerBytes (header (s .origin)) ++ lineBytes (s .line)) ≡ 52
+content-length : (s : Step) → Formed (s .line) → length (headerBytes (header (s .origin)) ++ lineBytes (s .line)) ≡ layout.stepZeros
 unfolding headerBytes toBytes
 content-length s f = omega (arith, line-length (s .line) (f .constraint))
 
-pub step-length : (s : Step) → Formed (s .line) → length (encodeStep s) ≡ 64
+pub step-length : (s : Step) → Formed (s .line) → length (encodeStep s) ≡ limit.stepBytes
 unfolding encodeStep
-step-length s f = length-padded 64 (headerBytes (header (s .origin)) ++ lineBytes (s .line)) (omega (arith, content-length s f))
+step-length s f = length-padded limit.stepBytes (headerBytes (header (s .origin)) ++ lineBytes (s .line))
+    (omega (arith, content-length s f))
 
-pub proof-length : (ss : List Step) → All (λ s. Formed (s .line)) ss → length (encodeProof ss) ≡ 64 * length ss
+pub proof-length : (ss : List Step) → All (λ s. Formed (s .line)) ss → length (encodeProof ss) ≡ limit.stepBytes * length ss
 unfolding encodeProof
 proof-length [] f = refl
 proof-length (s ∷ ss) f = rw length-append (omega (arith, step-length s (f .0), proof-length ss (f .1)))
 
 -- ---- step after step
 module _ (s : Step) (ss : List Step) (f : Formed (s .line)) where
-  pub take-step : take 64 (encodeProof (s ∷ ss)) ≡ encodeStep s
+  pub take-step : take limit.stepBytes (encodeProof (s ∷ ss)) ≡ encodeStep s
   unfolding encodeProof
-  take-step = take-at (encodeStep s) (encodeProof ss) 64 (step-length s f)
+  take-step = take-at (encodeStep s) (encodeProof ss) limit.stepBytes (step-length s f)
 
-  pub drop-step : drop 64 (encodeProof (s ∷ ss)) ≡ encodeProof ss
+  pub drop-step : drop limit.stepBytes (encodeProof (s ∷ ss)) ≡ encodeProof ss
   unfolding encodeProof
-  drop-step = drop-at (encodeStep s) (encodeProof ss) 64 (step-length s f)
+  drop-step = drop-at (encodeStep s) (encodeProof ss) limit.stepBytes (step-length s f)
 
 -- the used part of a buffer that goes on
 pub take-proof : (ss : List Step) (rest : List ℕ) → All (λ s. Formed (s .line)) ss
-    → take (64 * length ss) (encodeProof ss ++ rest) ≡ encodeProof ss
-take-proof ss rest f = take-at (encodeProof ss) rest (64 * length ss) (proof-length ss f)
+    → take (limit.stepBytes * length ss) (encodeProof ss ++ rest) ≡ encodeProof ss
+take-proof ss rest f = take-at (encodeProof ss) rest (limit.stepBytes * length ss) (proof-length ss f)
 
 -- ---- bytes
 relation-byte : (k : Option Constraint) → relationByte k < 256
@@ -80,13 +83,13 @@ pub step-bytes : (s : Step) → header (s .origin) .how < 256 → header (s .ori
 unfolding encodeStep
 step-bytes s h w =
     let head = headerBytes (header (s .origin)) in
-    bytes-padded 64 (head ++ lineBytes (s .line))
+    bytes-padded limit.stepBytes (head ++ lineBytes (s .line))
     (all-append (λ n. n < 256) head (lineBytes (s .line)) (header-bytes (header (s .origin)) h w) (line-bytes (s .line)))
 
 -- ---- the line comes back
 pub step-injective : (s t : Step) → Encodable (s .line) → Encodable (t .line) → encodeStep s ≡ encodeStep t → s .line ≡ t .line
 unfolding encodeStep padded headerBytes toBytes
-step-injective s t h k e = line-injective (s .line) (t .line) (after s) (after t) h k (ap (drop 6) e)
+step-injective s t h k e = line-injective (s .line) (t .line) (after s) (after t) h k (ap (drop layout.stepRelation) e)
   where
     after : Step → List ℕ
-    after s = replicate (64 - length (headerBytes (header (s .origin)) ++ lineBytes (s .line))) 0
+    after s = replicate (limit.stepBytes - length (headerBytes (header (s .origin)) ++ lineBytes (s .line))) 0

@@ -7,6 +7,7 @@ use native.Mathlib.Omega.{arith}
 use lib.ListN.{length}
 use Rattle.rules_types.specs.declared.limits.Limits.{Limits}
 use Rattle.rules_types.specs.declared.answers.Checked.the-variants.{Accepted}
+use Rattle.rules_types.specs.Limits as limit
 use Rattle.rules.specs.Problem.{Problem}
 use Rattle.rules.specs.Lines.{Variable}
 use Rattle.rules.specs.Steps.{Step, encodeProof}
@@ -24,7 +25,7 @@ use Rattle.theory_splitting.specs.SplitProblem.{loadable-formed}
 use Rattle.theory_elimination.specs.Closed.{line-at, elimination-closed-unstopped}
 use Rattle.theory_elimination.specs.Sound.{Sound, elimination-sound}
 use Rattle.theory_elimination.specs.Pairable.{pairable-late}
-use Rattle.theory_elimination.specs.Held.{limited-held}
+use Rattle.theory_elimination.specs.WithinLimits.{limited-held}
 use Rattle.theory_elimination.specs.Origins.{Each, Justified, elimination-origins}
 use Rattle.theory_elimination.specs.Ends.{EndsRight, elimination-ends}
 use Rattle.theory_bytes.specs.Lines.{Encodable, AllEncodable}
@@ -59,7 +60,7 @@ each-pairable earlier (s ∷ ss) h k = (
 )
 
 -- ---- the proof of an elimination that ends so
-module _ (limits : Limits) (q : List ℕ) (p : Problem) (e : read q ≡ sound p) (few : limits .steps ≤ 65536)
+module _ (limits : Limits) (q : List ℕ) (p : Problem) (e : read q ≡ sound p) (few : limits .steps ≤ limit.mostSteps)
     (steps : List Step) (n : ℕ) (f : elimination (limited limits) p ≡ ended empty steps n) where
   held : length steps ≤ limits .steps
   unfolding elimination stepsOf

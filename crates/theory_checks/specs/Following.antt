@@ -10,6 +10,8 @@ use native.Mathlib.Omega.{arith}
 use lib.Dec.{T, eqb, eqb→eq}
 use lib.ListN.{length, getElem?}
 use mir.Facts.{and-yes}
+use Rattle.rules_types.specs.Limits as limit
+use Rattle.rules_types.specs.Layout as layout
 use Rattle.rules.specs.Lists.{same}
 use Rattle.rules.specs.Bytes.{fieldAt}
 use Rattle.rules.specs.Lines.{Line, Variable, positively, negatively}
@@ -68,10 +70,10 @@ module _ (bytes : List ℕ) (l : Line) where
   -- ---- the resolvent that the bytes name
   module _ (earlier : List Line) where
     abbrev first : ℕ
-    first = fieldAt 2 2 bytes
+    first = fieldAt layout.stepFirst 2 bytes
 
     abbrev second : ℕ
-    second = fieldAt 4 2 bytes
+    second = fieldAt layout.stepSecond 2 bytes
 
     module _ (v : Variable) (u m : Line) (atFirst : getElem? earlier first ≡ some u) (atSecond : getElem? earlier second ≡ some m)
         (written : encodeStep (record { origin = resolved v first second; line = l }) ≡ bytes) where
@@ -132,7 +134,7 @@ module _ (bytes : List ℕ) (l : Line) where
 
     named-resolvent : (s : Step) → resolventNamed earlier bytes ≡ some s → encodeStep s ≡ bytes → s .line ≡ l → ResolventIn earlier bytes l
     unfolding resolventNamed
-    named-resolvent s h w q = by (variableNamed (fieldAt 0 1 bytes) (fieldAt 1 1 bytes)) h
+    named-resolvent s h w q = by (variableNamed (fieldAt layout.stepHow 1 bytes) (fieldAt layout.stepWhich 1 bytes)) h
       where
         by : (o : Option Variable)
             → _≡_ {A = Option Step} (elim o [
@@ -167,7 +169,8 @@ module _ (bytes : List ℕ) (l : Line) where
         by (some m) e h = inl (among-follows parts (e ∙ h))
 
 -- ---- and back, where the earlier lines come back from their bytes
-module _ (parts : List Step) (known : AllEncodable parts) (earlier : List Line) (few : length earlier ≤ 65536) (all : All Encodable earlier)
+module _ (parts : List Step) (known : AllEncodable parts) (earlier : List Line) (few : length earlier ≤ limit.mostSteps)
+    (all : All Encodable earlier)
     (bytes : List ℕ) (l : Line) where
   resolvent-encodable : ResolventIn earlier bytes l → Encodable l
   resolvent-encodable r =

@@ -9,6 +9,7 @@ use Prim.Native.Nat.{ℕ, zero, suc}
 use lib.Dec.{T, eqb}
 use lib.ListN.{getElem?}
 use mir.Facts.{and-yes}
+use Rattle.rules_types.specs.Layout as layout
 use Rattle.theory_lists.specs.Tests.{split, is-true, is-false}
 use Rattle.theory_lists.specs.All.{All}
 use Rattle.rules.specs.Lists.{same}
@@ -68,12 +69,13 @@ module _ (P : Line → Type 0) where
     resolvent-so : (earlier : List Line) (bytes : List ℕ) → All P earlier → DroppedOr StepSo (resolventNamed earlier bytes)
     unfolding resolventNamed
     resolvent-so earlier bytes h =
-        let first = getElem? earlier (fieldAt 2 2 bytes) in
-        let second = getElem? earlier (fieldAt 4 2 bytes) in
-        let named = variableNamed (fieldAt 0 1 bytes) (fieldAt 1 1 bytes) in
+        let first = getElem? earlier (fieldAt layout.stepFirst 2 bytes) in
+        let second = getElem? earlier (fieldAt layout.stepSecond 2 bytes) in
+        let named = variableNamed (fieldAt layout.stepHow 1 bytes) (fieldAt layout.stepWhich 1 bytes) in
         dropped-then (λ v. Unit {0}) StepSo _ named (any-variable named)
         (λ v t. dropped-then P StepSo _ (derived v first second)
-        (derived-so v first second (element earlier (fieldAt 2 2 bytes) h) (element earlier (fieldAt 4 2 bytes) h)) (λ l p. p))
+        (derived-so v first second (element earlier (fieldAt layout.stepFirst 2 bytes) h)
+        (element earlier (fieldAt layout.stepSecond 2 bytes) h)) (λ l p. p))
 
     pub stated-so : (parts : List Step) (earlier : List Line) (bytes : List ℕ) → All StepSo parts → All P earlier
         → DroppedOr P (statedLine parts earlier bytes)

@@ -6,6 +6,7 @@ use Prim.Native.Nat.{ℕ}
 use native.Mathlib.Omega.{arith}
 use lib.ListN.{length, length-append}
 use Rattle.rules_types.specs.declared.answers.Checked.the-variants.{Accepted}
+use Rattle.rules_types.specs.Limits as limit
 use Rattle.rules.specs.Problem.{Problem}
 use Rattle.rules.specs.Meaning.{Assignment, Satisfies}
 use Rattle.rules.specs.Values.{Walked}
@@ -46,7 +47,7 @@ module _ (q : List ℕ) (p : Problem) (e : read q ≡ sound p) where
   -- a walk's model, where it is written
   pub written-accepted : (w : Walked) (bytes rest : List ℕ) → written (p .booleans) (p .rationals) w ≡ some bytes
       → Satisfies (w .assignment) p
-      → (length bytes ≡ 64) × (modelChecked q (bytes ++ rest) ≡ Accepted)
+      → (length bytes ≡ limit.modelBytes) × (modelChecked q (bytes ++ rest) ≡ Accepted)
   written-accepted w bytes rest f s =
       let b = p .booleans in
       let r = p .rationals in

@@ -39,7 +39,8 @@ abbrev Stated : List Step → List Step → Step → Type 0
 Stated parts earlier s = statedLine parts (lines earlier) (encodeStep s) ≡ some (s .line)
 
 module _ (variables : List Variable) (parts : List Step) (known : AllEncodable parts) where
-  stated-derived : (earlier : List Step) (s : Step) → length earlier ≤ 65536 → Encodable (s .line) → (d : Derived variables earlier s)
+  stated-derived : (earlier : List Step) (s : Step) → length earlier ≤ limit.mostSteps → Encodable (s .line)
+      → (d : Derived variables earlier s)
       → T (pairable (d .variable) (d .upper) (d .lower))
       → Stated parts earlier s
   stated-derived earlier s n h d q =
@@ -55,7 +56,7 @@ module _ (variables : List Variable) (parts : List Step) (known : AllEncodable p
       (derived-line v (d .upper) (d .lower) (s .line) (d .positive) (d .negative) q (d .result) h) in
       subst (Stated parts earlier) e (stated-resolvent t h parts (lines earlier) known r)
 
-  each-stated : (earlier ss : List Step) → length earlier + length ss ≤ 65536 → AllEncodable ss
+  each-stated : (earlier ss : List Step) → length earlier + length ss ≤ limit.mostSteps → AllEncodable ss
       → Each (Justified variables parts) earlier ss → Each (Pairable variables) earlier ss
       → Each (Stated parts) earlier ss
   each-stated earlier [] n h j q = tt
@@ -88,7 +89,7 @@ pub record Refutation (p : Problem) (steps : List Step) : Type 0 where
   pub lines : AllEncodable steps
   pub origins : Each (Justified order (loadableOf p)) [] steps
   pub pairs : Each (Pairable order) [] steps
-  pub few : length steps ≤ 65536
+  pub few : length steps ≤ limit.mostSteps
   pub last : LastEmpty steps
 
 all-formed : (steps : List Step) → AllEncodable steps → All (λ s. Formed (s .line)) steps
@@ -96,7 +97,7 @@ all-formed steps h = all-map (λ s. Encodable (s .line)) (λ s. Formed (s .line)
 
 module _ (p : Problem) (steps : List Step) (refutation : Refutation p steps) where
   -- as long as its lines: 64 to 64 N bytes by 64s
-  pub refutation-length : length (encodeProof steps) ≡ 64 * length steps
+  pub refutation-length : length (encodeProof steps) ≡ limit.stepBytes * length steps
   refutation-length = proof-length steps (all-formed steps (refutation .lines))
 
   pub refutation-some : 1 ≤ length steps
@@ -105,7 +106,7 @@ module _ (p : Problem) (steps : List Step) (refutation : Refutation p steps) whe
   pub refutation-accepted : checkProof p (encodeProof steps) ≡ Accepted
   unfolding checkProof
   refutation-accepted =
-      let n : length (encodeProof steps) / 64 ≡ length steps = rw refutation-length (omega arith) in
+      let n : length (encodeProof steps) / limit.stepBytes ≡ length steps = rw refutation-length (omega arith) in
       let ends : T (endsEmpty false steps) =
       rw (refutation .last .is) (last-empty false (refutation .last .before) (refutation .last .last) (refutation .last .blank)) in
       rw n
@@ -118,12 +119,12 @@ module _ (p : Problem) (steps : List Step) (refutation : Refutation p steps) whe
     unfolding wholeSteps
     whole =
         let n = length (encodeProof steps) in
-        let a : 64 ≤ n = omega (arith, refutation-length, refutation-some) in
-        let b : n ≤ limits .steps * 64 = omega (arith, refutation-length) in
-        let c : n % 64 ≡ 0 = rw refutation-length (omega arith) in
-        is-true (leb 64 n && leb n (limit.proofBytes limits) && eqb (n % 64) 0)
-        (yes-and (leb 64 n && leb n (limit.proofBytes limits)) (eqb (n % 64) 0)
-        (yes-and (leb 64 n) (leb n (limit.proofBytes limits)) (yes-leb a) (yes-leb b)) (yes-eqb c))
+        let a : limit.stepBytes ≤ n = omega (arith, refutation-length, refutation-some) in
+        let b : n ≤ limits .steps * limit.stepBytes = omega (arith, refutation-length) in
+        let c : n % limit.stepBytes ≡ 0 = rw refutation-length (omega arith) in
+        is-true (leb limit.stepBytes n && leb n (limit.proofBytes limits) && eqb (n % limit.stepBytes) 0)
+        (yes-and (leb limit.stepBytes n && leb n (limit.proofBytes limits)) (eqb (n % limit.stepBytes) 0)
+        (yes-and (leb limit.stepBytes n) (leb n (limit.proofBytes limits)) (yes-leb a) (yes-leb b)) (yes-eqb c))
 
     pub proof-accepted : read q ≡ sound p → proofChecked limits q (encodeProof steps) ≡ Accepted
     unfolding proofChecked

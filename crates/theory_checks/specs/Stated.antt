@@ -8,6 +8,7 @@ use Prim.Native.Nat.{ℕ, zero, suc}
 use lib.Dec.{T, eqb, eqb→eq, eqb-refl}
 use lib.ListN.{getElem?}
 use mir.Facts.{yes-and}
+use Rattle.rules_types.specs.Layout as layout
 use Rattle.rules.specs.Lists.{same}
 use Rattle.rules.specs.Bytes.{fieldAt}
 use Rattle.rules.specs.Lines.{Line, Variable, positively, negatively}
@@ -85,8 +86,9 @@ module _ (v : Variable) (u l m : Line) where
       rw (t, derived, r, is-false (overflows m) (overflows-no m .1 (k .small)))
 
   pub resolvent-named : (first second : ℕ) (earlier : List Line) (bytes : List ℕ)
-      → variableNamed (fieldAt 0 1 bytes) (fieldAt 1 1 bytes) ≡ some v → fieldAt 2 2 bytes ≡ first
-      → fieldAt 4 2 bytes ≡ second → getElem? earlier first ≡ some u → getElem? earlier second ≡ some l
+      → variableNamed (fieldAt layout.stepHow 1 bytes) (fieldAt layout.stepWhich 1 bytes) ≡ some v
+      → fieldAt layout.stepFirst 2 bytes ≡ first
+      → fieldAt layout.stepSecond 2 bytes ≡ second → getElem? earlier first ≡ some u → getElem? earlier second ≡ some l
       → derived v (some u) (some l) ≡ some m
       → resolventNamed earlier bytes ≡ some (record { origin = resolved v first second; line = m })
   unfolding resolventNamed

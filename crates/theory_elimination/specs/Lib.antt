@@ -3,7 +3,7 @@ pub mod Events
 pub mod Cut
 pub mod Pairs
 pub mod Induction
-pub mod Held
+pub mod WithinLimits
 pub mod Resolvents
 pub mod Prefix
 pub mod Longer

@@ -19,7 +19,7 @@ use Rattle.theory_lists.specs.Tests.{is-false}
 use Rattle.theory_lists.specs.All.{All, all-map, all-both, all-yes, yes-all}
 use Rattle.theory_elimination.specs.Events.{Event, events}
 use Rattle.theory_elimination.specs.Cut.{stopOf, stopAt, endedAt, cut, eliminate-cut}
-use Rattle.theory_elimination.specs.Held.{limited-held, Unstopped, unlimited-unstopped}
+use Rattle.theory_elimination.specs.WithinLimits.{limited-held, Unstopped, unlimited-unstopped}
 use Rattle.theory_elimination.specs.Resolvents.{resolvents-are, resolvents-all, all-resolvents}
 use Rattle.theory_elimination.specs.Longer.{Room, events-room}
 

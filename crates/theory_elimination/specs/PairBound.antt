@@ -24,7 +24,7 @@ use Rattle.theory_elimination.specs.States.{add-cases}
 use Rattle.theory_elimination.specs.Count.{count, count-append, count-length, count-apart, four-times, square-mono, squares}
 use Rattle.theory_elimination.specs.Prefix.{prefix-trans, try-prefix, rounds-prefix}
 use Rattle.theory_elimination.specs.Consistent.{consistent-one-side, elimination-consistent}
-use Rattle.theory_elimination.specs.Held.{limited-held}
+use Rattle.theory_elimination.specs.WithinLimits.{limited-held}
 use Rattle.theory_elimination.specs.Induction.{resolventOf}
 
 -- ---- how many pairs a round has

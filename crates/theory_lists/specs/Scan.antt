@@ -1,11 +1,10 @@
 -- Scans of lists from the front: what a place decides, and what is left from a place on.
 use mathlib.Core.Path.{_≡_, refl}
-use mathlib.Core.Bool.{Bool, true, false, not, _&&_, _||_, or-true, and-false}
+use mathlib.Core.Bool.{Bool, true, false, _&&_, _||_, or-true}
 use mathlib.Core.List.{List, [], _∷_}
 use Prim.Native.Nat.{ℕ, zero, suc, _+_, _<_}
 use native.Mathlib.Numerals.{add-one}
 use native.Mathlib.Omega.{arith}
-use borrow.Author.Tests.{not-true, not-false}
 use lib.ListN.{length, getD, drop}
 use lib.Seq.{drop-cons, drop-length}
 use Rattle.rules.specs.Lists.{any, same}
@@ -44,21 +43,3 @@ module _ {A : Type 0} where
   pub same-end : (equals : A → A → Bool) (s u : List A) (i : ℕ) → length s ≡ i → length u ≡ i → same equals (drop i s) (drop i u) ≡ true
   unfolding same
   same-end equals s u i h k = rw (drop-end s i h, drop-end u i k)
-
-  module _ (d : A) (equals : A → A → Bool) where
-    pub same-at : (s u : List A) (i : ℕ) → i < length s → i < length u → not (equals (getD s i d) (getD u i d)) ≡ true
-        → same equals s u ≡ false
-    unfolding same
-    same-at [] u i h k e = absurd (omega arith)
-    same-at (a ∷ s) [] i h k e = refl
-    same-at (a ∷ s) (b ∷ u) zero h k e = rw (not-true (equals a b) e)
-    same-at (a ∷ s) (b ∷ u) (suc i) h k e = rw (same-at s u i (omega arith) (omega arith) e) (and-false (equals a b))
-
-    pub same-none : (s u : List A) → length s ≡ length u
-        → ((k : ℕ) → k < length s → not (equals (getD s k d) (getD u k d)) ≡ false) → same equals s u ≡ true
-    unfolding same
-    same-none [] [] n e = refl
-    same-none [] (b ∷ u) n e = absurd (omega arith)
-    same-none (a ∷ s) [] n e = absurd (omega arith)
-    same-none (a ∷ s) (b ∷ u) n e =
-        rw (not-false (equals a b) (e 0 (omega arith))) (same-none s u (omega arith) (λ k h. e (suc k) (omega arith)))

@@ -9,7 +9,7 @@ use Rattle.rules.specs.Lines as rules
 use Rattle.rules.specs.Lines.{rational, positively, negatively}
 use Rattle.rules.specs.Values.{Fraction, beyond, Bound, gather, value, rationalValue, exceeds}
 use Rattle.fractions.specs.Range.{Small}
-use Rattle.fractions.specs.Kept.{value-small}
+use Rattle.fractions.specs.NotBeyond.{value-small}
 use Rattle.values.specs.Round.{own}
 use Rattle.values.specs.Gather.{anyBeyond, exceeding, Collected}
 

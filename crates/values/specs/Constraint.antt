@@ -5,6 +5,7 @@ use Prim.Native.Nat.{ℕ, _≤_, _<_}
 use lib.IntN.{ℤ, pos, natAbs, _*ℤ_}
 use lib.Dec.{eqb}
 use lib.ListN.{length, getD}
+use Rattle.rules_types.specs.Limits as limit
 use Rattle.rules.specs.Arithmetic.{sum, related}
 use Rattle.rules.specs.Meaning.{constraintHolds}
 use Rattle.rules.specs.Lines.{coefficient, theConstraintHolds}
@@ -12,7 +13,7 @@ use Rattle.rules.specs.Values.{quotient, beyond, boundOf}
 use Rattle.theory_bounds.specs.Meets.{rest}
 use Rattle.fractions.specs.Range.{Small, Scaled}
 use Rattle.fractions.specs.Enough.{gathered-≤}
-use Rattle.fractions.specs.Kept.{quotient-small}
+use Rattle.fractions.specs.NotBeyond.{quotient-small}
 use Rattle.lines.specs.declared.line.Line.{Line}
 use Rattle.lines.specs.Line.{constraintOf, constraintIn, meaning, Ready}
 use Rattle.lines.specs.Forms.{constraint-is}
@@ -33,7 +34,8 @@ module _ (l : Line) (m : Model) where
   some-holds t s b h e i j = rw (i, j, ← e) (ap (theConstraintHolds (assignment m)) (sym (constraint-is l h)))
 
 -- ---- what it bounds a variable by
-module _ (l : Line) (m : Model) (f : ℕ) (n : length (l .coefficients) ≡ 8) (h : f < 8) (k : Ready l) (r : InRange m) where
+module _ (l : Line) (m : Model) (f : ℕ) (n : length (l .coefficients) ≡ limit.rationals) (h : f < limit.rationals)
+    (k : Ready l) (r : InRange m) where
   abbrev other : ℤ
   other = rest f (l .coefficients) (l .bound) (value (m .numerators)) (m .denominator)
 

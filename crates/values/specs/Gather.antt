@@ -15,8 +15,10 @@ use Rattle.rules.specs.Lines as rules
 use Rattle.rules.specs.Lines.{Variable, rational, aLiteralHolds, positively, negatively}
 use Rattle.rules.specs.Elimination.{order, roundOf}
 use Rattle.rules.specs.Values.{Fraction, beyond, less, Bound, absent, tighter, boundOf, Gathered, boundsOf, gather, tightest}
+use Rattle.fractions.specs.Meaning.{boundMeaning}
 use Rattle.fractions.specs.Range.{Small, Within}
-use Rattle.fractions.specs.Kept.{small-not-beyond, tighter-within}
+use Rattle.fractions.specs.NotBeyond.{small-not-beyond, tighter-within}
+use Rattle.values.specs.declared.gather.Bounds.{Bounds}
 use Rattle.values.specs.Round.{own, filter-other, filter-more}
 
 -- ---- one side
@@ -91,6 +93,17 @@ exceeding χ f ls = anyBeyond (gather negatively χ f (own f ls)) || anyBeyond (
 abbrev pub Gathering : Bool → Assignment → ℕ → List rules.Line → Bound → Bound → Type 0
 Gathering true χ f ls L U = exceeding χ f ls ≡ true
 Gathering false χ f ls L U = Collected χ f ls L U
+
+-- ---- in machine words
+abbrev pub CollectedIn : Bounds → Assignment → ℕ → List rules.Line → Type 0
+CollectedIn b χ f ls = Collected χ f ls (boundMeaning (b .lower)) (boundMeaning (b .upper))
+
+abbrev pub GatheredIn : Bounds → Assignment → ℕ → List rules.Line → Type 0
+GatheredIn b χ f ls = Gathering (b .beyond) χ f ls (boundMeaning (b .lower)) (boundMeaning (b .upper))
+
+-- with this line more, whichever lines gave the bounds so far
+abbrev pub WithLine : Bounds → Bounds → Assignment → ℕ → rules.Line → Type 0
+WithLine earlier b χ f l = (ls : List rules.Line) → CollectedIn earlier χ f ls → GatheredIn b χ f (l ∷ ls)
 
 pub collected-none : (χ : Assignment) (f : ℕ) → Collected χ f [] absent absent
 unfolding filter gather boundsOf tightest any

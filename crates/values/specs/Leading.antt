@@ -8,6 +8,7 @@ use lib.IntN.{ℤ, pos, negsuc, natAbs}
 use lib.ListN.{length, getD}
 use lib.Count.{trailingZeros}
 use lib.Bits.{bitOr}
+use Rattle.rules_types.specs.Limits as limit
 use Rattle.rules.specs.Arithmetic.{isPositive, isNegative, isZero}
 use Rattle.rules.specs.Elimination.{order, roundOf}
 use Rattle.rules.specs.Lines.{rational, positively, negatively}
@@ -30,12 +31,13 @@ leading-nonzero (c ∷ cs) rest f h e = by (λ g. leading-nonzero cs rest g) (is
     by next true i zero h e = absurd (omega arith)
     by next true i (suc f) h e = next f (omega arith) (omega arith)
 
-module _ (l : Line) (k : Shaped l) (n : length (l .coefficients) ≡ 8) (f : ℕ) (h : f < 8) (e : roundOf order (meaning l) ≡ f) where
+module _ (l : Line) (k : Shaped l) (n : length (l .coefficients) ≡ limit.rationals) (f : ℕ) (h : f < limit.rationals)
+    (e : roundOf order (meaning l) ≡ f) where
   abbrev a : ℤ
   a = getD (l .coefficients) f (pos 0)
 
   leads : isZero a ≡ false
-  leads = leading-nonzero (l .coefficients) (trailingZeros 32 (bitOr (l .positive) (l .negative))) f (omega arith)
+  leads = leading-nonzero (l .coefficients) (trailingZeros limit.allBooleans (bitOr (l .positive) (l .negative))) f (omega arith)
       (sym (round-is l k n) ∙ e)
 
   pub round-coefficient : 0 < natAbs a
@@ -47,7 +49,7 @@ module _ (l : Line) (k : Shaped l) (n : length (l .coefficients) ≡ 8) (f : ℕ
       by : (r : ℕ) → l .relation ≡ r → 0 < l .relation
       by (suc r) e = omega arith
       by zero e =
-          let z : a ≡ pos 0 = ap (λ (cs : List ℤ). getD cs f (pos 0)) (k .coefficients e) ∙ getD-replicate-same 8 f (pos 0) in
+          let z : a ≡ pos 0 = ap (λ (cs : List ℤ). getD cs f (pos 0)) (k .coefficients e) ∙ getD-replicate-same limit.rationals f (pos 0) in
           absurd (omega (arith, round-coefficient, ap natAbs z))
 
   -- it is an upper bound, or else a lower one

@@ -7,8 +7,9 @@ use native.Mathlib.Nat.{mod-lt, pow-succ'}
 use native.Mathlib.Omega.{arith}
 use lib.Dec.{eqb}
 use lib.ListN.{length, getD}
+use Rattle.rules_types.specs.Limits as limit
 use Rattle.rules.specs.Lines.{Booleans, meet, someYes, aLiteralHolds}
-use Rattle.masks.specs.Mask.{bits, length-bits}
+use Rattle.masks.specs.Mask.{bits, allBits, length-bits}
 use Rattle.lines.specs.declared.line.Line.{Line}
 use Rattle.lines.specs.Line.{meaning}
 use Rattle.models.specs.declared.model.Model.{Model}
@@ -51,13 +52,13 @@ no-meet (a ∷ s) [] h = absurd (omega arith)
 no-meet (a ∷ s) (b ∷ t) h = ap (λ (c : Bool). a && not b || c) (no-meet s t (omega arith))
 
 pub literal-is : (l : Line) (m : Model) → m .booleans < 4294967296
-    → aLiteralHolds (assignment m) (meaning l) ≡ meet (bits 32 (l .positive)) (bits 32 (m .booleans))
-    || meet (bits 32 (l .negative)) (bits 32 (4294967295 - m .booleans))
+    → aLiteralHolds (assignment m) (meaning l) ≡ meet (bits limit.allBooleans (l .positive)) (bits limit.allBooleans (m .booleans))
+    || meet (bits limit.allBooleans (l .negative)) (bits limit.allBooleans (allBits - m .booleans))
 unfolding aLiteralHolds assignment meaning
 literal-is l m h =
     rw (
-      yes-meet (bits 32 (l .positive)) (bits 32 (m .booleans)),
-      no-meet (bits 32 (l .negative)) (bits 32 (m .booleans))
-          (length-bits 32 (l .negative) ∙ sym (length-bits 32 (m .booleans))),
-      complement 32 (m .booleans) h,
+      yes-meet (bits limit.allBooleans (l .positive)) (bits limit.allBooleans (m .booleans)),
+      no-meet (bits limit.allBooleans (l .negative)) (bits limit.allBooleans (m .booleans))
+          (length-bits limit.allBooleans (l .negative) ∙ sym (length-bits limit.allBooleans (m .booleans))),
+      complement limit.allBooleans (m .booleans) h,
     )

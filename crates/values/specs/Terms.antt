@@ -18,9 +18,9 @@ unfoldable pub termsFrom : List ℤ → List ℤ → ℕ → ℤ
 termsFrom row numerators i = sum (drop i row) (λ f. value numerators (i + f))
 
 module _ (row numerators : List ℤ) where
-  pub terms-none : length row ≡ 8 → pos 0 ≡ termsFrom row numerators 8
+  pub terms-none : (n : ℕ) → length row ≡ n → pos 0 ≡ termsFrom row numerators n
   unfolding termsFrom sum
-  terms-none h = rw (← h, drop-length row)
+  terms-none n h = rw (← h, drop-length row)
 
   pub terms-all : termsFrom row numerators 0 ≡ sum row (value numerators)
   unfolding termsFrom

@@ -1,13 +1,16 @@
 // "A mark is yes exactly if some line of its turn containing it positively has nothing else that holds."
 use crate::holds::line_holds;
 use lines::line::Line;
+use lines::order::boolean_round;
 use masks::without;
 use models::model::Model;
 use steps::access::line_at;
 ghost use mathlib.Core.Path.{_≡_};
-ghost use Prim.Native.Nat.{_+_, _*_, _≤_, _<_};
+ghost use Prim.Native.Nat.{_*_, _≤_, _<_};
 ghost use lib.ListN.{length};
+ghost use Rattle.rules_types.specs.Limits.{allBooleans, stepBytes};
 ghost use Rattle.rules.specs.Values.{withoutBoolean, booleanValue};
+ghost use Rattle.lines.specs.Order.{booleanRound};
 ghost use Rattle.lines.specs.Line.{meaning, Ready};
 ghost use Rattle.steps.specs.Lines.{linesIn, ReadyLines};
 ghost use Rattle.models.specs.Model.{assignment};
@@ -16,7 +19,7 @@ ghost use Rattle.values.specs.Boolean.{forces};
 ghost use Rattle.values.specs.Round.{own};
 
 fn without_boolean(line: Line, i: usize) -> Line
-    requires { ⌜ i < 32 ⌝ }
+    requires { ⌜ i < allBooleans ⌝ }
     requires { ⌜ Ready line ⌝ }
     ensures { λ l. ⌜ (meaning l ≡ withoutBoolean i (meaning line)) × Ready l ⌝ }
 {
@@ -28,12 +31,12 @@ fn without_boolean(line: Line, i: usize) -> Line
 
 // A line of the variable's round makes it yes.
 fn forces(line: Line, i: usize, model: Model) -> bool
-    requires { ⌜ i < 32 ⌝ }
+    requires { ⌜ i < allBooleans ⌝ }
     requires { ⌜ Ready line ⌝ }
     requires { ⌜ InRange model ⌝ }
     ensures { λ t. ⌜ t ≡ forces (assignment model) i (meaning line) ⌝ }
 {
-    if line.round() != 8 + i {
+    if line.round() != boolean_round(i) {
         return false;
     }
     if !line.has_positive_boolean(i) {
@@ -44,11 +47,11 @@ fn forces(line: Line, i: usize, model: Model) -> bool
 }
 
 pub fn boolean_value(proof: &[u8], n: usize, i: usize, model: Model) -> bool
-    requires { ⌜ 64 * n ≤ length (now proof) ⌝ }
+    requires { ⌜ stepBytes * n ≤ length (now proof) ⌝ }
     requires { ⌜ ReadyLines (now proof) n ⌝ }
-    requires { ⌜ i < 32 ⌝ }
+    requires { ⌜ i < allBooleans ⌝ }
     requires { ⌜ InRange model ⌝ }
-    ensures { λ t. ⌜ t ≡ booleanValue (assignment model) i (own (8 + i) (linesIn (now (proof .entry)) n)) ⌝ }
+    ensures { λ t. ⌜ t ≡ booleanValue (assignment model) i (own (booleanRound i) (linesIn (now (proof .entry)) n)) ⌝ }
 {
     let mut j: usize = 0;
     while j < n {

@@ -10,11 +10,10 @@ use rows::product::scaled;
 use steps::access::line_at;
 ghost use mathlib.Core.Path.{_≡_};
 ghost use mathlib.Core.Bool.{false};
-ghost use mathlib.Core.List.{List, _∷_};
 ghost use Prim.Native.Nat.{_*_, _≤_, _<_};
 ghost use lib.IntN.{pos, natAbs};
 ghost use lib.ListN.{length, getD};
-ghost use Rattle.rules.specs.Lines as rules;
+ghost use Rattle.rules_types.specs.Limits.{rationals, stepBytes};
 ghost use Rattle.rules.specs.Values.{boundOf};
 ghost use Rattle.theory_bounds.specs.Meets.{rest};
 ghost use Rattle.fractions.specs.Meaning.{meaning as fractionMeaning, boundMeaning};
@@ -23,7 +22,7 @@ ghost use Rattle.lines.specs.Line.{constraintIn, meaning, Ready};
 ghost use Rattle.steps.specs.Lines.{linesIn, ReadyLines};
 ghost use Rattle.models.specs.Model.{value, assignment};
 ghost use Rattle.values.specs.Range.{InRange};
-ghost use Rattle.values.specs.Gather.{Collected, Gathering};
+ghost use Rattle.values.specs.Gather.{WithLine, GatheredIn};
 
 pub struct Bounds {
     pub beyond: bool,
@@ -33,7 +32,7 @@ pub struct Bounds {
 
 // Bound × denominator, less the other terms.
 fn rest(line: Line, f: usize, model: Model) -> i64
-    requires { ⌜ f < 8 ⌝ }
+    requires { ⌜ f < rationals ⌝ }
     requires { ⌜ Ready line ⌝ }
     requires { ⌜ InRange model ⌝ }
     ensures { λ n. ⌜ n ≡ rest f (line .coefficients) (line .bound) (value (model .numerators)) (model .denominator) ⌝ }
@@ -48,7 +47,7 @@ fn rest(line: Line, f: usize, model: Model) -> i64
 
 // What a line bounds the variable by, the others as chosen.
 fn bound_of(line: Line, f: usize, model: Model) -> Fraction
-    requires { ⌜ f < 8 ⌝ }
+    requires { ⌜ f < rationals ⌝ }
     requires { ⌜ Ready line ⌝ }
     requires { ⌜ 0 < natAbs (getD (line .coefficients) f (pos 0)) ⌝ }
     requires { ⌜ InRange model ⌝ }
@@ -65,10 +64,10 @@ fn bound_of(line: Line, f: usize, model: Model) -> Fraction
 fn with_line(earlier: Bounds, line: Line, f: usize, model: Model) -> Bounds
     requires { ⌜ earlier .beyond ≡ false ⌝ }
     requires { ⌜ Within (boundMeaning (earlier .lower)) × Within (boundMeaning (earlier .upper)) ⌝ }
-    requires { ⌜ f < 8 ⌝ }
+    requires { ⌜ f < rationals ⌝ }
     requires { ⌜ Ready line ⌝ }
     requires { ⌜ InRange model ⌝ }
-    ensures { λ b. ⌜ ((ls : List rules.Line) → Collected (assignment model) f ls (boundMeaning (earlier .lower)) (boundMeaning (earlier .upper)) → Gathering (b .beyond) (assignment model) f (meaning line ∷ ls) (boundMeaning (b .lower)) (boundMeaning (b .upper))) ⌝ }
+    ensures { λ b. ⌜ WithLine earlier b (assignment model) f (meaning line) ⌝ }
 {
     if line.round() != f {
         return earlier;
@@ -103,11 +102,11 @@ fn with_line(earlier: Bounds, line: Line, f: usize, model: Model) -> Bounds
 
 // From the last line to the first.
 pub fn gathered(proof: &[u8], n: usize, f: usize, model: Model) -> Bounds
-    requires { ⌜ 64 * n ≤ length (now proof) ⌝ }
+    requires { ⌜ stepBytes * n ≤ length (now proof) ⌝ }
     requires { ⌜ ReadyLines (now proof) n ⌝ }
-    requires { ⌜ f < 8 ⌝ }
+    requires { ⌜ f < rationals ⌝ }
     requires { ⌜ InRange model ⌝ }
-    ensures { λ b. ⌜ Gathering (b .beyond) (assignment model) f (linesIn (now (proof .entry)) n) (boundMeaning (b .lower)) (boundMeaning (b .upper)) ⌝ }
+    ensures { λ b. ⌜ GatheredIn b (assignment model) f (linesIn (now (proof .entry)) n) ⌝ }
 {
     let mut b = Bounds {
         beyond: false,

@@ -1,6 +1,7 @@
 // Whether a line holds under an assignment: one of its literals, or its constraint.
 use crate::sum::sum;
 use lines::line::Line;
+use masks::ALL;
 use masks::meets;
 use models::model::Model;
 use rows::product::scaled;
@@ -18,7 +19,7 @@ pub fn literal_holds(line: Line, model: Model) -> bool
     if meets(line.positive, yes) {
         return true;
     }
-    meets(line.negative, 4294967295 - yes)
+    meets(line.negative, ALL - yes)
 }
 
 fn constraint_holds(line: Line, model: Model) -> bool

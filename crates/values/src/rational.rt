@@ -5,6 +5,7 @@ use fractions::fraction::Fraction;
 use models::model::Model;
 ghost use Prim.Native.Nat.{_*_, _≤_, _<_};
 ghost use lib.ListN.{length};
+ghost use Rattle.rules_types.specs.Limits.{rationals, stepBytes};
 ghost use Rattle.fractions.specs.Meaning.{meaning};
 ghost use Rattle.steps.specs.Lines.{linesIn, ReadyLines};
 ghost use Rattle.models.specs.Model.{assignment};
@@ -17,9 +18,9 @@ pub struct RationalValue {
 }
 
 pub fn rational_value(proof: &[u8], n: usize, f: usize, model: Model) -> RationalValue
-    requires { ⌜ 64 * n ≤ length (now proof) ⌝ }
+    requires { ⌜ stepBytes * n ≤ length (now proof) ⌝ }
     requires { ⌜ ReadyLines (now proof) n ⌝ }
-    requires { ⌜ f < 8 ⌝ }
+    requires { ⌜ f < rationals ⌝ }
     requires { ⌜ InRange model ⌝ }
     ensures { λ r. ⌜ Chosen (r .beyond) (assignment model) f (linesIn (now (proof .entry)) n) (meaning (r .value)) ⌝ }
 {

@@ -9,6 +9,7 @@ use lib.IntN.{ℤ, pos, natAbs, _*ℤ_}
 use lib.Dec.{eqb, ltb}
 use lib.ListN.{drop}
 use borrow.Author.Tests.{ltb-true, lt-ltb, eqb-true, eqb-false}
+use Rattle.rules_types.specs.Limits as limit
 use Rattle.rules_types.specs.Limits.{amount}
 use Rattle.theory_integers.specs.Size.{abs-*}
 use Rattle.rules.specs.Lists.{any, tabulate, put}
@@ -109,7 +110,7 @@ module _ (lines : List Line) where
       by false l i y k = let a = aligned-cons t v vs h in
           rw (assign-grows t (own t lines) (w .assignment) (walk-unset order lines (suc t) vs (a .1)) v r (a .0) (i ∙ k)) (or-true y)
 
-  pub unwritable-end : (r t : ℕ) → t ≤ 40 → unwritable r (walkFrom order lines t (drop t order)) ≡ true
+  pub unwritable-end : (r t : ℕ) → t ≤ limit.rounds → unwritable r (walkFrom order lines t (drop t order)) ≡ true
       → unwritable r (walkFrom order lines 0 order) ≡ true
   unwritable-end r zero h e = e
   unwritable-end r (suc t) h e =

@@ -1,4 +1,4 @@
-pub mod Outcome
+pub mod Reached
 pub mod Words
 pub mod Growth
 pub mod Narrow

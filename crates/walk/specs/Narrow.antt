@@ -8,6 +8,7 @@ use lib.IntN.{ℤ, pos, natAbs}
 use lib.Dec.{ltb}
 use lib.ListN.{getD}
 use borrow.Author.Tests.{le-ltb}
+use Rattle.rules_types.specs.Limits as limit
 use Rattle.rules_types.specs.Limits.{amount}
 use Rattle.rules.specs.Lists.{any, tabulate}
 use Rattle.rules.specs.Meaning.{Assignment}
@@ -30,11 +31,12 @@ any-front p zero (suc r) g l h = absurd (omega arith)
 any-front p (suc n) (suc r) g l h =
     ap (λ (b : Bool). p (g 0) || b) (any-front p n r (λ i. g (suc i)) (omega arith) (λ j k. h (suc j) (omega arith)))
 
-pub large-narrow : (r : ℕ) (χ : Assignment) → r ≤ 8 → ((f : ℕ) → r ≤ f → χ .numerators f ≡ pos 0) → tooLarge 8 χ ≡ tooLarge r χ
+pub large-narrow : (r : ℕ) (χ : Assignment) → r ≤ limit.rationals → ((f : ℕ) → r ≤ f → χ .numerators f ≡ pos 0)
+    → tooLarge limit.rationals χ ≡ tooLarge r χ
 unfolding tooLarge
 large-narrow r χ l h =
     ap (λ (b : Bool). ltb amount (χ .denominator) || b)
-    (any-front (λ z. ltb amount (natAbs z)) 8 r (χ .numerators) l
+    (any-front (λ z. ltb amount (natAbs z)) limit.rationals r (χ .numerators) l
     (λ j k. ap (λ (z : ℤ). ltb amount (natAbs z)) (h j k) ∙ le-ltb amount 0 (omega arith)))
 
 -- ---- of the lines that a proof holds

@@ -9,6 +9,7 @@ use lib.Dec.{leb, ltb, ltb→lt}
 use lib.ListN.{length, getD, set, replicate}
 use lib.Seq.{take-all}
 use borrow.Author.Tests.{le-ltb, lt-ltb, lt-leb, leb-false}
+use Rattle.rules_types.specs.Limits as limit
 use Rattle.rules_types.specs.Limits.{amount}
 use Rattle.theory_integers.specs.Ring.{*-comm, *-zeroʳ, +-identityˡ, +-identityʳ}
 use Rattle.rules.specs.Lists.{any, tabulate, put}
@@ -26,7 +27,7 @@ use Rattle.theory_vectors.specs.Amounts.{Amounts, narrow-small, small-amounts}
 use Rattle.models.specs.declared.model.Model.{Model}
 use Rattle.models.specs.Model.{value, assignment}
 use Rattle.values.specs.Range.{InRange}
-use Rattle.walk.specs.Outcome.{Same}
+use Rattle.walk.specs.Reached.{Same}
 
 -- an element put in, by the list
 getD-put : {A : Type 0} (s : List A) (i : ℕ) (a d : A) → i < length s → (j : ℕ) → getD (set s i a) j d ≡ put i a (λ k. getD s k d) j
@@ -38,15 +39,16 @@ getD-put (b ∷ s) (suc i) a d h zero = refl
 getD-put (b ∷ s) (suc i) a d h (suc j) = getD-put s i a d (omega arith) j
 
 -- ---- a Boolean variable more
-pub boolean-words : (m : Model) (n i : ℕ) (a : Bool) → i < 32 → bits 32 n ≡ set (bits 32 (m .booleans)) i a
+pub boolean-words : (m : Model) (n i : ℕ) (a : Bool) → i < limit.allBooleans
+    → bits limit.allBooleans n ≡ set (bits limit.allBooleans (m .booleans)) i a
     → assignment (record { booleans = n; numerators = m .numerators; denominator = m .denominator }) ≡ withBoolean i a (assignment m)
 unfolding assignment withBoolean
 boolean-words m n i a h e =
     λ k. record { booleans = λ j. same j k; numerators = value (m .numerators); denominator = m .denominator }
   where
-    same : (j : ℕ) → getD (bits 32 n) j false ≡ put i a (λ j. getD (bits 32 (m .booleans)) j false) j
+    same : (j : ℕ) → getD (bits limit.allBooleans n) j false ≡ put i a (λ j. getD (bits limit.allBooleans (m .booleans)) j false) j
     same j = ap (λ (s : List Bool). getD s j false) e
-        ∙ getD-put (bits 32 (m .booleans)) i a false (omega (arith, length-bits 32 (m .booleans))) j
+        ∙ getD-put (bits limit.allBooleans (m .booleans)) i a false (omega (arith, length-bits limit.allBooleans (m .booleans))) j
 
 -- ---- numerators over a new denominator
 module _ (a c m : ℤ) where
@@ -58,9 +60,9 @@ module _ (a c m : ℤ) where
   put-both (suc f) g z e zero = rw (e 0, *-zeroʳ a, +-identityʳ (c *ℤ g 0)) (*-comm c (g 0))
   put-both (suc f) g z e (suc j) = put-both f (λ k. g (suc k)) (λ k. z (suc k)) (λ k. e (suc k)) j
 
-  module _ (numerators : List ℤ) (n : length numerators ≡ 8) (f : ℕ) (h : f < 8) where
+  module _ (numerators : List ℤ) (n : length numerators ≡ limit.rationals) (f : ℕ) (h : f < limit.rationals) where
     abbrev row : List ℤ
-    row = combine c (set numerators f (pos 0)) a (set (replicate 8 (pos 0)) f m)
+    row = combine c (set numerators f (pos 0)) a (set (replicate limit.rationals (pos 0)) f m)
 
     pub scaled-value : value row ≡ put f (a *ℤ m) (λ j. value numerators j *ℤ c)
     unfolding value
@@ -68,10 +70,10 @@ module _ (a c m : ℤ) where
       where
         same : (j : ℕ) → getD row j (pos 0) ≡ put f (a *ℤ m) (λ j. getD numerators j (pos 0) *ℤ c) j
         same j =
-            getD-combine c (set numerators f (pos 0)) a (set (replicate 8 (pos 0)) f m) j
-            ∙ rw (getD-put numerators f (pos 0) (pos 0) (omega arith) j, getD-put (replicate 8 (pos 0)) f m (pos 0) h j)
-            (put-both f (λ k. getD numerators k (pos 0)) (λ k. getD (replicate 8 (pos 0)) k (pos 0))
-            (λ k. getD-replicate-same 8 k (pos 0)) j)
+            getD-combine c (set numerators f (pos 0)) a (set (replicate limit.rationals (pos 0)) f m) j
+            ∙ rw (getD-put numerators f (pos 0) (pos 0) (omega arith) j, getD-put (replicate limit.rationals (pos 0)) f m (pos 0) h j)
+            (put-both f (λ k. getD numerators k (pos 0)) (λ k. getD (replicate limit.rationals (pos 0)) k (pos 0))
+            (λ k. getD-replicate-same limit.rationals k (pos 0)) j)
 
 -- ---- too large, by the numerators' list
 -- the same test of a number, said with ≤ and with <
@@ -82,12 +84,12 @@ outside z =
     (λ t. of-false (leb (natAbs z) amount) (lt-leb (natAbs z) amount (ltb→lt amount (natAbs z) t)))
     (λ t. of-true (ltb amount (natAbs z)) (lt-ltb amount (natAbs z) (leb-false (natAbs z) amount (is-false (leb (natAbs z) amount) t))))
 
-pub large-words : (row : List ℤ) (χ : Assignment) → length row ≡ 8 → value row ≡ χ .numerators → tooLarge 8 χ ≡ ltb amount (χ .denominator)
-    || any (λ z. not (inRange z)) row
+pub large-words : (row : List ℤ) (χ : Assignment) → length row ≡ limit.rationals → value row ≡ χ .numerators
+    → tooLarge limit.rationals χ ≡ ltb amount (χ .denominator) || any (λ z. not (inRange z)) row
 unfolding tooLarge value
 large-words row χ n e =
-    let t : tabulate 8 (χ .numerators) ≡ row = ap (λ (g : ℕ → ℤ). tabulate 8 g) (sym e) ∙ tabulate-take 8 row (pos 0) (omega arith)
-    ∙ take-all 8 row (omega arith) in
+    let t : tabulate limit.rationals (χ .numerators) ≡ row = ap (λ (g : ℕ → ℤ). tabulate limit.rationals g) (sym e)
+    ∙ tabulate-take limit.rationals row (pos 0) (omega arith) ∙ take-all limit.rationals row (omega arith) in
     rw (
       t,
       any-agree (λ z. ltb amount (natAbs z)) (λ z. not (inRange z)) row
@@ -107,11 +109,11 @@ range-written m r h =
 
 -- ---- a rational variable more, over the common denominator D
 module _ (m : Model) (f : ℕ) (x : Fraction) (D : ℕ) (common : D ≡ lcm (m .denominator) (x .denominator)) where
-  pub denominator-large : amount < D → tooLarge 8 (withRational f x (assignment m)) ≡ true
+  pub denominator-large : amount < D → tooLarge limit.rationals (withRational f x (assignment m)) ≡ true
   unfolding tooLarge withRational assignment
   denominator-large h = rw (← common, lt-ltb amount D h)
 
-  module _ (row : List ℤ) (n : length row ≡ 8)
+  module _ (row : List ℤ) (n : length row ≡ limit.rationals)
       (e : value row ≡ put f (x .numerator *ℤ pos (D / x .denominator)) (λ j. value (m .numerators) j *ℤ pos (D / m .denominator))) where
     abbrev grown : Assignment
     grown = record { booleans = assignment m .booleans; numerators = value row; denominator = D }
@@ -120,7 +122,7 @@ module _ (m : Model) (f : ℕ) (x : Fraction) (D : ℕ) (common : D ≡ lcm (m .
     unfolding withRational assignment
     grown-is = rw (← common, ← e)
 
-    pub numerators-large : any (λ z. not (inRange z)) row ≡ true → tooLarge 8 (withRational f x (assignment m)) ≡ true
+    pub numerators-large : any (λ z. not (inRange z)) row ≡ true → tooLarge limit.rationals (withRational f x (assignment m)) ≡ true
     numerators-large h = rw (← grown-is, large-words row grown n refl, h) (or-true (ltb amount D))
 
     pub rational-words : any (λ z. not (inRange z)) row ≡ false → 0 < D → D ≤ amount

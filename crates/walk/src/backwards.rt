@@ -1,35 +1,54 @@
 // The walk from the last round to the first, up to the first number beyond the range of amounts: what exceeds it once exceeds it at the
 // end.
 use crate::assign::Reached;
-use crate::round::assign;
+use crate::round::assign_boolean;
+use crate::round::assign_rational;
 use models::model::Model;
+use rules_types::limits::Limits;
 ghost use mathlib.Core.Path.{_≡_};
 ghost use Prim.Native.Nat.{ℕ, _*_, _≤_};
 ghost use lib.ListN.{length};
+ghost use Rattle.rules_types.specs.Limits.{stepBytes, rationals};
 ghost use Rattle.rules.specs.Elimination.{order};
 ghost use Rattle.rules.specs.Values.{walk};
 ghost use Rattle.rules.specs.Model.{written};
 ghost use Rattle.steps.specs.Lines.{linesIn, ReadyLines};
 ghost use Rattle.walk.specs.Narrow.{Narrow};
-ghost use Rattle.walk.specs.Outcome.{bytesOf, Kept};
+ghost use Rattle.walk.specs.Reached.{bytesOf, WrittenInRange};
+ghost use Rattle.walk.specs.Backwards.{Walking};
 
-pub fn walk(proof: &[u8], n: usize, r: u8) -> Reached
-    requires { ⌜ 64 * n ≤ length (now proof) ⌝ }
+// The rounds of the Boolean variables, which are the last.
+fn walk_booleans(proof: &[u8], n: usize) -> Model
+    requires { ⌜ stepBytes * n ≤ length (now proof) ⌝ }
     requires { ⌜ ReadyLines (now proof) n ⌝ }
-    requires { ⌜ r ≤ 8 ⌝ }
-    requires { ⌜ Narrow (now proof) n r ⌝ }
-    ensures { λ w. ⌜ ((b : ℕ) → written b r (walk order (linesIn (now (proof .entry)) n)) ≡ bytesOf b r (w .written) (w .model)) ⌝ }
-    ensures { λ w. ⌜ Kept (w .written) (w .model) ⌝ }
+    ensures { λ m. ⌜ Walking (linesIn (now (proof .entry)) n) rationals m ⌝ }
 {
     let mut model = Model {
         booleans: 0,
-        numerators: [0; 8],
+        numerators: [0; Limits::RATIONALS],
         denominator: 1,
     };
-    let mut t: usize = 40;
-    while 0 < t {
-        t -= 1;
-        let next = assign(proof, n, t, model);
+    let mut i = Limits::ALL_BOOLEANS;
+    while 0 < i {
+        i -= 1;
+        model = assign_boolean(proof, n, i, model);
+    }
+    model
+}
+
+pub fn walk(proof: &[u8], n: usize, r: u8) -> Reached
+    requires { ⌜ stepBytes * n ≤ length (now proof) ⌝ }
+    requires { ⌜ ReadyLines (now proof) n ⌝ }
+    requires { ⌜ r ≤ rationals ⌝ }
+    requires { ⌜ Narrow (now proof) n r ⌝ }
+    ensures { λ w. ⌜ ((b : ℕ) → written b r (walk order (linesIn (now (proof .entry)) n)) ≡ bytesOf b r (w .written) (w .model)) ⌝ }
+    ensures { λ w. ⌜ WrittenInRange (w .written) (w .model) ⌝ }
+{
+    let mut model = walk_booleans(proof, n);
+    let mut f = Limits::RATIONALS;
+    while 0 < f {
+        f -= 1;
+        let next = assign_rational(proof, n, f, model);
         if !next.written {
             return next;
         }

@@ -5,20 +5,21 @@ use crate::assign::with_rational;
 use models::model::Model;
 use values::boolean::boolean_value;
 use values::rational::rational_value;
-ghost use Prim.Native.Nat.{_+_, _*_, _≤_, _<_};
+ghost use Prim.Native.Nat.{_*_, _≤_, _<_};
 ghost use lib.ListN.{length};
+ghost use Rattle.rules_types.specs.Limits.{stepBytes, rationals, allBooleans};
 ghost use Rattle.rules.specs.Lines.{rational, boolean};
-ghost use Rattle.theory_saturation.specs.Order.{variableAt};
+ghost use Rattle.lines.specs.Order.{booleanRound};
 ghost use Rattle.steps.specs.Lines.{linesIn, ReadyLines};
 ghost use Rattle.models.specs.Model.{assignment};
 ghost use Rattle.values.specs.Range.{InRange};
 ghost use Rattle.values.specs.Round.{own};
-ghost use Rattle.walk.specs.Outcome.{Assigned};
+ghost use Rattle.walk.specs.Reached.{WithVariable, Assigned};
 
-fn assign_rational(proof: &[u8], n: usize, f: usize, model: Model) -> Reached
-    requires { ⌜ 64 * n ≤ length (now proof) ⌝ }
+pub fn assign_rational(proof: &[u8], n: usize, f: usize, model: Model) -> Reached
+    requires { ⌜ stepBytes * n ≤ length (now proof) ⌝ }
     requires { ⌜ ReadyLines (now proof) n ⌝ }
-    requires { ⌜ f < 8 ⌝ }
+    requires { ⌜ f < rationals ⌝ }
     requires { ⌜ InRange model ⌝ }
     ensures { λ r. ⌜ Assigned (r .written) (r .model) (rational f) (own f (linesIn (now (proof .entry)) n)) (assignment model) ⌝ }
 {
@@ -33,35 +34,13 @@ fn assign_rational(proof: &[u8], n: usize, f: usize, model: Model) -> Reached
     with_rational(model, f, x)
 }
 
-fn assign_boolean(proof: &[u8], n: usize, i: usize, model: Model) -> Reached
-    requires { ⌜ 64 * n ≤ length (now proof) ⌝ }
+pub fn assign_boolean(proof: &[u8], n: usize, i: usize, model: Model) -> Model
+    requires { ⌜ stepBytes * n ≤ length (now proof) ⌝ }
     requires { ⌜ ReadyLines (now proof) n ⌝ }
-    requires { ⌜ i < 32 ⌝ }
+    requires { ⌜ i < allBooleans ⌝ }
     requires { ⌜ InRange model ⌝ }
-    ensures { λ r. ⌜ Assigned (r .written) (r .model) (boolean i) (own (8 + i) (linesIn (now (proof .entry)) n)) (assignment model) ⌝ }
+    ensures { λ m. ⌜ WithVariable m (boolean i) (own (booleanRound i) (linesIn (now (proof .entry)) n)) (assignment model) ⌝ }
 {
     let yes = boolean_value(proof, n, i, model);
-    let next = with_boolean(model, i, yes);
-    Reached {
-        written: true,
-        model: next,
-    }
-}
-
-// "turns 0 to 7 belong to the figures and 8 to 39 to the marks"
-pub fn assign(proof: &[u8], n: usize, t: usize, model: Model) -> Reached
-    requires { ⌜ 64 * n ≤ length (now proof) ⌝ }
-    requires { ⌜ ReadyLines (now proof) n ⌝ }
-    requires { ⌜ t < 40 ⌝ }
-    requires { ⌜ InRange model ⌝ }
-    ensures { λ r. ⌜ Assigned (r .written) (r .model) (variableAt t) (own t (linesIn (now (proof .entry)) n)) (assignment model) ⌝ }
-{
-    match t {
-        0..=7 => assign_rational(proof, n, t, model),
-        8..=39 => assign_boolean(proof, n, t - 8, model),
-        _ => Reached {
-            written: false,
-            model: model,
-        },
-    }
+    with_boolean(model, i, yes)
 }

@@ -12,11 +12,11 @@ read-requires c κs = search needs
 enum-known-s : tie.Need-enum-known-s
 enum-known-s c = search needs
 
-cast-t9 : tie.Need-cast-t9
-cast-t9 c = search needs
+cast-t7 : tie.Need-cast-t7
+cast-t7 c = search needs
 
-cast-t10 : tie.Need-cast-t10
-cast-t10 c = search needs
+cast-t8 : tie.Need-cast-t8
+cast-t8 c = search needs
 
 enum-known-s-2 : tie.Need-enum-known-s-2
 enum-known-s-2 c = search needs
@@ -24,8 +24,8 @@ enum-known-s-2 c = search needs
 number-requires : tie.Need-number-requires
 number-requires c κs = search needs
 
-cast-t12 : tie.Need-cast-t12
-cast-t12 c = search needs
+cast-t10 : tie.Need-cast-t10
+cast-t10 c = search needs
 
 -- what the call for reading gave, as it is told
 is-told : (a : tie.After-read) → toldOf (a .read .result) ≡ told (read (a .before .before .args .input .now))
@@ -33,7 +33,7 @@ is-told a = ap toldOf (a .read .ensures) ∙ told-is (read (a .before .before .a
 
 returns : tie.Need-returns
 unfolding toldOf
-returns c = let m = c .before in sym (ap toldOf (m .s .given .1)) ∙ is-told (m .before .before)
+returns c = let m = c .before .before .before in sym (ap toldOf (m .s .given .1)) ∙ is-told (m .before .before)
 
 returns-2 : tie.Need-returns-2
 unfolding toldOf
@@ -48,10 +48,10 @@ test-read-spec =
     (tie.spec
     read-requires
     enum-known-s
-    cast-t9
-    cast-t10
+    cast-t7
+    cast-t8
     enum-known-s-2
     number-requires
-    cast-t12
+    cast-t10
     returns
     returns-2)

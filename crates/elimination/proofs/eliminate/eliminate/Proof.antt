@@ -18,24 +18,21 @@ rounds-requires c κs =
     let s = k .before .before .before .before in
     let a = s .args in (
       k .load .ensures .leads .standing,
-      (s .pre .1 .1, omega (arith, no-pairs (loadableOf (problemAt (a .q .now) (a .b) (a .r) (a .n))) (k .load .ensures))),
+      (s .pre .1 .1, omega (arith, no-pairs (loadableOf (problemAt (a .q .now) (a .sizes))) (k .load .ensures))),
     )
-
-end-of-requires : tie.Need-end-of-requires
-end-of-requires c κs = search needs
 
 same-length : tie.Need-same-length
 same-length c = search needs
 
 returns : tie.Need-returns
 returns c =
-    let t = c .before .before .before in
+    let t = c .before .before in
     let k = t .before .before .before .before in
     let s = k .before .before .before .before in
     let a = s .args in
-    let p = problemAt (a .q .now) (a .b) (a .r) (a .n) in
-    rw (c .end-of .ensures) (eliminated p (k .load .ensures) (t .rounds .ensures) (read-well-formed (a .q .now) p (s .pre .0 .is-read)))
+    let p = problemAt (a .q .now) (a .sizes) in
+    eliminated p (k .load .ensures) (t .rounds .ensures) (read-well-formed (a .q .now) p (s .pre .0 .is-read))
 
 pub eliminate-spec : {M : Type 1} → statement M
 eliminate-spec =
-    tie.close (tie.spec load-requires rounds-requires end-of-requires same-length returns)
+    tie.close (tie.spec load-requires rounds-requires same-length returns)

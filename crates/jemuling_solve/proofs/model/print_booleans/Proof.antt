@@ -1,14 +1,14 @@
--- `printing::model::print_booleans` meets its contract. The measure is the number of values left. Assumes nothing.
+-- `model::print_booleans` meets its contract. The measure is the number of values left. Assumes nothing.
 use Prim.Native.Nat.{_≤_, _-_}
 use borrow.Author.Needs.{needs}
 use Rattle.jemuling_solve.proofs.model.print_booleans.Statement.{statement}
 use Rattle.jemuling_solve.proofs.model.print_booleans.Tie as tie
 
 abbrev Inv-loop : tie.InvT-loop
-Inv-loop model b i₀ i = i ≤ b
+Inv-loop model b count i₀ i = i ≤ count
 
 abbrev μ-loop : tie.MeasureT-loop
-μ-loop model b i₀ i = b - i
+μ-loop model b count i₀ i = count - i
 
 loop-holds : tie.Need-loop-holds Inv-loop μ-loop
 loop-holds c = search needs

@@ -1,29 +1,32 @@
--- `printing::model::print_rationals` meets its contract. The measure is the number of numerators left. Assumes nothing.
+-- `model::print_rationals` meets its contract. The measure is the number of numerators left. Assumes nothing.
 use Prim.Native.Nat.{_≤_, _-_}
 use borrow.Author.Needs.{needs}
 use Rattle.jemuling_solve.proofs.model.print_rationals.Statement.{statement}
 use Rattle.jemuling_solve.proofs.model.print_rationals.Tie as tie
 
 abbrev Inv-loop : tie.InvT-loop
-Inv-loop model at r denominator i₀ i = i ≤ r
+Inv-loop model b r denominator at count i₀ i = i ≤ count
 
 abbrev μ-loop : tie.MeasureT-loop
-μ-loop model at r denominator i₀ i = r - i
+μ-loop model b r denominator at count i₀ i = count - i
+
+model-denominator-requires : tie.Need-model-denominator-requires Inv-loop μ-loop
+model-denominator-requires c κs = search needs
 
 u32-at-requires : tie.Need-u32-at-requires Inv-loop μ-loop
 u32-at-requires c κs = search needs
 
+model-numerators-requires : tie.Need-model-numerators-requires Inv-loop μ-loop
+model-numerators-requires c κs = search needs
+
 loop-holds : tie.Need-loop-holds Inv-loop μ-loop
 loop-holds c = search needs
-
-add-amount-at : tie.Need-add-amount-at Inv-loop μ-loop
-add-amount-at c = search needs
 
 mul-amount-at : tie.Need-mul-amount-at Inv-loop μ-loop
 mul-amount-at c = search needs
 
-add-amount-at-2 : tie.Need-add-amount-at-2 Inv-loop μ-loop
-add-amount-at-2 c = search needs
+add-amount-at : tie.Need-add-amount-at Inv-loop μ-loop
+add-amount-at c = search needs
 
 amount-at-requires : tie.Need-amount-at-requires Inv-loop μ-loop
 amount-at-requires c κs = search needs
@@ -49,11 +52,12 @@ print-rationals-spec =
     (tie.spec
     Inv-loop
     μ-loop
+    model-denominator-requires
     u32-at-requires
+    model-numerators-requires
     loop-holds
-    add-amount-at
     mul-amount-at
-    add-amount-at-2
+    add-amount-at
     amount-at-requires
     print-rational-requires
     add-i

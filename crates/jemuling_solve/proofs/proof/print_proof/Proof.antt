@@ -19,9 +19,6 @@ print-count-requires c κs = search needs
 loop-holds : tie.Need-loop-holds Inv-loop μ-loop
 loop-holds c = search needs
 
-mul-print-step : tie.Need-mul-print-step Inv-loop μ-loop
-mul-print-step c = search needs
-
 print-step-requires : tie.Need-print-step-requires Inv-loop μ-loop
 print-step-requires c κs = search needs
 
@@ -46,7 +43,6 @@ print-proof-spec =
     slice-aggregate-print-count
     print-count-requires
     loop-holds
-    mul-print-step
     print-step-requires
     add-i
     loop-less

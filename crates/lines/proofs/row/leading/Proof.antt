@@ -6,6 +6,7 @@ use native.Mathlib.Omega.{arith}
 use borrow.Author.Needs.{needs}
 use lib.IntN.{pos}
 use lib.ListN.{length, getD}
+use Rattle.rules_types.specs.Limits as limit
 use Rattle.rules.specs.Arithmetic.{isZero}
 use Rattle.lines.specs.Scan.{Scanned, scanned-start, scanned-next, told}
 use Rattle.lines.specs.Forms.{leading-at, leading-none}
@@ -16,7 +17,7 @@ abbrev Inv-loop : tie.InvT-loop
 Inv-loop rest row i₀ i = Scanned (λ k. not (isZero (getD row k (pos 0)))) i
 
 abbrev μ-loop : tie.MeasureT-loop
-μ-loop rest row i₀ i = 8 - i
+μ-loop rest row i₀ i = limit.rationals - i
 
 loop-holds : tie.Need-loop-holds Inv-loop μ-loop
 loop-holds c = scanned-start (λ k. not (isZero (getD (c .args .t1) k (pos 0))))
@@ -39,7 +40,7 @@ here c = ap not (told isZero (getD (c .before .before .before .before .args .t1)
 returns : tie.Need-returns Inv-loop μ-loop
 returns c =
     let a = c .before .before .before .before in
-    let n : length (a .before .args .t1) ≡ 8 = search needs in
+    let n : length (a .before .args .t1) ≡ limit.rationals = search needs in
     sym (leading-at (a .before .args .t1) (a .loop .i) (a .before .args .rest) (a .loop .inv .none) (omega arith)
     (here (c .before) ∙ c .if1 .taken))
 
@@ -53,14 +54,15 @@ loop-again : tie.Need-loop-again Inv-loop μ-loop
 loop-again c = let a = c .before .before .before .before in
     scanned-next _ (a .loop .i) (a .loop .inv) (omega arith) (here (c .before) ∙ c .if1 .left)
 
-add-result : tie.Need-add-result Inv-loop μ-loop
-add-result c = search needs
+boolean-round-requires : tie.Need-boolean-round-requires Inv-loop μ-loop
+boolean-round-requires c κs = search needs
 
 returns-2 : tie.Need-returns-2 Inv-loop μ-loop
 returns-2 c =
-    let a = c .before in
-    let n : length (a .before .args .t1) ≡ 8 = search needs in
-    omega (arith, leading-none (a .before .args .t1) (a .before .args .rest) (λ k h. a .loop .inv .none k (omega arith)))
+    let a = c .before .before in
+    let n : length (a .before .args .t1) ≡ limit.rationals = search needs in
+    let e = leading-none (a .before .args .t1) (a .before .args .rest) (λ k h. a .loop .inv .none k (omega arith)) in
+    omega (arith, c .boolean-round .ensures, e)
 
 pub leading-spec : {M : Type 1} → statement M
 leading-spec =
@@ -76,5 +78,5 @@ leading-spec =
     add-i
     loop-less
     loop-again
-    add-result
+    boolean-round-requires
     returns-2)

@@ -6,6 +6,7 @@ use native.Mathlib.Omega.{arith}
 use borrow.Author.Needs.{needs}
 use lib.IntN.{pos}
 use lib.ListN.{length, getD}
+use Rattle.rules_types.specs.Limits as limit
 use Rattle.rules.specs.Problem.{inRange}
 use Rattle.theory_lists.specs.Scan.{any-at, any-none}
 use Rattle.lines.specs.Scan.{Scanned, scanned-start, scanned-next, told}
@@ -16,7 +17,7 @@ abbrev Inv-loop : tie.InvT-loop
 Inv-loop row i₀ i = Scanned (λ k. not (inRange (getD row k (pos 0)))) i
 
 abbrev μ-loop : tie.MeasureT-loop
-μ-loop row i₀ i = 8 - i
+μ-loop row i₀ i = limit.rationals - i
 
 loop-holds : tie.Need-loop-holds Inv-loop μ-loop
 loop-holds c = scanned-start (λ k. not (inRange (getD (c .args .t1) k (pos 0))))
@@ -39,7 +40,7 @@ here c = ap not (told inRange (getD (c .before .before .before .before .args .t1
 returns : tie.Need-returns Inv-loop μ-loop
 returns c =
     let a = c .before .before .before .before in
-    let n : length (a .before .args .t1) ≡ 8 = search needs in
+    let n : length (a .before .args .t1) ≡ limit.rationals = search needs in
     sym (any-at (pos 0) (λ z. not (inRange z)) (a .before .args .t1) (a .loop .i) (omega arith) (here (c .before) ∙ c .if1 .taken))
 
 add-i : tie.Need-add-i Inv-loop μ-loop
@@ -55,7 +56,7 @@ loop-again c = let a = c .before .before .before .before in
 returns-2 : tie.Need-returns-2 Inv-loop μ-loop
 returns-2 c =
     let a = c .before in
-    let n : length (a .before .args .t1) ≡ 8 = search needs in
+    let n : length (a .before .args .t1) ≡ limit.rationals = search needs in
     sym (any-none (pos 0) (λ z. not (inRange z)) (a .before .args .t1) (λ k h. a .loop .inv .none k (omega arith)))
 
 pub overflowing-row-spec : {M : Type 1} → statement M

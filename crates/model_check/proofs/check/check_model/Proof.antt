@@ -1,4 +1,4 @@
--- `check::check_model` meets its contract: the question's fault, or a question that was read without fault.
+-- `check::check_model` meets its contract: the problem's fault, or a problem that was read without fault.
 use mathlib.Core.Path.{sym, _∙_}
 use borrow.Author.Needs.{needs}
 use Rattle.problem_read.specs.Readable.{readable}
@@ -18,7 +18,7 @@ enum-known-scan-2 c = search needs
 check-readable-requires : tie.Need-check-readable-requires
 check-readable-requires c κs =
     let a = c .before .before .before in
-    readable (a .before .before .before .args .input .now) _ _ _ (sym (a .read .ensures) ∙ c .before .scan2 .given .1)
+    readable (a .before .before .before .args .input .now) _ (sym (a .read .ensures) ∙ c .before .scan2 .given .1)
 
 returns : tie.Need-returns
 returns c =

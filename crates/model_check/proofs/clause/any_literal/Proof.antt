@@ -8,12 +8,12 @@ use Rattle.rules.specs.Meaning.{literalHolds}
 use Rattle.problem_scan.specs.Values.{literalAt}
 use Rattle.problem_clauses.specs.Literals.{literalOf}
 use Rattle.models.specs.Model.{assignment}
-use Rattle.model_check.specs.Scan.{Scan, scan-done, scan-within, scan-found, scan-next}
+use Rattle.model_check.specs.Any.{Asking, asking-done, asking-within, asking-passed, asking-next}
 use Rattle.model_check.proofs.clause.any_literal.Statement.{statement}
 use Rattle.model_check.proofs.clause.any_literal.Tie as tie
 
 abbrev Inv-loop : tie.InvT-loop
-Inv-loop q from count model at₀ left₀ at left = Scan (literalHolds (assignment model)) (literalAt q) 1 from count at left
+Inv-loop q from count model at₀ left₀ at left = Asking (literalHolds (assignment model)) (literalAt q) 1 from count at left
 
 abbrev μ-loop : tie.MeasureT-loop
 μ-loop q from count model at₀ left₀ at left = left
@@ -28,8 +28,7 @@ within c =
     let s = c .before .before .before in
     omega (
       arith,
-      scan-within (literalHolds (assignment (s .args .model))) (literalAt (s .args .q .now)) 1 (s .args .from) (s .args .count)
-          (l .at) (l .left) (l .inv) (c .loop-test .taken),
+      asking-within (l .inv) (c .loop-test .taken),
       s .pre,
     )
 
@@ -50,8 +49,7 @@ returns c =
     let a = c .before in
     let l = a .before .before .before .loop in
     let s = a .before .before .before .before .before in
-    scan-found (literalHolds (assignment (s .args .model))) (literalAt (s .args .q .now)) 1 (s .args .from) (s .args .count) (l .at)
-    (l .left) (l .inv) (a .before .before .loop-test .taken) (a .literal-holds .result) (tested a) (c .if1 .taken)
+    asking-passed (l .inv) (a .before .before .loop-test .taken) (a .literal-holds .result) (tested a) (c .if1 .taken)
 
 add-at : tie.Need-add-at Inv-loop μ-loop
 add-at c = omega (arith, within (c .before .before .before), c .before .before .before .before .before .before .good)
@@ -67,15 +65,13 @@ loop-again c =
     let a = c .before in
     let l = a .before .before .before .loop in
     let s = a .before .before .before .before .before in
-    scan-next (literalHolds (assignment (s .args .model))) (literalAt (s .args .q .now)) 1 (s .args .from) (s .args .count) (l .at)
-    (l .left) (l .inv) (a .before .before .loop-test .taken) (a .literal-holds .result) (tested a) (c .if1 .left)
+    asking-next (l .inv) (a .before .before .loop-test .taken) (a .literal-holds .result) (tested a) (c .if1 .left)
 
 returns-2 : tie.Need-returns-2 Inv-loop μ-loop
 returns-2 c =
     let l = c .before .loop in
     let s = c .before .before .before in
-    scan-done (literalHolds (assignment (s .args .model))) (literalAt (s .args .q .now)) 1 (s .args .from) (s .args .count) (l .at)
-    (l .left) (l .inv) (c .loop-test .left)
+    asking-done (l .inv) (c .loop-test .left)
 
 pub any-literal-spec : {M : Type 1} → statement M
 any-literal-spec =

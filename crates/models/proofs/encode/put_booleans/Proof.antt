@@ -6,6 +6,7 @@ use Prim.Native.Nat.{ℕ, _+_, _-_, _≤_, _<_}
 use native.Mathlib.Omega.{arith}
 use borrow.Author.Needs.{needs}
 use lib.ListN.{length, getD, set, length-set}
+use Rattle.rules_types.specs.Limits as limit
 use Rattle.rules.specs.Lists.{tabulate}
 use Rattle.rules.specs.Model.{booleanByte}
 use Rattle.masks.specs.Mask.{bits}
@@ -16,7 +17,7 @@ use Rattle.models.proofs.encode.put_booleans.Tie as tie
 
 -- variable i's byte
 abbrev byte : ℕ → ℕ → ℕ
-byte mask i = booleanByte (getD (bits 32 mask) i false)
+byte mask i = booleanByte (getD (bits limit.allBooleans mask) i false)
 
 abbrev Inv-loop : tie.InvT-loop
 Inv-loop s₀ b mask count i₀ s i = (i ≤ b) × (length s ≡ length s₀) × (s ≡ stored 1 (tabulate i (byte mask)) s₀)

@@ -6,24 +6,25 @@ use native.Mathlib.Omega.{arith}
 use borrow.Author.Needs.{needs}
 use lib.IntN.{ℤ, pos}
 use lib.ListN.{length, getD, take}
+use Rattle.rules_types.specs.Limits as limit
 use Rattle.rules.specs.Bytes.{toBytes, toUnsigned, amountBytes}
 use Rattle.theory_lists.specs.Tabulated.{tabulate-take}
 use Rattle.fields.specs.Field.{stored}
 use Rattle.rows.specs.Products.{amount-bits}
 use Rattle.models.specs.Model.{value}
-use Rattle.steps.specs.Encoding.{amount-stored, stored-none}
+use Rattle.fields.specs.Filled.{amounts-more, amounts-none}
 use Rattle.models.proofs.encode.put_numerators.Statement.{statement}
 use Rattle.models.proofs.encode.put_numerators.Tie as tie
 
 abbrev Inv-loop : tie.InvT-loop
-Inv-loop s₀ at r numerators count i₀ s i = (i ≤ r) × (length numerators ≡ 8) × (length s ≡ length s₀)
+Inv-loop s₀ at r numerators count i₀ s i = (i ≤ r) × (length numerators ≡ limit.rationals) × (length s ≡ length s₀)
     × (s ≡ stored at (amountBytes (take i numerators)) s₀)
 
 abbrev μ-loop : tie.MeasureT-loop
 μ-loop s₀ at r numerators count i₀ s i = count - i
 
 loop-holds : tie.Need-loop-holds Inv-loop μ-loop
-loop-holds c = let s = c .before in (omega arith, search needs, refl, stored-none (s .args .at) (s .args .s .now))
+loop-holds c = let s = c .before in (omega arith, search needs, refl, amounts-none (s .args .at) (s .args .s .now))
 
 mul-z : tie.Need-mul-z Inv-loop μ-loop
 mul-z c = search needs
@@ -63,7 +64,7 @@ loop-again c =
     let z = getD zs (l .i) (pos 0) in
     let e = rw (amount-bits z (s .pre .1 .1 .1 .small (l .i))) at (a .put-amount .ensures) in
     let more = ap (λ (x : List ℕ). stored (s .args .at + 4 * l .i) (toBytes 4 (toUnsigned z)) x) (l .inv .3) in
-    let last = amount-stored (s .args .at) zs (l .i) (s .args .s .now) (omega (arith, l .inv .1, t .loop-test .taken, s .pre .0))
+    let last = amounts-more (s .args .at) zs (l .i) (s .args .s .now) (omega (arith, l .inv .1, t .loop-test .taken, s .pre .0))
     (omega (arith, s .pre .1 .0, s .pre .1 .1 .0)) in
     (omega (arith, t .loop-test .taken), l .inv .1, a .put-amount .kept .0 ∙ l .inv .2, e ∙ more ∙ last)
 

@@ -10,8 +10,11 @@ use Rattle.models.proofs.encode.write_model.Tie as tie
 encode-model-requires : tie.Need-encode-model-requires
 encode-model-requires c κs = search needs
 
-put-requires : tie.Need-put-requires
-put-requires c κs = search needs
+slice-aggregate-put-bytes : tie.Need-slice-aggregate-put-bytes
+slice-aggregate-put-bytes c = search needs
+
+put-bytes-requires : tie.Need-put-bytes-requires
+put-bytes-requires c κs = search needs
 
 same-length : tie.Need-same-length
 same-length c = search needs
@@ -22,11 +25,11 @@ sixty-four c = search (needs, c)
 returns : tie.Need-returns
 returns c =
     let p = c .before .before in
-    let e = p .before .before in
+    let e = p .before .before .before in
     let s = e .before .before in
-    p .put .ensures
+    p .put-bytes .ensures
     ∙ ap (λ (k : ℕ). e .encode-model .result ++ drop (0 + k) (s .args .buffer .now)) (sixty-four e)
     ∙ ap (λ (x : List ℕ). x ++ drop 64 (s .args .buffer .now)) (e .encode-model .ensures)
 
 pub write-model-spec : {M : Type 1} → statement M
-write-model-spec = tie.close (tie.spec encode-model-requires put-requires same-length returns)
+write-model-spec = tie.close (tie.spec encode-model-requires slice-aggregate-put-bytes put-bytes-requires same-length returns)

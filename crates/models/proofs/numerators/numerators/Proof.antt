@@ -8,13 +8,14 @@ use lib.ListN.{length, length-set}
 use mir.Syntax.{w64}
 use mir.Val.{toZ, ofZ}
 use mir.Facts.{toZ-ofZ}
+use Rattle.rules_types.specs.Limits as limit
 use Rattle.problem_scan.specs.Values.{amountAt}
 use Rattle.models.specs.Numerators.{RowTo, row-none, row-more, row-bad, row-done}
 use Rattle.models.proofs.numerators.numerators.Statement.{statement}
 use Rattle.models.proofs.numerators.numerators.Tie as tie
 
 abbrev Inv-loop : tie.InvT-loop
-Inv-loop s from count out₀ i₀ out i = (i ≤ count) × (length out ≡ 8) × RowTo s from i out
+Inv-loop s from count out₀ i₀ out i = (i ≤ count) × (length out ≡ limit.rationals) × RowTo s from i out
 
 abbrev μ-loop : tie.MeasureT-loop
 μ-loop s from count out₀ i₀ out i = count - i

@@ -10,7 +10,9 @@ use Rattle.rules.specs.Lists.{same}
 use Rattle.rules.specs.Elimination.{covered}
 use Rattle.lines.specs.Line.{meaning}
 use Rattle.steps.specs.Decoding.{decoded, decoded-encoded}
-use Rattle.steps.specs.Encoding.{headerOf}
+use Rattle.steps.specs.declared.origin.Origin.{Origin}
+use Rattle.steps.specs.Encoding.{encoded}
+use Rattle.steps.specs.Origin.{headerOf, loadedBy}
 use Rattle.steps.specs.Places.{stepAt}
 use Rattle.steps.specs.Held.{stepsIn, Words}
 use Rattle.placing.specs.Same.{behind, coveredFrom, covered-all, covered-step, covered-none}
@@ -18,26 +20,17 @@ use Rattle.placing.proofs.covered.covered.Statement.{statement}
 use Rattle.placing.proofs.covered.covered.Tie as tie
 
 abbrev Inv-loop : tie.InvT-loop
-Inv-loop proof n bytes bound positive i₀ i = (i ≤ n)
+Inv-loop proof n bytes i₀ i = (i ≤ n)
     × (covered (meaning (decoded bytes)) (stepsIn proof n) ≡ coveredFrom i (meaning (decoded bytes)) proof n)
 
 abbrev μ-loop : tie.MeasureT-loop
-μ-loop proof n bytes bound positive i₀ i = n - i
+μ-loop proof n bytes i₀ i = n - i
+
+loaded-requires : tie.Need-loaded-requires Inv-loop μ-loop
+loaded-requires c κs = search needs
 
 encode-requires : tie.Need-encode-requires Inv-loop μ-loop
 encode-requires c κs = search needs
-
-slice-aggregate-u32-at : tie.Need-slice-aggregate-u32-at Inv-loop μ-loop
-slice-aggregate-u32-at c = search needs
-
-u32-at-requires : tie.Need-u32-at-requires Inv-loop μ-loop
-u32-at-requires c κs = search needs
-
-slice-aggregate-u32-at-2 : tie.Need-slice-aggregate-u32-at-2 Inv-loop μ-loop
-slice-aggregate-u32-at-2 c = search needs
-
-u32-at-requires-2 : tie.Need-u32-at-requires-2 Inv-loop μ-loop
-u32-at-requires-2 c κs = search needs
 
 loop-holds : tie.Need-loop-holds Inv-loop μ-loop
 loop-holds c = (omega arith, covered-all _ _ _)
@@ -56,34 +49,40 @@ words s = record {
   negative = search (needs, s .good);
 }
 
+abbrev start : tie.After-encode Inv-loop μ-loop → tie.Start Inv-loop μ-loop
+start e = e .before .before .before
+
 -- the bytes that are looked for are the line's
-line-is : (c : tie.After-encode Inv-loop μ-loop) → decoded (c .encode .result) ≡ c .before .before .args .line
+bytes-are : (c : tie.After-encode Inv-loop μ-loop) → c .encode .result ≡ encoded (headerOf (loadedBy 0 0)) (meaning (start c .args .line))
+bytes-are c = c .encode .ensures ∙ ap (λ (o : Origin). encoded (headerOf o) (meaning (start c .args .line))) (c .before .loaded .ensures)
+
+line-is : (c : tie.After-encode Inv-loop μ-loop) → decoded (c .encode .result) ≡ start c .args .line
 line-is c =
-    let s = c .before .before in
+    let s = start c in
     let w = words s in
-    ap decoded (c .encode .ensures) ∙ decoded-encoded (headerOf 0 0 0 0) (s .args .line) (w .ready) (w .eight) (w .positive) (w .negative)
+    ap decoded (bytes-are c) ∙ decoded-encoded (headerOf (loadedBy 0 0)) (s .args .line) (w .ready) (w .eight) (w .positive) (w .negative)
 
 -- the invariant, of the line itself
 left : (c : tie.At-loop Inv-loop μ-loop) →
-    let s = c .before .before .before .before .before .before .before in
+    let s = start (c .before) in
     covered (meaning (s .args .line)) (stepsIn (s .args .proof .now) (s .args .n))
     ≡ coveredFrom (c .loop .i) (meaning (s .args .line)) (s .args .proof .now) (s .args .n)
-left c = rw (line-is (c .before .before .before .before .before)) at (c .loop .inv .1)
+left c = rw (line-is (c .before)) at (c .loop .inv .1)
 
 -- one step on
 next : (c : tie.After-same-step Inv-loop μ-loop) →
     let l = c .before .before .before in
-    let s = l .before .before .before .before .before .before .before in
+    let s = start (l .before) in
     covered (meaning (s .args .line)) (stepsIn (s .args .proof .now) (s .args .n)) ≡ c .same-step .result
     || coveredFrom (l .loop .i + 1) (meaning (s .args .line)) (s .args .proof .now) (s .args .n)
 next c =
     let l = c .before .before .before in
-    let e = l .before .before .before .before .before in
-    let s = e .before .before in
+    let e = l .before in
+    let s = start e in
     left l
-    ∙ covered-step (s .pre .0) (l .loop .i) (omega arith) (headerOf 0 0 0 0) (s .args .line) (words s)
+    ∙ covered-step (s .pre .0) (l .loop .i) (omega arith) (headerOf (loadedBy 0 0)) (s .args .line) (words s)
     ∙ ap (λ (t : Bool). t || coveredFrom (l .loop .i + 1) (meaning (s .args .line)) (s .args .proof .now) (s .args .n))
-    (ap (λ (b : List ℕ). same eqb (behind (stepAt (s .args .proof .now) (l .loop .i))) (behind b)) (sym (e .encode .ensures))
+    (ap (λ (b : List ℕ). same eqb (behind (stepAt (s .args .proof .now) (l .loop .i))) (behind b)) (sym (bytes-are e))
     ∙ sym (c .same-step .ensures))
 
 returns : tie.Need-returns Inv-loop μ-loop
@@ -98,7 +97,7 @@ loop-less c = search needs
 loop-again : tie.Need-loop-again Inv-loop μ-loop
 loop-again c = (
   omega arith,
-  rw (line-is (c .before .before .before .before .before .before .before .before .before)) (next (c .before) ∙ rw (c .if1 .left)),
+  rw (line-is (c .before .before .before .before .before)) (next (c .before) ∙ rw (c .if1 .left)),
 )
 
 returns-2 : tie.Need-returns-2 Inv-loop μ-loop
@@ -110,11 +109,8 @@ covered-spec =
     (tie.spec
     Inv-loop
     μ-loop
+    loaded-requires
     encode-requires
-    slice-aggregate-u32-at
-    u32-at-requires
-    slice-aggregate-u32-at-2
-    u32-at-requires-2
     loop-holds
     slice-aggregate-same-step
     same-step-requires

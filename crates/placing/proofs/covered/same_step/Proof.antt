@@ -5,55 +5,63 @@ use Prim.Native.Nat.{ℕ, _+_, _-_, _*_, _≤_}
 use native.Mathlib.Omega.{arith}
 use borrow.Author.Needs.{needs}
 use borrow.Author.Tests.{eq-eqb, ne-eqb}
+use mir.Syntax.{w64}
+use mir.Val.{ofZ}
 use lib.Dec.{eqb}
-use lib.ListN.{length, getD, drop}
+use lib.ListN.{getD, drop}
+use Rattle.rules_types.specs.Limits as limit
+use Rattle.rules_types.specs.Layout as layout
 use Rattle.rules.specs.Lists.{same}
+use Rattle.rules.specs.Bytes.{fromUnsigned}
 use Rattle.theory_lists.specs.Scan.{same-next, same-end}
-use Rattle.steps.specs.Places.{stepAt}
-use Rattle.steps.specs.Held.{length-stepAt, byte-stepAt, field-stepAt}
+use Rattle.steps.specs.Places.{stepAt, HasStep, length-stepAt, byte-stepAt, field-stepAt}
 use Rattle.placing.specs.Same.{behind, same-by-field}
 use Rattle.placing.proofs.covered.same_step.Statement.{statement}
 use Rattle.placing.proofs.covered.same_step.Tie as tie
 
 abbrev Inv-loop : tie.InvT-loop
-Inv-loop proof i bytes bound positive at k₀ k = (6 ≤ k) × (k ≤ 64)
+Inv-loop proof i bytes at k₀ k = (layout.stepRelation ≤ k) × (k ≤ limit.stepBytes)
     × (same eqb (behind (stepAt proof i)) (behind bytes) ≡ same eqb (drop k (stepAt proof i)) (drop k bytes))
 
 abbrev μ-loop : tie.MeasureT-loop
-μ-loop proof i bytes bound positive at k₀ k = 64 - k
+μ-loop proof i bytes at k₀ k = limit.stepBytes - k
 
-mul-at : tie.Need-mul-at Inv-loop μ-loop
-mul-at c = search needs
+bound-at-requires : tie.Need-bound-at-requires Inv-loop μ-loop
+bound-at-requires c κs = search needs
 
-add-u32-at : tie.Need-add-u32-at Inv-loop μ-loop
-add-u32-at c = search needs
-
-u32-at-requires : tie.Need-u32-at-requires Inv-loop μ-loop
-u32-at-requires c κs = search needs
+bound-at-requires-2 : tie.Need-bound-at-requires-2 Inv-loop μ-loop
+bound-at-requires-2 c κs = search needs
 
 returns : tie.Need-returns Inv-loop μ-loop
 returns c =
-    let u = c .before in
-    let s = u .before .before .before in
+    let own = c .before in
+    let held = own .before in
+    let s = held .before .before .before in
     let p = s .args .proof .now in
     let i = s .args .i in
-    sym (same-by-field 42 (stepAt p i) (s .args .bytes .now)
-    (λ e. c .if1 .taken (u .u32-at .ensures ∙ sym (field-stepAt p i (omega arith) 48 (omega arith)) ∙ e ∙ sym (s .pre .1 .1 .0))))
+    sym (same-by-field layout.stepBound (stepAt p i) (s .args .bytes .now) (omega arith)
+    (λ e. c .if1 .taken (ap (ofZ w64) (held .bound-at .ensures
+    ∙ ap fromUnsigned (sym (field-stepAt p i (s .pre .0) layout.stepBound 4 (omega arith)) ∙ e) ∙ sym (own .bound-at2 .ensures)))))
 
-add-u32-at-2 : tie.Need-add-u32-at-2 Inv-loop μ-loop
-add-u32-at-2 c = search needs
+positive-at-requires : tie.Need-positive-at-requires Inv-loop μ-loop
+positive-at-requires c κs = search needs
 
-u32-at-requires-2 : tie.Need-u32-at-requires-2 Inv-loop μ-loop
-u32-at-requires-2 c κs = search needs
+positive-at-requires-2 : tie.Need-positive-at-requires-2 Inv-loop μ-loop
+positive-at-requires-2 c κs = search needs
 
 returns-2 : tie.Need-returns-2 Inv-loop μ-loop
 returns-2 c =
-    let u = c .before in
-    let s = u .before .before .before .before .before in
+    let own = c .before in
+    let held = own .before in
+    let s = held .before .before .before .before .before .before in
     let p = s .args .proof .now in
     let i = s .args .i in
-    sym (same-by-field 2 (stepAt p i) (s .args .bytes .now)
-    (λ e. c .if2 .taken (u .u32-at2 .ensures ∙ sym (field-stepAt p i (omega arith) 8 (omega arith)) ∙ e ∙ sym (s .pre .1 .1 .1))))
+    sym (same-by-field layout.stepPositive (stepAt p i) (s .args .bytes .now) (omega arith)
+    (λ e. c .if2 .taken (held .positive-at .ensures
+    ∙ sym (field-stepAt p i (s .pre .0) layout.stepPositive 4 (omega arith)) ∙ e ∙ sym (own .positive-at2 .ensures))))
+
+mul-at : tie.Need-mul-at Inv-loop μ-loop
+mul-at c = search needs
 
 loop-holds : tie.Need-loop-holds Inv-loop μ-loop
 unfolding behind
@@ -68,22 +76,26 @@ shared-slice-read-if3 c = search needs
 shared-slice-read-if3-2 : tie.Need-shared-slice-read-if3-2 Inv-loop μ-loop
 shared-slice-read-if3-2 c = search needs
 
+-- at the loop's test, from the start on
+abbrev start : tie.At-loop Inv-loop μ-loop → tie.Start Inv-loop μ-loop
+start l = l .before .before .before .before .before .before .before .before .before
+
 -- the next byte of both
 next : (c : tie.In-loop Inv-loop μ-loop) →
     let l = c .before .loop in
-    let s = c .before .before .before .before .before .before .before .before in
+    let s = start (c .before) in
     let a = stepAt (s .args .proof .now) (s .args .i) in
     let b = s .args .bytes .now in
-    same eqb (behind a) (behind b) ≡ eqb (getD (s .args .proof .now) (64 * s .args .i + l .k) 0) (getD b (l .k) 0)
+    same eqb (behind a) (behind b) ≡ eqb (getD (s .args .proof .now) (limit.stepBytes * s .args .i + l .k) 0) (getD b (l .k) 0)
     && same eqb (drop (l .k + 1) a) (drop (l .k + 1) b)
 next c =
     let l = c .before .loop in
-    let s = c .before .before .before .before .before .before .before .before in
+    let s = start (c .before) in
     let p = s .args .proof .now in
     let i = s .args .i in
     let a = stepAt p i in
     let b = s .args .bytes .now in
-    let room : 64 * i + 64 ≤ length p = s .pre .0 in
+    let room : HasStep p i = s .pre .0 in
     l .inv .2
     ∙ same-next 0 eqb a b (l .k) (omega (arith, length-stepAt p i room)) (omega arith)
     ∙ ap (λ (x : ℕ). eqb x (getD b (l .k) 0) && same eqb (drop (l .k + 1) a) (drop (l .k + 1) b))
@@ -104,7 +116,7 @@ loop-again c = (omega arith, omega arith, next (c .before .before .before) ∙ r
 returns-4 : tie.Need-returns-4 Inv-loop μ-loop
 returns-4 c =
     let l = c .before .loop in
-    let s = c .before .before .before .before .before .before .before .before in
+    let s = start (c .before) in
     let p = s .args .proof .now in
     let i = s .args .i in
     sym (l .inv .2 ∙ same-end eqb (stepAt p i) (s .args .bytes .now) (l .k) (omega (arith, length-stepAt p i (s .pre .0))) (omega arith))
@@ -115,13 +127,13 @@ same-step-spec =
     (tie.spec
     Inv-loop
     μ-loop
-    mul-at
-    add-u32-at
-    u32-at-requires
+    bound-at-requires
+    bound-at-requires-2
     returns
-    add-u32-at-2
-    u32-at-requires-2
+    positive-at-requires
+    positive-at-requires-2
     returns-2
+    mul-at
     loop-holds
     add-if3
     shared-slice-read-if3

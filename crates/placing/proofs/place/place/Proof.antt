@@ -4,26 +4,27 @@ use mathlib.Core.List.{List}
 use Prim.Native.Nat.{ℕ, _*_}
 use native.Mathlib.Omega.{arith}
 use lib.ListN.{length}
-use Rattle.rules.specs.Steps.{Step}
+use Rattle.rules_types.specs.Limits as limit
 use Rattle.fields.specs.Field.{stored}
 use Rattle.lines.specs.Line.{meaning}
-use Rattle.steps.specs.Encoding.{headerOf, encoded}
-use Rattle.steps.specs.Held.{Words, stepOf, step-back, kept-new}
+use Rattle.steps.specs.Origin.{headerOf}
+use Rattle.steps.specs.Encoding.{encoded}
+use Rattle.steps.specs.Held.{Words, step-back, step-bytes}
 use Rattle.placing.specs.Point.{place-known, place-out-of-steps, place-new}
 use borrow.Author.Needs.{needs}
 use Rattle.placing.proofs.place.place.Statement.{statement}
 use Rattle.placing.proofs.place.place.Tie as tie
 
-abbrev step : tie.Start → Step
-step s = stepOf (s .args .how) (s .args .which) (s .args .first) (s .args .second) (s .args .line)
-
-words : (s : tie.Start) → Words (s .args .line)
+words : (s : tie.Start) → Words (s .args .step .line)
 words s = record {
   ready = s .pre .1 .0;
-  eight = search (needs, s .good);
-  positive = search (needs, s .good);
-  negative = search (needs, s .good);
+  eight = search (needs, s .good .1 .1 .0 .1);
+  positive = search (needs, s .good .1 .1 .0 .1);
+  negative = search (needs, s .good .1 .1 .0 .1);
 }
+
+abbrev start : tie.After-covered → tie.Start
+start a = a .before .before .before .before
 
 covered-requires : tie.Need-covered-requires
 covered-requires c κs = search needs
@@ -34,8 +35,8 @@ same-length c = search needs
 returns : tie.Need-returns
 returns c =
     let a = c .before in
-    let s = a .before .before .before in
-    place-known (s .args .p) (s .pre .0) (step s) (sym (a .covered .ensures) ∙ c .if1 .taken)
+    let s = start a in
+    place-known (s .args .p) (s .pre .0) (s .args .step) (sym (a .covered .ensures) ∙ c .if1 .taken)
 
 cast-if2 : tie.Need-cast-if2
 cast-if2 c = search needs
@@ -46,8 +47,8 @@ same-length-2 c = search needs
 returns-2 : tie.Need-returns-2
 returns-2 c =
     let a = c .before .before .before in
-    let s = a .before .before .before in
-    place-out-of-steps (s .args .p) (s .pre .0) (step s) (sym (a .covered .ensures) ∙ c .before .before .if1 .left) (omega arith)
+    let s = start a in
+    place-out-of-steps (s .args .p) (s .pre .0) (s .args .step) (sym (a .covered .ensures) ∙ c .before .before .if1 .left) (omega arith)
 
 encode-requires : tie.Need-encode-requires
 encode-requires c κs = search needs
@@ -58,8 +59,8 @@ put-requires c κs = search needs
 progress-of-requires : tie.Need-progress-of-requires
 progress-of-requires c κs = search needs
 
-add-t15 : tie.Need-add-t15
-add-t15 c = search needs
+add-t12 : tie.Need-add-t12
+add-t12 c = search needs
 
 same-length-3 : tie.Need-same-length-3
 same-length-3 c = search needs
@@ -69,16 +70,16 @@ returns-3 c =
     let k = c .before .before .before in
     let e = k .before .before in
     let b = e .before .before .before .before in
-    let s = b .before .before .before in
+    let s = start b in
     let a = s .args in
     let p = a .p in
-    let bytes = encoded (headerOf (a .how) (a .which) (a .first) (a .second)) (meaning (a .line)) in
-    let wrote : k .put .last .0 ≡ stored (64 * p .steps) bytes (a .proof .now) = k .put .ensures
-    ∙ ap (λ (x : List ℕ). stored (64 * p .steps) x (a .proof .now)) (e .encode .ensures) in
-    let whole : length bytes ≡ 64 = ap length (sym (e .encode .ensures)) ∙ search needs in
+    let bytes = encoded (headerOf (a .step .origin)) (meaning (a .step .line)) in
+    let wrote : k .put .last .0 ≡ stored (limit.stepBytes * p .steps) bytes (a .proof .now) = k .put .ensures
+    ∙ ap (λ (x : List ℕ). stored (limit.stepBytes * p .steps) x (a .proof .now)) (e .encode .ensures) in
+    let whole : length bytes ≡ limit.stepBytes = ap length (sym (e .encode .ensures)) ∙ search needs in
     rw (wrote, c .progress-of .ensures)
-    (place-new p (s .pre .0) (step s) (sym (b .covered .ensures) ∙ e .before .before .before .if1 .left) bytes
-    (kept-new (s .pre .1 .1) (a .line) (words s)) (step-back (s .pre .1 .1) (a .line) (words s)) (omega arith) whole)
+    (place-new p (s .pre .0) (s .args .step) (sym (b .covered .ensures) ∙ e .before .before .before .if1 .left) bytes
+    (step-bytes (a .step) (s .pre .1 .1) (words s)) (step-back (a .step) (s .pre .1 .1) (words s)) (omega arith) whole)
 
 pub place-spec : {M : Type 1} → statement M
 place-spec =
@@ -93,6 +94,6 @@ place-spec =
     encode-requires
     put-requires
     progress-of-requires
-    add-t15
+    add-t12
     same-length-3
     returns-3)

@@ -1,9 +1,10 @@
--- `walk::next` meets its contract: the sum is the clause's end, which is in the slice.
+-- `places::next` meets its contract: the sum is the clause's end, which is in the slice.
 use mathlib.Core.Path.{_≡_, sym}
 use Prim.Native.Nat.{_+_, _*_}
 use native.Mathlib.Omega.{arith}
 use lib.ListN.{getD}
 use borrow.Author.Needs.{needs}
+use Rattle.rules_types.specs.Layout.{constraintBytes}
 use Rattle.problem_scan.specs.Values.{clauseEnd}
 use Rattle.problem_clauses.specs.Walk.{clauseEnd-is, count-within}
 use Rattle.problem_clauses.proofs.places.next.Statement.{statement}
@@ -12,17 +13,11 @@ use Rattle.problem_clauses.proofs.places.next.Tie as tie
 count-place-requires : tie.Need-count-place-requires
 count-place-requires c κs = let s = c .before in count-within (s .args .q .now) (s .args .r) (s .args .at) (s .pre)
 
-mul-size : tie.Need-mul-size
-mul-size c = search needs
-
-add-size : tie.Need-add-size
-add-size c = search needs
-
 -- the end, by the place that the call gave
 end-is : (c : tie.After-count-place)
     → let s = c .before .before in
     clauseEnd (s .args .q .now) (s .args .r) (s .args .at)
-    ≡ c .count-place .result + 1 + getD (s .args .q .now) (c .count-place .result) 0 * (5 + s .args .r * 4)
+    ≡ c .count-place .result + 1 + getD (s .args .q .now) (c .count-place .result) 0 * constraintBytes (s .args .r)
 end-is c = let s = c .before .before in
     clauseEnd-is (s .args .q .now) (s .args .r) (s .args .at) (c .count-place .result) (c .count-place .ensures)
 
@@ -35,25 +30,33 @@ shared-slice-read-result c = let s = c .before .before .before in omega (arith, 
 cast-result : tie.Need-cast-result
 cast-result c = omega (arith, c .shared-slice-known2 .given (c .before .count-place .result))
 
+constraint-bytes-requires : tie.Need-constraint-bytes-requires
+constraint-bytes-requires c κs = search needs
+
 mul-result : tie.Need-mul-result
-mul-result c = let s = c .before .before .before in omega (arith, end-is (c .before), s .pre, s .good)
+mul-result c =
+    let k = c .before .before in
+    let s = k .before .before in
+    rw (c .constraint-bytes .ensures) (omega (arith, end-is k, s .pre, s .good))
 
 add-result-2 : tie.Need-add-result-2
-add-result-2 c = let s = c .before .before .before in omega (arith, end-is (c .before), s .pre, s .good)
+add-result-2 c =
+    let k = c .before .before in
+    let s = k .before .before in
+    rw (c .constraint-bytes .ensures) (omega (arith, end-is k, s .pre, s .good))
 
 returns : tie.Need-returns
-returns c = sym (end-is (c .before))
+returns c = rw (c .constraint-bytes .ensures) (sym (end-is (c .before .before)))
 
 pub next-spec : {M : Type 1} → statement M
 next-spec =
     tie.close
     (tie.spec
     count-place-requires
-    mul-size
-    add-size
     add-result
     shared-slice-read-result
     cast-result
+    constraint-bytes-requires
     mul-result
     add-result-2
     returns)

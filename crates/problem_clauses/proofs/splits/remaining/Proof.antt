@@ -12,17 +12,14 @@ Inv-loop q from r count size at₀ left₀ n₀ at left n = Keeping q r from cou
 abbrev μ-loop : tie.MeasureT-loop
 μ-loop q from r count size at₀ left₀ n₀ at left n = left
 
-mul-size : tie.Need-mul-size Inv-loop μ-loop
-mul-size c = search needs
-
-add-size : tie.Need-add-size Inv-loop μ-loop
-add-size c = search needs
+constraint-bytes-requires : tie.Need-constraint-bytes-requires Inv-loop μ-loop
+constraint-bytes-requires c κs = search needs
 
 loop-holds : tie.Need-loop-holds Inv-loop μ-loop
 loop-holds c = record { end = refl; few = omega arith; same = refl }
 
 settled-requires : tie.Need-settled-requires Inv-loop μ-loop
-settled-requires c κs = omega (arith, keeping-within (c .before .loop .inv) (c .loop-test .taken), c .before .before .before .pre)
+settled-requires c κs = omega (arith, keeping-within (c .before .loop .inv) (c .loop-test .taken), c .before .before .before .before .pre)
 
 is-always-requires : tie.Need-is-always-requires Inv-loop μ-loop
 is-always-requires c κs = search needs
@@ -46,14 +43,15 @@ add-n c =
       weight-≤ (a .settled .result),
       t .before .loop .inv .few,
       t .loop-test .taken,
-      t .before .before .before .fits .count,
+      t .before .before .before .before .fits .count,
     )
 
 add-at : tie.Need-add-at Inv-loop μ-loop
 add-at c =
     let t = c .before .before .before .before in
-    let s = t .before .before .before in
-    omega (arith, keeping-within (t .before .loop .inv) (t .loop-test .taken), s .pre, s .good)
+    let b = t .before .before in
+    let s = b .before .before in
+    omega (arith, b .constraint-bytes .ensures, keeping-within (t .before .loop .inv) (t .loop-test .taken), s .pre, s .good)
 
 sub-left : tie.Need-sub-left Inv-loop μ-loop
 sub-left c = search needs
@@ -64,7 +62,7 @@ loop-less c = search needs
 loop-again : tie.Need-loop-again Inv-loop μ-loop
 loop-again c =
     let a = c .before .before .before in
-    rw (c .weight .ensures)
+    rw (a .before .before .before .constraint-bytes .ensures, c .weight .ensures)
     (keeping-next (a .before .before .loop .inv) (a .before .loop-test .taken) (a .settled .result) (a .settled .ensures)
     (sym (c .before .before .is-always .ensures) ∙ c .before .if1 .left))
 
@@ -77,8 +75,7 @@ remaining-spec =
     (tie.spec
     Inv-loop
     μ-loop
-    mul-size
-    add-size
+    constraint-bytes-requires
     loop-holds
     settled-requires
     is-always-requires

@@ -1,5 +1,5 @@
 -- `splits::settled` meets its contract: a law for each return.
-use mathlib.Core.Path.{_≡_, sym, ap, _∙_}
+use mathlib.Core.Path.{_≡_, sym, _∙_}
 use mathlib.Core.Bool.{true}
 use native.Mathlib.Omega.{arith}
 use borrow.Author.Tests.{not-true, not-false}
@@ -9,9 +9,10 @@ use lib.IntN.{pos}
 use lib.Dec.{eqb}
 use lib.ListN.{getD}
 use Prim.Native.Nat.{_+_}
+use Rattle.rules_types.specs.Layout as layout
 use Rattle.rules.specs.Lists.{all}
 use Rattle.rules.specs.Arithmetic.{isZero, related}
-use Rattle.problem_scan.specs.Values.{valuesAt, amountAt, behind-is}
+use Rattle.problem_scan.specs.Values.{valuesAt, amountAt, constraintAt, behind-is}
 use Rattle.problem_clauses.specs.Settled.{fate-kept, fate-always, fate-never}
 use borrow.Author.Needs.{needs, sfits-of}
 use Rattle.problem_clauses.proofs.splits.settled.Statement.{statement}
@@ -21,56 +22,47 @@ add-zeros : tie.Need-add-zeros
 add-zeros c = search needs
 
 zeros-requires : tie.Need-zeros-requires
-zeros-requires c κs = let s = c .before in omega (arith, behind-is 4 (s .args .r) (s .args .at + 1))
+zeros-requires c κs = let s = c .before in omega (arith, behind-is 4 (s .args .r) (s .args .at + layout.constraintCoefficients))
 
 returns : tie.Need-returns
 returns c = let s = c .before .before .before in
     sym (fate-kept (s .args .q .now) (s .args .r) (s .args .at) (sym (c .before .zeros .ensures) ∙ not-true _ (c .if1 .taken)))
 
-add-amount-at : tie.Need-add-amount-at
-add-amount-at c = search needs
+is-strict-requires : tie.Need-is-strict-requires
+is-strict-requires c κs = search needs
 
-mul-amount-at : tie.Need-mul-amount-at
-mul-amount-at c = search needs
-
-add-amount-at-2 : tie.Need-add-amount-at-2
-add-amount-at-2 c = search needs
-
-amount-at-requires : tie.Need-amount-at-requires
-amount-at-requires c κs = search needs
-
-shared-slice-read-zero-related : tie.Need-shared-slice-read-zero-related
-shared-slice-read-zero-related c = search needs
+bound-of-requires : tie.Need-bound-of-requires
+bound-of-requires c κs = search needs
 
 zero-related-requires : tie.Need-zero-related-requires
 zero-related-requires c κs = search needs
 
 zeros-hold : (c : tie.Else1) → let s = c .before .before .before in
-    all isZero (valuesAt (amountAt (s .args .q .now)) 4 (s .args .r) (s .args .at + 1)) ≡ true
+    all isZero (valuesAt (amountAt (s .args .q .now)) 4 (s .args .r) (s .args .at + layout.constraintCoefficients)) ≡ true
 zeros-hold c = sym (c .before .zeros .ensures) ∙ not-false _ (c .if1 .left)
 
-test-is : (c : tie.After-zero-related)
-    → let a = c .before .before in let s = a .before .before .before .before in
-    related (eqb (getD (s .args .q .now) (s .args .at) 0) 2) (pos 0) (a .amount-at .result) ≡ c .zero-related .result
+-- the test is the definition's
+test-is : (c : tie.After-zero-related) → let s = c .before .before .before .before .before .before in
+    c .zero-related .result
+    ≡ related (eqb (getD (s .args .q .now) (s .args .at) 0) 2) (pos 0) (constraintAt (s .args .q .now) (s .args .r) (s .args .at) .bound)
 test-is c =
-    let a = c .before .before in
-    let s = a .before .before .before .before in
-    sym (c .zero-related .ensures
-    ∙ ap (related (eqb (getD (s .args .q .now) (s .args .at) 0) 2) (pos 0)) (toZ-ofZ {w = w64} (sfits-of (a .amount-at .ok))))
+    let b = c .before in
+    let bound = toZ-ofZ {w = w64} (sfits-of (b .bound-of .ok)) ∙ b .bound-of .ensures in
+    c .zero-related .ensures ∙ (λ i. related (b .before .is-strict .ensures i) (pos 0) (bound i))
 
 returns-2 : tie.Need-returns-2
 returns-2 c =
-    let a = c .before .before .before in
-    let s = a .before .before .before .before in
-    sym (fate-always (s .args .q .now) (s .args .r) (s .args .at) (zeros-hold (a .before)) (a .amount-at .result) (a .amount-at .ensures)
-    (test-is (c .before) ∙ c .if2 .taken))
+    let z = c .before in
+    let e = z .before .before .before in
+    let s = e .before .before .before in
+    sym (fate-always (s .args .q .now) (s .args .r) (s .args .at) (zeros-hold e) (z .zero-related .result) (test-is z) (c .if2 .taken))
 
 returns-3 : tie.Need-returns-3
 returns-3 c =
-    let a = c .before .before .before in
-    let s = a .before .before .before .before in
-    sym (fate-never (s .args .q .now) (s .args .r) (s .args .at) (zeros-hold (a .before)) (a .amount-at .result) (a .amount-at .ensures)
-    (test-is (c .before) ∙ c .if2 .left))
+    let z = c .before in
+    let e = z .before .before .before in
+    let s = e .before .before .before in
+    sym (fate-never (s .args .q .now) (s .args .r) (s .args .at) (zeros-hold e) (z .zero-related .result) (test-is z) (c .if2 .left))
 
 pub settled-spec : {M : Type 1} → statement M
 settled-spec =
@@ -79,11 +71,8 @@ settled-spec =
     add-zeros
     zeros-requires
     returns
-    add-amount-at
-    mul-amount-at
-    add-amount-at-2
-    amount-at-requires
-    shared-slice-read-zero-related
+    is-strict-requires
+    bound-of-requires
     zero-related-requires
     returns-2
     returns-3)

@@ -4,9 +4,10 @@ use mathlib.Core.Bool.{Bool, true, false}
 use native.Mathlib.Omega.{arith}
 use Prim.Native.Nat.{_+_, _*_, _<_}
 use lib.ListN.{length, getD}
+use Rattle.rules_types.specs.Layout as layout
 use Rattle.rules.specs.Normalize.{settledAll}
 use Rattle.rules.specs.Split.{splitsOf}
-use Rattle.problem_scan.specs.Values.{valuesAt, constraintAt, clauseAt}
+use Rattle.problem_scan.specs.Values.{valuesAt, constraintAt, constraintsAt, clauseAt}
 use Rattle.problem_clauses.specs.Walk.{count-within, clause-within, literals-within, constraints-within}
 use Rattle.problem_clauses.specs.Remaining.{counted}
 use Rattle.problem_clauses.specs.Splits.{splitsBy, splits-at}
@@ -34,7 +35,7 @@ meets-requires c κs = search needs
 known : (c : tie.After-meets) (m : Bool) → c .meets .result ≡ m
     → let p = c .before .before .before in let s = p .before .before in
     splitsOf (clauseAt (s .args .q .now) (s .args .r) (s .args .at))
-    ≡ splitsBy m (counted 0 (settledAll (valuesAt (constraintAt (s .args .q .now) (s .args .r)) (5 + s .args .r * 4)
+    ≡ splitsBy m (counted 0 (settledAll (constraintsAt (s .args .q .now) (s .args .r)
     (getD (s .args .q .now) (p .count-place .result) 0) (p .count-place .result + 1))))
 known c m e =
     let l = c .before in

@@ -28,12 +28,12 @@ begin-requires c κs = (c .before .pre .1 .0, c .before .pre .1 .1)
 
 loop-holds : tie.Need-loop-holds Inv-loop μ-loop
 loop-holds c = record {
-  cursor = c .begin .ensures .1;
+  sound = c .begin .ensures .1 .0;
   same = ap (λ (ls : List rules.Line). getElem? ls (c .before .before .args .j)) (c .begin .ensures .0);
 }
 
 first-requires : tie.Need-first-requires Inv-loop μ-loop
-first-requires c κs = (c .before .before .before .before .before .before .pre .0, c .before .before .before .loop .inv .cursor)
+first-requires c κs = (c .before .before .before .before .before .before .pre .0, c .before .before .before .loop .inv .sound)
 
 returns : tie.Need-returns Inv-loop μ-loop
 returns c =
@@ -46,7 +46,7 @@ returns c =
 
 next-requires : tie.Need-next-requires Inv-loop μ-loop
 next-requires c κs =
-    (c .before .before .before .before .before .before .pre .0, (c .before .before .before .loop .inv .cursor, not-false _ (c .if1 .left)))
+    (c .before .before .before .before .before .before .pre .0, (c .before .before .before .loop .inv .sound, not-false _ (c .if1 .left)))
 
 sub-left : tie.Need-sub-left Inv-loop μ-loop
 sub-left c = search needs
@@ -64,7 +64,7 @@ loop-again c =
     (n .result .rest) (n .ensures .0) (n .ensures .1 .1)
 
 first-requires-2 : tie.Need-first-requires-2 Inv-loop μ-loop
-first-requires-2 c κs = (c .before .before .before .before .pre .0, c .before .loop .inv .cursor)
+first-requires-2 c κs = (c .before .before .before .before .pre .0, c .before .loop .inv .sound)
 
 returns-2 : tie.Need-returns-2 Inv-loop μ-loop
 returns-2 c =

@@ -7,13 +7,15 @@ use borrow.Author.Needs.{needs}
 use lib.ListN.{length, getD}
 use mir.Syntax.{w64}
 use mir.Val.{Fits}
+use Rattle.rules_types.specs.Limits.{allBooleans}
 use Rattle.theory_lists.specs.Tests.{of-true}
 use Rattle.rules.specs.Lines.{meet}
 use Rattle.masks.specs.Mask.{bits}
 use Rattle.problem_scan.specs.Values.{countOf, clauseEnd}
+use Rattle.problem_clauses.specs.declared.splits.Staying.the-variants.{Dropped, Count}
 use Rattle.problem_clauses.specs.Walk.{count-within, clause-within}
 use Rattle.problem_parts.specs.declared.parts.Parts.{Parts}
-use Rattle.problem_parts.specs.Parts.{Cursor, Started, begin-clash, begin-dropped, begin-kept, begin-cursor}
+use Rattle.problem_parts.specs.Parts.{SoundParts, Started, begin-clash, begin-dropped, begin-kept, begin-sound, begin-splits}
 use Rattle.problem_parts.proofs.parts.begin.Statement.{statement}
 use Rattle.problem_parts.proofs.parts.begin.Tie as tie
 
@@ -50,7 +52,7 @@ add-remaining c = place-fits (c .before .before .before)
 meets-requires : tie.Need-meets-requires
 meets-requires c κs = search needs
 
--- the cursor, with either answer
+-- the parts, with either answer
 first : tie.After-shared-slice-known3 → Bool → ℕ → Parts
 first c m n =
     let l = c .before .literals .result in
@@ -80,13 +82,13 @@ started c m n =
       negative = l .ensures .1;
     }
 
--- the cursor of a clause that is dropped
+-- those of a clause that is dropped
 dropped : (c : tie.After-shared-slice-known3) → let s = c .before .before .before .before .before in
-    Cursor (s .args .q .now) (s .args .r) (first c false 0)
+    SoundParts (s .args .q .now) (s .args .r) (first c false 0)
 unfolding first
 dropped c =
     let s = c .before .before .before .before .before in
-    begin-cursor (s .args .q .now) (s .args .r) (s .args .at) (first c false 0) (started c false 0) (s .pre .0)
+    begin-sound (s .args .q .now) (s .args .r) (s .args .at) (first c false 0) (started c false 0) (s .pre .0)
     (λ e. absurd (of-true false e)) (omega (arith, s .pre .1))
 
 returns : tie.Need-returns
@@ -96,12 +98,16 @@ returns c =
     let s = k .before .before .before .before .before in (
       begin-clash (s .args .q .now) (s .args .r) (s .args .at) (first k false 0) (started k false 0) refl
           (sym (c .before .meets .ensures) ∙ c .if1 .taken),
-      dropped k,
+      (
+        dropped k,
+        begin-splits (s .args .q .now) (s .args .r) (s .args .at) (first k false 0) (started k false 0) true _
+            (sym (c .before .meets .ensures) ∙ c .if1 .taken) refl,
+      ),
     )
 
 -- no variable has both signs
 apart : (c : tie.Else1) → let l = c .before .before .before .literals .result in
-    meet (bits 32 (l .positive)) (bits 32 (l .negative)) ≡ false
+    meet (bits allBooleans (l .positive)) (bits allBooleans (l .negative)) ≡ false
 apart c = sym (c .before .meets .ensures) ∙ c .if1 .left
 
 add-remaining-2 : tie.Need-add-remaining-2
@@ -126,7 +132,11 @@ returns-2 c =
     let s = k .before .before .before .before .before in (
       begin-dropped (s .args .q .now) (s .args .r) (s .args .at) (first k false 0) (started k false 0) (apart (a .before)) refl
           (sym (a .remaining .ensures) ∙ c .enum-told .given .1),
-      dropped k,
+      (
+        dropped k,
+        begin-splits (s .args .q .now) (s .args .r) (s .args .at) (first k false 0) (started k false 0) false Dropped (apart (a .before))
+            (sym (c .enum-told .given .1) ∙ a .remaining .ensures),
+      ),
     )
 
 returns-3 : tie.Need-returns-3
@@ -138,8 +148,12 @@ returns-3 c =
     let s = k .before .before .before .before .before in
     let f : n < 256 = search (needs, c .known-told, c .before .k) in (
       begin-kept (s .args .q .now) (s .args .r) (s .args .at) (first k true n) (started k true n) (apart (a .before)) refl,
-      begin-cursor (s .args .q .now) (s .args .r) (s .args .at) (first k true n) (started k true n) (s .pre .0)
-          (λ e. sym (a .remaining .ensures) ∙ c .before .k .given .1) (omega (arith, s .pre .1, f)),
+      (
+        begin-sound (s .args .q .now) (s .args .r) (s .args .at) (first k true n) (started k true n) (s .pre .0)
+            (λ e. sym (a .remaining .ensures) ∙ c .before .k .given .1) (omega (arith, s .pre .1, f)),
+        begin-splits (s .args .q .now) (s .args .r) (s .args .at) (first k true n) (started k true n) false (Count n) (apart (a .before))
+            (sym (c .before .k .given .1) ∙ a .remaining .ensures),
+      ),
     )
 
 pub begin-spec : {M : Type 1} → statement M

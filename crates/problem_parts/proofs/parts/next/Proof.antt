@@ -7,6 +7,8 @@ use Prim.Native.Nat.{_+_, _*_, _<_}
 use mathlib.Core.Bool.{false}
 use mathlib.Core.Option.{some}
 use lib.Dec.{ltb}
+use Rattle.rules_types.specs.Limits.{allBooleans}
+use Rattle.rules_types.specs.Layout.{constraintBytes}
 use Rattle.theory_lists.specs.Tests.{of-true}
 use Rattle.rules.specs.Lines as rules
 use Rattle.rules.specs.Normalize.{reduced}
@@ -40,13 +42,13 @@ skip-requires c κs = let s = c .before .before .before in (s .pre .1 .0 .each, 
 own-requires : tie.Need-own-requires
 own-requires c κs = search needs
 
-kept-requires : tie.Need-kept-requires
-kept-requires c κs =
+reduced-line-requires : tie.Need-reduced-line-requires
+reduced-line-requires c κs =
     let s = c .before .before .before .before .before in
     let p = c .before .skip in (
       s .pre .0,
       (
-        each-first (SoundConstraint (s .args .q .now) (s .args .r)) (5 + s .args .r * 4) (p .result .left) (p .result .at)
+        each-first (SoundConstraint (s .args .q .now) (s .args .r)) (constraintBytes (s .args .r)) (p .result .left) (p .result .at)
             (p .ensures .more) (p .ensures .each),
         p .ensures .stays,
       ),
@@ -65,16 +67,16 @@ returns-2 c =
     let s = p .before .before .before .before in
     let parts = s .args .parts in
     let line : record {
-      positive = withSplit (ltb 1 (parts .stay)) (parts .split) (bits 32 (parts .positive));
+      positive = withSplit (ltb 1 (parts .stay)) (parts .split) (bits allBooleans (parts .positive));
       negative =
-          bits 32 (parts .negative);
+          bits allBooleans (parts .negative);
       constraint = some (reduced (constraintAt (s .args .q .now) (s .args .r) (p .skip .result .at)));
     }
-    ≡ meaning (k .kept .result) =
-    rw (← k .before .own .ensures) (sym (k .kept .ensures .0)) in (
+    ≡ meaning (k .reduced-line .result) =
+    rw (← k .before .own .ensures) (sym (k .reduced-line .ensures .0)) in (
       from-kept (s .args .q .now) (s .args .r) parts (s .pre .1 .0) (s .pre .1 .1) (p .skip .result) (p .skip .ensures)
           ∙ (λ i. line i ∷ sym (c .rest .ensures .0) i),
-      (k .kept .ensures .1, c .rest .ensures .1),
+      (k .reduced-line .ensures .1, c .rest .ensures .1),
     )
 
 pub next-spec : {M : Type 1} → statement M
@@ -85,6 +87,6 @@ next-spec =
     returns
     skip-requires
     own-requires
-    kept-requires
+    reduced-line-requires
     rest-requires
     returns-2)

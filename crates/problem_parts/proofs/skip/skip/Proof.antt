@@ -3,9 +3,11 @@ use mathlib.Core.Path.{_≡_, refl, sym, ap, _∙_}
 use mathlib.Core.Bool.{Bool, true, false, not, Bool·not-not}
 use native.Mathlib.Omega.{arith}
 use borrow.Author.Needs.{needs}
+use Prim.Native.Nat.{_<_}
 use Rattle.rules.specs.Lists.{all}
 use Rattle.rules.specs.Arithmetic.{isZero}
 use Rattle.problem_scan.specs.Values.{constraintAt}
+use Rattle.problem_scan.specs.Sound.{SoundConstraint}
 use Rattle.problem_parts.specs.Skip.{Skipping, skipping-more, skipping-sound, skipping-next}
 use Rattle.problem_parts.proofs.skip.skip.Statement.{statement}
 use Rattle.problem_parts.proofs.skip.skip.Tie as tie
@@ -16,73 +18,63 @@ Inv-loop q from r count stay size at₀ left₀ at left = Skipping q r from coun
 abbrev μ-loop : tie.MeasureT-loop
 μ-loop q from r count stay size at₀ left₀ at left = left
 
-mul-size : tie.Need-mul-size Inv-loop μ-loop
-mul-size c = search needs
-
-add-size : tie.Need-add-size Inv-loop μ-loop
-add-size c = search needs
+constraint-bytes-requires : tie.Need-constraint-bytes-requires Inv-loop μ-loop
+constraint-bytes-requires c κs = search needs
 
 loop-holds : tie.Need-loop-holds Inv-loop μ-loop
-loop-holds c = record { each = c .before .pre .0; same = refl; stays = c .before .pre .1 .0 }
+loop-holds c = let h = c .before .before .pre in record { each = h .0; same = refl; stays = h .1 .0 }
 
-stays-requires : tie.Need-stays-requires Inv-loop μ-loop
-stays-requires c κs =
+-- some constraint is left, and the one at hand is sound
+more : (c : tie.At-loop Inv-loop μ-loop) → 0 < c .loop .left
+more c =
     let l = c .loop in
-    let s = c .before .before in
+    let s = c .before .before .before in
+    skipping-more (s .args .q .now) (s .args .r) (s .args .from) (s .args .count) (s .args .stay) (l .at) (l .left) (l .inv) (s .pre .1 .1)
+
+sound : (c : tie.At-loop Inv-loop μ-loop) → let s = c .before .before .before in
+    SoundConstraint (s .args .q .now) (s .args .r) (c .loop .at)
+sound c =
+    let l = c .loop in
+    let s = c .before .before .before in
     skipping-sound (s .args .q .now) (s .args .r) (s .args .from) (s .args .count) (s .args .stay) (l .at) (l .left) (l .inv) (s .pre .1 .1)
 
+stays-requires : tie.Need-stays-requires Inv-loop μ-loop
+stays-requires c κs = sound c
+
 -- the test that was called is the definition's
-zeros-are : (c : tie.After-stays Inv-loop μ-loop) (t : Bool) → not (c .stays .result) ≡ t → all isZero
-    (constraintAt (c .before .before .before .args .q .now) (c .before .before .before .args .r) (c .before .loop .at) .coefficients) ≡ t
+zeros-are : (c : tie.After-stays Inv-loop μ-loop) (t : Bool) → not (c .stays .result) ≡ t
+    → let s = c .before .before .before .before in
+    all isZero (constraintAt (s .args .q .now) (s .args .r) (c .before .loop .at) .coefficients) ≡ t
 zeros-are c t e = sym (Bool·not-not _) ∙ sym (ap not (c .stays .ensures)) ∙ e
 
 add-at : tie.Need-add-at Inv-loop μ-loop
 add-at c =
-    let l = c .before .before .loop in
-    let s = c .before .before .before .before in
-    omega (
-      arith,
-      skipping-sound (s .args .q .now) (s .args .r) (s .args .from) (s .args .count) (s .args .stay) (l .at) (l .left) (l .inv)
-          (s .pre .1 .1) .within,
-      s .good,
-    )
+    let l = c .before .before in
+    let b = l .before in
+    omega (arith, b .constraint-bytes .ensures, sound l .within, b .before .before .good)
 
 sub-left : tie.Need-sub-left Inv-loop μ-loop
-sub-left c =
-    let l = c .before .before .loop in
-    let s = c .before .before .before .before in
-    omega (
-      arith,
-      skipping-more (s .args .q .now) (s .args .r) (s .args .from) (s .args .count) (s .args .stay) (l .at)
-          (l .left) (l .inv) (s .pre .1 .1),
-    )
+sub-left c = omega (arith, more (c .before .before))
 
 loop-less : tie.Need-loop-less Inv-loop μ-loop
-loop-less c =
-    let l = c .before .before .loop in
-    let s = c .before .before .before .before in
-    omega (
-      arith,
-      skipping-more (s .args .q .now) (s .args .r) (s .args .from) (s .args .count) (s .args .stay) (l .at)
-          (l .left) (l .inv) (s .pre .1 .1),
-    )
+loop-less c = omega (arith, more (c .before .before))
 
 loop-again : tie.Need-loop-again Inv-loop μ-loop
 loop-again c =
     let l = c .before .before .loop in
-    let s = c .before .before .before .before in
-    skipping-next (s .args .q .now) (s .args .r) (s .args .from) (s .args .count) (s .args .stay) (l .at) (l .left) (l .inv) (s .pre .1 .1)
-    (zeros-are (c .before) true (c .if1 .taken))
+    let b = c .before .before .before in
+    let s = b .before .before in
+    rw (b .constraint-bytes .ensures)
+    (skipping-next (s .args .q .now) (s .args .r) (s .args .from) (s .args .count) (s .args .stay) (l .at) (l .left) (l .inv) (s .pre .1 .1)
+    (zeros-are (c .before) true (c .if1 .taken)))
 
 returns : tie.Need-returns Inv-loop μ-loop
 returns c =
-    let l = c .before .before .loop in
-    let s = c .before .before .before .before in
+    let l = c .before .before in
     record {
-      more = skipping-more (s .args .q .now) (s .args .r) (s .args .from) (s .args .count) (s .args .stay) (l .at)
-          (l .left) (l .inv) (s .pre .1 .1);
-      each = l .inv .each;
-      same = l .inv .same;
+      more = more l;
+      each = l .loop .inv .each;
+      same = l .loop .inv .same;
       stays = zeros-are (c .before) false (c .if1 .left);
     }
 
@@ -92,8 +84,7 @@ skip-spec =
     (tie.spec
     Inv-loop
     μ-loop
-    mul-size
-    add-size
+    constraint-bytes-requires
     loop-holds
     stays-requires
     add-at

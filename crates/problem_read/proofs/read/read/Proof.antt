@@ -1,7 +1,7 @@
 -- `read::read` meets its contract: the scan's fault, or what counting the split variables gives.
 use mathlib.Core.Path.{sym, _∙_}
 use Rattle.problem_read.specs.Parsed.{Parsed, scan-parsed}
-use Rattle.problem_read.specs.Outcome.{outcome-fault, outcome-within, outcome-over}
+use Rattle.problem_read.specs.ScanOf.{scanOf-fault, scanOf-within, scanOf-over}
 use borrow.Author.Needs.{needs}
 use Rattle.problem_read.proofs.read.read.Statement.{statement}
 use Rattle.problem_read.proofs.read.read.Tie as tie
@@ -19,12 +19,12 @@ returns : tie.Need-returns
 returns c =
     let a = c .before .before in
     let s = a .before .before in
-    c .enum-told .given .1 ∙ sym (outcome-fault (s .args .q .now) _ _ (sym (a .scan .ensures) ∙ c .enum-told .given .1))
+    c .enum-told .given .1 ∙ sym (scanOf-fault (s .args .q .now) _ _ (sym (a .scan .ensures) ∙ c .enum-told .given .1))
 
 -- what the scan gave
 parsed : (c : tie.After-s) → let a = c .before .before in
-    Parsed (a .before .before .args .q .now) (c .s .given .0 .0) (c .s .given .0 .1 .0) (c .s .given .0 .1 .1 .0)
-parsed c = let a = c .before .before in scan-parsed (a .before .before .args .q .now) _ _ _ (sym (a .scan .ensures) ∙ c .s .given .1)
+    Parsed (a .before .before .args .q .now) (c .s .given .0 .0)
+parsed c = let a = c .before .before in scan-parsed (a .before .before .args .q .now) _ (sym (a .scan .ensures) ∙ c .s .given .1)
 
 over-requires : tie.Need-over-requires
 over-requires c κs = parsed (c .before) .within
@@ -39,14 +39,14 @@ returns-2 : tie.Need-returns-2
 returns-2 c =
     let o = c .before .before in
     let k = o .before .before in
-    sym (outcome-within (parsed k) (o .over .result) (o .over .ensures) (c .enum-told2 .given .1))
+    sym (scanOf-within (parsed k) (o .over .result) (o .over .ensures) (c .enum-told2 .given .1))
 
 returns-3 : tie.Need-returns-3
 returns-3 c =
     let e = c .before in
     let o = e .before .before in
     let k = o .before .before in
-    sym (outcome-over (parsed k) (o .over .result) (o .over .ensures) _ (e .e .given .1))
+    sym (scanOf-over (parsed k) (o .over .result) (o .over .ensures) _ (e .e .given .1))
 
 pub read-spec : {M : Type 1} → statement M
 read-spec =

@@ -4,7 +4,7 @@ use borrow.Author.Needs.{needs}
 use Rattle.rules.specs.Problem.{literal}
 use Rattle.problem_scan.specs.Run.{Run, run-start, run-done, run-stop, run-next}
 use Rattle.problem_scan.specs.Steady.{steady-literal}
-use Rattle.problem_scan.specs.Parts.{literal-short, literal-bad, literal-good}
+use Rattle.problem_scan.specs.Constraints.{literal-short, literal-bad, literal-good}
 use Rattle.problem_scan.proofs.clauses.literals.Statement.{statement}
 use Rattle.problem_scan.proofs.clauses.literals.Tie as tie
 

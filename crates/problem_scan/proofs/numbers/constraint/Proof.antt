@@ -4,8 +4,8 @@ use mathlib.Core.Bool.{true}
 use lib.ListN.{getD}
 use borrow.Author.Needs.{needs}
 use borrow.Author.Tests.{not-true, not-false}
-use Rattle.problem_scan.specs.Parts.{isRelation, constraint-short, constraint-bad, constraint-fault, constraint-within}
-use Rattle.problem_scan.specs.Parts.{constraint-bound}
+use Rattle.problem_scan.specs.Constraints.{isRelation, constraint-short, constraint-bad, constraint-fault, constraint-within}
+use Rattle.problem_scan.specs.Constraints.{constraint-bound}
 use Rattle.problem_scan.proofs.numbers.constraint.Statement.{statement}
 use Rattle.problem_scan.proofs.numbers.constraint.Tie as tie
 

@@ -1,6 +1,6 @@
 -- `numbers::is_relation` meets its contract. Assumes nothing.
 use borrow.Author.Tests.{eq-eqb, ne-eqb}
-use Rattle.problem_scan.specs.Parts.{isRelation}
+use Rattle.problem_scan.specs.Constraints.{isRelation}
 use Rattle.problem_scan.proofs.numbers.is_relation.Statement.{statement}
 use Rattle.problem_scan.proofs.numbers.is_relation.Tie as tie
 

@@ -2,8 +2,9 @@
 use mathlib.Core.Path.{sym, ap, _∙_}
 use native.Mathlib.Omega.{arith}
 use Prim.Native.Nat.{ℕ}
-use lib.ListN.{getD, drop}
-use Rattle.problem_scan.specs.Scans.{Header, outline, body, problem-short-b, problem-bad-b, problem-short-r, problem-bad-r}
+use lib.ListN.{drop}
+use Rattle.rules_types.specs.Layout as layout
+use Rattle.problem_scan.specs.Scans.{sizesAt, Header, outline, body, problem-short-b, problem-bad-b, problem-short-r, problem-bad-r}
 use Rattle.problem_scan.specs.Scans.{problem-short-n, problem-bad-n, problem-good}
 use borrow.Author.Needs.{needs}
 use Rattle.problem_scan.proofs.scan.problem.Statement.{statement}
@@ -16,7 +17,7 @@ shared-slice-read-b : tie.Need-shared-slice-read-b
 shared-slice-read-b c = search needs
 
 cast-if2 : tie.Need-cast-if2
-cast-if2 c = omega (arith, c .shared-slice-known2 .given 0)
+cast-if2 c = omega (arith, c .shared-slice-known2 .given layout.problemBooleans)
 
 returns-2 : tie.Need-returns-2
 returns-2 c =
@@ -35,7 +36,7 @@ shared-slice-read-r : tie.Need-shared-slice-read-r
 shared-slice-read-r c = search needs
 
 cast-if4 : tie.Need-cast-if4
-cast-if4 c = omega (arith, c .shared-slice-known3 .given 1)
+cast-if4 c = omega (arith, c .shared-slice-known3 .given layout.problemRationals)
 
 returns-4 : tie.Need-returns-4
 returns-4 c =
@@ -76,7 +77,11 @@ returns-7 c =
     let u = t6 .before in
     let q = u .before .before .before .before .before .before .before .before .before .args .q .now in
     c .body .ensures
-    ∙ ap (λ (n : ℕ). outline (body (getD q 0 0) (getD q 1 0) n (drop 4 q) 4)) (u .u16-at .ensures)
+    ∙ ap (λ (n : ℕ). outline (body (record {
+      booleans = sizesAt q .booleans;
+      rationals = sizesAt q .rationals;
+      clauses = n;
+    }) (drop layout.firstClause q) layout.firstClause)) (u .u16-at .ensures)
     ∙ ap outline (sym (problem-good q (header u) (rw (u .u16-at .ensures) at (t6 .if6 .left))))
 
 pub problem-spec : {M : Type 1} → statement M

@@ -22,8 +22,7 @@ whole-steps-requires c κs = search needs
 
 -- what reading gave
 known : (c : tie.After-s2) → Readable (c .before .before .before .before .before .args .input .now) (c .s2 .given .0 .0)
-    (c .s2 .given .0 .1 .0) (c .s2 .given .0 .1 .1 .0)
-known c = readable (c .before .before .before .before .before .args .input .now) _ _ _
+known c = readable (c .before .before .before .before .before .args .input .now) _
     (sym (c .before .before .read .ensures) ∙ c .s2 .given .1)
 
 returns : tie.Need-returns

@@ -1,4 +1,4 @@
--- `steps::check_steps` meets its contract. Invariant: the first i steps follow, and what is left decides. Assumes nothing.
+-- `follow::check_steps` meets its contract. Invariant: the first i steps follow, and what is left decides. Assumes nothing.
 use mathlib.Core.Path.{_≡_, sym, ap, subst, _∙_}
 use mathlib.Core.Bool.{Bool, true, false, cond}
 use mathlib.Core.List.{List}
@@ -12,39 +12,42 @@ use Rattle.rules.specs.Checker.{statedLine, checkProof}
 use Rattle.steps.specs.Places.{stepAt}
 use Rattle.steps.specs.Lines.{linesIn}
 use Rattle.step_check.specs.Stated.{States}
-use Rattle.proof_check.specs.Index.{problemOf}
+use Rattle.problem_read.specs.Parsed.{problemAt}
 use Rattle.proof_check.specs.Checking.{Following, following-start, following-done, following-stop, following-next}
 use Rattle.proof_check.proofs.follow.check_steps.Statement.{statement}
 use Rattle.proof_check.proofs.follow.check_steps.Tie as tie
 
 abbrev Inv-loop : tie.InvT-loop
-Inv-loop q sizes places variables proof count ends₀ i₀ ends i = Following (loadableOf (problemOf q sizes)) proof count ends i
+Inv-loop q sizes places variables proof count ends₀ i₀ ends i = Following (loadableOf (problemAt q sizes)) proof count ends i
 
 abbrev μ-loop : tie.MeasureT-loop
 μ-loop q sizes places variables proof count ends₀ i₀ ends i = count - i
 
 loop-holds : tie.Need-loop-holds Inv-loop μ-loop
 loop-holds c = let s = c .before .before .before .before in
-    following-start (loadableOf (problemOf (s .args .q .now) (s .args .sizes))) (s .args .proof .now) _
+    following-start (loadableOf (problemAt (s .args .q .now) (s .args .sizes))) (s .args .proof .now) _
 
 get-requires : tie.Need-get-requires Inv-loop μ-loop
 get-requires c κs = omega (arith, c .loop-test .taken)
 
+abbrev start : tie.At-loop Inv-loop μ-loop → tie.Start Inv-loop μ-loop
+start l = l .before .before .before .before .before
+
 line-stated-requires : tie.Need-line-stated-requires Inv-loop μ-loop
 line-stated-requires c κs =
     let k = c .before in
-    let s = k .before .before .before .before .before .before in
+    let s = start (k .before) in
     (s .pre, (omega (arith, k .loop-test .taken), k .before .loop .inv .ready))
 
 -- what step i states
 stated : (c : tie.After-line-stated Inv-loop μ-loop) → let l = c .before .before .before .loop in let a =
-    c .before .before .before .before .before .before .before .before .args in
-    States (statedLine (loadableOf (problemOf (a .q .now) (a .sizes))) (linesIn (a .proof .now) (l .i)) (stepAt (a .proof .now) (l .i)))
+    start (c .before .before .before) .args in
+    States (statedLine (loadableOf (problemAt (a .q .now) (a .sizes))) (linesIn (a .proof .now) (l .i)) (stepAt (a .proof .now) (l .i)))
     (stepAt (a .proof .now) (l .i)) (c .line-stated .result)
 stated c =
     let l = c .before .before .before .loop in
-    let a = c .before .before .before .before .before .before .before .before .args in
-    subst (λ (b : List ℕ). States (statedLine (loadableOf (problemOf (a .q .now) (a .sizes))) (linesIn (a .proof .now) (l .i)) b) b
+    let a = start (c .before .before .before) .args in
+    subst (λ (b : List ℕ). States (statedLine (loadableOf (problemAt (a .q .now) (a .sizes))) (linesIn (a .proof .now) (l .i)) b) b
     (c .line-stated .result)) (c .before .get .ensures) (c .line-stated .ensures)
 
 returns : tie.Need-returns Inv-loop μ-loop
@@ -61,7 +64,7 @@ is-empty-requires c κs = search needs
 add-i : tie.Need-add-i Inv-loop μ-loop
 add-i c =
     let n = c .before .before .before .before .before .before in
-    omega (arith, n .loop-test .taken, n .before .before .before .before .before .before .good)
+    omega (arith, n .loop-test .taken, start (n .before) .good)
 
 loop-less : tie.Need-loop-less Inv-loop μ-loop
 loop-less c = search needs

@@ -12,7 +12,8 @@ use Rattle.proof_check.proofs.index.index.Tie as tie
 
 abbrev Inv-loop : tie.InvT-loop
 Inv-loop q places₀ variables₀ r n at₀ variable₀ c₀ places variables at variable c = (length places ≡ length places₀)
-    × (length variables ≡ length variables₀) × Indexing q variable₀ r n places variables at variable c
+    × (length variables ≡ length variables₀)
+    × Indexing q (record { booleans = variable₀; rationals = r; clauses = n }) places variables at variable c
 
 abbrev μ-loop : tie.MeasureT-loop
 μ-loop q places₀ variables₀ r n at₀ variable₀ c₀ places variables at variable c = n - c

@@ -1,6 +1,7 @@
 -- `boolean::resolvent_boolean` meets its contract. Assumes nothing.
 use mathlib.Core.Path.{sym, ap, _∙_}
 use borrow.Author.Needs.{needs}
+use Rattle.rules_types.specs.Limits as limit
 use Rattle.rules.specs.Lines.{excluding}
 use Rattle.rules.specs.Resolve.{resolvent}
 use Rattle.rows.specs.Products.{amount-bits}
@@ -30,8 +31,8 @@ returns c =
     let l = s .args .lower in
     let from = k .constrained .result in
     let ready = k .constrained .ensures .1 in
-    let p = w .without .ensures ∙ ap (excluding i) (sym (union-bits 32 (u .positive) (l .positive))) in
-    let n = w₂ .without2 .ensures ∙ ap (excluding i) (sym (union-bits 32 (u .negative) (l .negative))) in
+    let p = w .without .ensures ∙ ap (excluding i) (sym (union-bits limit.allBooleans (u .positive) (l .positive))) in
+    let n = w₂ .without2 .ensures ∙ ap (excluding i) (sym (union-bits limit.allBooleans (u .negative) (l .negative))) in
     let b = amount-bits (from .bound) (ready .bound) in
     let x = ap (constraintOf (from .relation) (from .coefficients)) b ∙ k .constrained .ensures .0 in (
       λ j. record { positive = p j; negative = n j; constraint = x j },

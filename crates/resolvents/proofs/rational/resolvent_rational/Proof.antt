@@ -8,6 +8,7 @@ use lib.ListN.{getD}
 use mir.Syntax.{w64}
 use mir.Val.{toZ, ofZ}
 use mir.Facts.{toZ-ofZ}
+use Rattle.rules_types.specs.Limits as limit
 use Rattle.rules.specs.Resolve.{resolvent}
 use Rattle.theory_vectors.specs.Amounts.{Small}
 use Rattle.rows.specs.Products.{amount-bits, combine-≤}
@@ -17,6 +18,10 @@ use Rattle.resolvents.specs.Resolvent.{combination-is, constraints-agree
 use borrow.Author.Needs.{needs}
 use Rattle.resolvents.proofs.rational.resolvent_rational.Statement.{statement}
 use Rattle.resolvents.proofs.rational.resolvent_rational.Tie as tie
+
+-- at the entry
+abbrev entry : tie.After-factor → tie.Start
+entry c = c .before .before .before .before .before
 
 mul-a : tie.Need-mul-a
 mul-a c = search needs
@@ -37,10 +42,10 @@ factor-requires c κs =
     rw (amount-bits (getD (s .args .lower .coefficients) (s .args .f) (pos 0)) h) h
 
 -- what the factor is, as its bits say
-factor-is : (c : tie.After-factor) → toZ w64 (ofZ w64 (c .factor .result)) ≡ pos (natAbs (getD
-    (c .before .before .before .before .before .args .lower .coefficients) (c .before .before .before .before .before .args .f) (pos 0)))
+factor-is : (c : tie.After-factor) → let s = entry c in
+    toZ w64 (ofZ w64 (c .factor .result)) ≡ pos (natAbs (getD (s .args .lower .coefficients) (s .args .f) (pos 0)))
 factor-is c =
-    let s = c .before .before .before .before .before in
+    let s = entry c in
     let z = getD (s .args .lower .coefficients) (s .args .f) (pos 0) in
     let h : Small z = s .pre .1 .1 .0 .coefficients .small (s .args .f) in
     let e : c .factor .result ≡ pos (natAbs z) = c .factor .ensures ∙ ap (λ (t : ℤ). pos (natAbs t)) (amount-bits z h) in
@@ -48,7 +53,7 @@ factor-is c =
 
 combine-rows-requires : tie.Need-combine-rows-requires
 combine-rows-requires c κs =
-    let s = c .before .before .before .before .before in
+    let s = entry c in
     let u = s .pre .1 .0 in
     let l = s .pre .1 .1 .0 in
     let ha = u .coefficients .small (s .args .f) in (
@@ -59,7 +64,7 @@ combine-rows-requires c κs =
 combine-requires : tie.Need-combine-requires
 combine-requires c κs =
     let k = c .before .before .before in
-    let s = k .before .before .before .before .before in
+    let s = entry k in
     let u = s .pre .1 .0 in
     let l = s .pre .1 .1 .0 in
     let ha = u .coefficients .small (s .args .f) in (
@@ -88,7 +93,7 @@ unfolding meaning resolvent
 returns c =
     let m = c .before .before .before .before .before in
     let k = m .before .before .before .before in
-    let s = k .before .before .before .before .before in
+    let s = entry k in
     let f = s .args .f in
     let u = s .args .upper in
     let l = s .args .lower in
@@ -103,8 +108,8 @@ returns c =
     let e = combination-is f (u .coefficients) (u .bound) (l .coefficients) (l .bound) (u .relation) (l .relation) (hu .shaped .related)
     (hl .shaped .related) (hr .0) (hr .1) in
     let r = constraints-agree (c .stricter .ensures) row bound in
-    let p = sym (union-bits 32 (u .positive) (l .positive)) in
-    let n = sym (union-bits 32 (u .negative) (l .negative)) in
+    let p = sym (union-bits limit.allBooleans (u .positive) (l .positive)) in
+    let n = sym (union-bits limit.allBooleans (u .negative) (l .negative)) in
     let x = r ∙ e in (
       λ j. record { positive = p j; negative = n j; constraint = x j },
       (

@@ -1,6 +1,6 @@
 -- `pair::resolve` meets its contract. Assumes nothing.
 use mathlib.Core.Path.{subst}
-use Rattle.rounds.specs.Sides.{variableOf, Ranged}
+use Rattle.lines.specs.Order.{variableOf, Ranged}
 use borrow.Author.Needs.{needs}
 use Rattle.rounds.proofs.pair.resolve.Statement.{statement}
 use Rattle.rounds.proofs.pair.resolve.Tie as tie

@@ -1,4 +1,5 @@
 -- `pair::settle` meets its contract. Assumes nothing.
+use native.Mathlib.Omega.{arith}
 use Rattle.rounds.specs.Pairs.{named-pair, settle-dropped, settle-overflow, settle-made}
 use borrow.Author.Needs.{needs}
 use Rattle.rounds.proofs.pair.settle.Statement.{statement}
@@ -22,23 +23,21 @@ enum-told-3 c = search needs
 counted-requires-3 : tie.Need-counted-requires-3
 counted-requires-3 c κs = search needs
 
-how-of-requires : tie.Need-how-of-requires
-how-of-requires c κs = search needs
-
-which-of-requires : tie.Need-which-of-requires
-which-of-requires c κs = search needs
+origin-of-requires : tie.Need-origin-of-requires
+origin-of-requires c κs = search needs
 
 place-requires : tie.Need-place-requires
 place-requires c κs =
-    let h = c .before in
-    let k = h .before .before in
+    let o = c .before in
+    let k = o .before in
     let t = k .before .before in
     let s = t .before .before .before in
-    let q = s .pre .1 .1 in (
+    let h = s .pre .1 .0 in (
       rw (k .counted3 .ensures) (s .pre .0),
       (
-        q .1 .1 .ready (t .enum-told3 .given .1),
-        rw (h .how-of .ensures, c .which-of .ensures) (named-pair (s .args .v) (s .args .i) (s .args .j) (q .0) (q .1 .0)),
+        s .pre .1 .1 .ready (t .enum-told3 .given .1),
+        rw (o .origin-of .ensures)
+            (named-pair (s .args .parents) (omega (arith, h .upper-held, h .few)) (omega (arith, h .lower-held, h .few))),
       ),
     )
 
@@ -46,14 +45,14 @@ returns : tie.Need-returns
 returns c =
     let s = c .before .before .before .before in
     let a = s .args in
-    rw (c .counted .ensures) (settle-dropped (a .v) (a .i) (a .j) (a .r) (a .p) (a .pairs) (s .pre .0) (c .before .enum-told .given .1))
+    rw (c .counted .ensures) (settle-dropped (a .parents) (a .r) (a .p) (s .pre .0) (c .before .enum-told .given .1))
 
 returns-2 : tie.Need-returns-2
 returns-2 c =
     let s = c .before .before .before .before in
     let a = s .args in
     rw (c .counted2 .ensures)
-    (settle-overflow (a .v) (a .i) (a .j) (a .r) (a .p) (a .pairs) (s .pre .1 .1 .1 .1) (s .pre .0) (c .before .enum-told2 .given .1))
+    (settle-overflow (a .parents) (a .r) (a .p) (s .pre .1 .1) (s .pre .0) (c .before .enum-told2 .given .1))
 
 same-length : tie.Need-same-length
 same-length c = search needs
@@ -61,15 +60,13 @@ same-length c = search needs
 returns-3 : tie.Need-returns-3
 returns-3 c =
     let k = c .before .before in
-    let w = k .before in
-    let h = w .before in
-    let n = h .before .before in
+    let o = k .before .before in
+    let n = o .before in
     let t = n .before .before in
     let s = t .before .before .before in
     let a = s .args in
-    settle-made (a .v) (a .i) (a .j) (a .r) (a .p) (a .pairs) (s .pre .1 .1 .1 .1) (t .enum-told3 .given .1)
-    (k .place .last .0) (k .place .result)
-    (rw (h .how-of .ensures, w .which-of .ensures, n .counted3 .ensures) at (k .place .ensures))
+    settle-made (a .parents) (a .r) (a .p) (s .pre .1 .1) (t .enum-told3 .given .1) (k .place .last .0) (k .place .result)
+    (rw (o .origin-of .ensures, n .counted3 .ensures) at (k .place .ensures))
 
 pub settle-spec : {M : Type 1} → statement M
 settle-spec =
@@ -81,8 +78,7 @@ settle-spec =
     counted-requires-2
     enum-told-3
     counted-requires-3
-    how-of-requires
-    which-of-requires
+    origin-of-requires
     place-requires
     returns
     returns-2

@@ -1,7 +1,7 @@
 -- `pair::which_of` meets its contract. Assumes nothing.
 use mathlib.Core.Path.{sym, subst}
 use native.Mathlib.Omega.{arith}
-use Rattle.rounds.specs.Sides.{Ranged}
+use Rattle.lines.specs.Order.{Ranged}
 use Rattle.rounds.specs.Pairs.{whichOf}
 use borrow.Author.Needs.{needs}
 use Rattle.rounds.proofs.pair.which_of.Statement.{statement}

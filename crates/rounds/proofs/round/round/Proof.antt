@@ -1,5 +1,5 @@
--- `round::round` meets its contract. Invariants: the pairs that are left at each loop's test come to what the turn comes to; of the lowers,
--- whatever the turn began with. Assumes nothing.
+-- `round::round` meets its contract. Invariants: the pairs that are left at each loop's test come to what the round comes to; of the
+-- lowers, whatever the round began with. Assumes nothing.
 use mathlib.Core.Path.{refl, sym, _∙_}
 use mathlib.Core.List.{List}
 use Prim.Native.Nat.{ℕ, _+_, _*_, _-_, _<_}
@@ -27,6 +27,13 @@ Inv-pairs proof₀ t v limits m first i₀ p₀ proof i p = AtUpper limits v t p
 abbrev μ-pairs : tie.MeasureT-pairs
 μ-pairs proof₀ t v limits m first i₀ p₀ proof i p = m - i
 
+-- the loop over the uppers that a loop over the lowers is in, and the start
+abbrev uppers : tie.At-loop Inv-loop μ-loop Inv-pairs μ-pairs → tie.At-pairs Inv-loop μ-loop Inv-pairs μ-pairs
+uppers l = l .before .before .before .before
+
+abbrev begun : tie.At-pairs Inv-loop μ-loop Inv-pairs μ-pairs → tie.Start Inv-loop μ-loop Inv-pairs μ-pairs
+begun u = u .before .before .before .before .before .before
+
 next-requires : tie.Need-next-requires Inv-loop μ-loop Inv-pairs μ-pairs
 next-requires c κs = let s = c .before .before in (s .pre .0 .held, (omega arith, s .pre .1 .1 .0))
 
@@ -43,34 +50,34 @@ line-at-requires c κs = search needs
 loop-holds : tie.Need-loop-holds Inv-loop μ-loop Inv-pairs μ-pairs
 loop-holds c =
     λ start from w.
-    let a = c .before .before .before .before .before .before .before .before .before .args in
+    let a = begun (c .before .before .before) .args in
     let h = w .steps in
     lower-first (a .limits) (a .v) (a .t) start from (w .standing) (w .at) (omega arith) (w .first-lower)
 
 -- before the loop over the lowers
 entered : (c : tie.At-loop Inv-loop μ-loop Inv-pairs μ-pairs) →
-    let u = c .before .before .before .before in
-    let a = u .before .before .before .before .before .before .args in
+    let u = uppers c in
+    let a = begun u .args in
     Entered (a .limits) (a .v) (a .t) (a .from .steps) (u .before .before .before .next .result) (a .proof .now) (a .from) (u .pairs .proof)
     (u .pairs .p) (u .pairs .i)
 entered c =
-    let u = c .before .before .before .before in
-    let s = u .before .before .before .before .before .before in
+    let u = uppers c in
+    let s = begun u in
     record { steps = refl; standing = s .pre .0; first-lower = u .before .before .before .next .ensures; at = u .pairs .inv }
 
 -- at its test
 lower : (c : tie.At-loop Inv-loop μ-loop Inv-pairs μ-pairs) →
-    let u = c .before .before .before .before in
-    let a = u .before .before .before .before .before .before .args in
+    let u = uppers c in
+    let a = begun u .args in
     AtLower (a .limits) (a .v) (a .t) (a .proof .now) (a .from) (c .loop .proof) (c .loop .p) (u .pairs .i) (c .loop .j)
-lower c = let a = c .before .before .before .before .before .before .before .before .before .before .args in
+lower c = let a = begun (uppers c) .args in
     c .loop .inv (a .proof .now) (a .from) (entered c)
 
 pair-requires : tie.Need-pair-requires Inv-loop μ-loop Inv-pairs μ-pairs
 pair-requires c κs =
     let l = c .before .before in
-    let u = l .before .before .before .before in
-    let s = u .before .before .before .before .before .before in
+    let u = uppers l in
+    let s = begun u in
     let a = s .args in
     let r = lower l in
     let room = s .pre .0 .held .room in
@@ -87,14 +94,14 @@ pair-requires c κs =
 -- the pair tried
 tried : (c : tie.After-pair Inv-loop μ-loop Inv-pairs μ-pairs) →
     let l = c .before .before .before in
-    let u = l .before .before .before .before in
-    let a = u .before .before .before .before .before .before .args in
+    let u = uppers l in
+    let a = begun u .args in
     Underway (a .limits) (a .v) (a .t) (a .proof .now) (a .from) (c .pair .last .0) (c .pair .result) (laterLowers (a .limits) (a .v) (a .t)
     (a .proof .now) (a .from) (u .pairs .i) (l .loop .j + 1)) (65536 * u .pairs .i + (l .loop .j + 1))
 tried c =
     let l = c .before .before .before in
-    let u = l .before .before .before .before in
-    let s = u .before .before .before .before .before .before in
+    let u = uppers l in
+    let s = begun u in
     let a = s .args in
     underway-pair (a .limits) (a .v) (a .t) (a .proof .now) (a .from) (s .pre .0) (lower l) (omega arith)
     (u .pairs .inv .upper (omega arith)) (omega arith) (c .pair .ensures)
@@ -103,8 +110,7 @@ is-running-requires : tie.Need-is-running-requires Inv-loop μ-loop Inv-pairs μ
 is-running-requires c κs = search needs
 
 add-next : tie.Need-add-next Inv-loop μ-loop Inv-pairs μ-pairs
-add-next c = let s = c .before .before .before .before .before .before .before .before .before .before .before .before .before .before
-    .before .before .before .before in
+add-next c = let s = begun (uppers (c .before .before .before .before .before .before .before .before)) in
     omega (arith, c .before .before .before .before .before .before .before .loop-test .taken, s .pre .0 .few, s .pre .1 .1 .1 .0)
 
 next-requires-3 : tie.Need-next-requires-3 Inv-loop μ-loop Inv-pairs μ-pairs
@@ -115,7 +121,7 @@ next-requires-3 c κs =
       held-fewer (r .standing .held) (r .grows),
       (
         omega arith,
-        k .before .before .before .before .before .before .before .before .before .before .before .before .before .pre .1 .1 .0,
+        begun (uppers (k .before .before .before)) .pre .1 .1 .0,
       ),
     )
 
@@ -128,8 +134,8 @@ loop-again c =
     let e = c .before .before in
     let k = e .before .before .before .before in
     let l = k .before .before .before in
-    let u = l .before .before .before .before in
-    let a = u .before .before .before .before .before .before .args in
+    let u = uppers l in
+    let a = begun u .args in
     let h = w .steps in
     let i : u .pairs .i < from .steps = omega (arith, l .before .before .before .pairs-test) in
     let j : l .loop .j < from .steps = omega (arith, k .before .before .loop-test) in
@@ -146,7 +152,7 @@ next-requires-4 c κs =
       held-fewer (r .standing .held) (r .grows),
       (
         omega (arith, l .before .before .before .pairs-test),
-        l .before .before .before .before .before .before .before .before .before .before .pre .1 .1 .0,
+        begun (uppers l) .pre .1 .1 .0,
       ),
     )
 
@@ -156,7 +162,7 @@ pairs-less c = search needs
 pairs-again : tie.Need-pairs-again Inv-loop μ-loop Inv-pairs μ-pairs
 pairs-again c =
     let l = c .before .before .before in
-    let s = l .before .before .before .before .before .before .before .before .before .before in
+    let s = begun (uppers l) in
     let a = s .args in
     upper-next (a .limits) (a .v) (a .t) (a .proof .now) (a .from) (s .pre .0) (lower l) (omega (arith, c .before .before .loop-test))
     (omega (arith, s .pre .0 .few, s .pre .1 .1 .1 .0)) (c .next4 .ensures)
@@ -167,7 +173,7 @@ same-length c = search needs
 returns : tie.Need-returns Inv-loop μ-loop Inv-pairs μ-pairs
 returns c =
     let u = c .before in
-    let s = u .before .before .before .before .before .before in
+    let s = begun u in
     let a = s .args in
     let r = u .pairs .inv in (
       upper-done (a .limits) (a .v) (a .t) (a .proof .now) (a .from) (s .pre .0) r (omega arith),
@@ -181,8 +187,8 @@ returns-2 : tie.Need-returns-2 Inv-loop μ-loop Inv-pairs μ-pairs
 returns-2 c =
     let k = c .before .before .before .before in
     let l = k .before .before .before in
-    let u = l .before .before .before .before in
-    let s = u .before .before .before .before .before .before in
+    let u = uppers l in
+    let s = begun u in
     let a = s .args in
     let i : u .pairs .i < a .from .steps = omega (arith, l .before .before .before .pairs-test) in
     let j : l .loop .j < a .from .steps = omega (arith, k .before .before .loop-test) in (

@@ -1,9 +1,13 @@
--- `rounds::rounds` meets its contract. Invariant: the turns that are left come to what all turns come to. Assumes nothing.
-use mathlib.Core.Path.{sym, _∙_}
+-- `rounds::rounds` meets its contract. Invariant: the rounds that are left come to what all rounds come to. Assumes nothing.
+use mathlib.Core.Path.{_≡_, sym, subst, _∙_}
 use Prim.Native.Nat.{_-_}
 use native.Mathlib.Omega.{arith}
 use borrow.Author.Needs.{needs}
 use borrow.Author.Tests.{not-true, not-false}
+use Rattle.rules_types.specs.Limits as limit
+use Rattle.lines.specs.declared.order.Round.the-variants.{Of}
+use Rattle.lines.specs.Order.{IsRound}
+use Rattle.placing.specs.declared.place.Progress.the-variants.{Running}
 use Rattle.placing.specs.Point.{running-yes}
 use Rattle.rounds.specs.Rounds.{AtRound, rounds-start, rounds-next, rounds-done, rounds-stay}
 use Rattle.rounds.proofs.sequence.rounds.Statement.{statement}
@@ -13,7 +17,7 @@ abbrev Inv-loop : tie.InvT-loop
 Inv-loop proof₀ limits p₀ t₀ proof p t = AtRound limits proof₀ p₀ proof p t
 
 abbrev μ-loop : tie.MeasureT-loop
-μ-loop proof₀ limits p₀ t₀ proof p t = 40 - t
+μ-loop proof₀ limits p₀ t₀ proof p t = limit.rounds - t
 
 loop-holds : tie.Need-loop-holds Inv-loop μ-loop
 loop-holds c = rounds-start (c .before .pre .0)
@@ -25,36 +29,56 @@ same-length : tie.Need-same-length Inv-loop μ-loop
 same-length c = search needs
 
 returns : tie.Need-returns Inv-loop μ-loop
-returns c = rounds-stay (c .before .before .before .loop .inv) (sym (c .before .is-running .ensures) ∙ not-true _ (c .if1 .taken))
+returns c = rounds-stay (c .before .before .loop .inv) (sym (c .before .is-running .ensures) ∙ not-true _ (c .if1 .taken))
 
-round-of-requires : tie.Need-round-of-requires Inv-loop μ-loop
-round-of-requires c κs =
-    let e = c .before in
-    let r = e .before in
-    let l = r .before .before in
-    let s = l .before .before in (
-      l .loop .inv .leads .standing,
-      (
-        running-yes (l .loop .p .progress) (sym (r .is-running .ensures) ∙ not-false _ (e .if1 .left)),
-        (s .pre .1 .0, omega (arith, l .loop .inv .counted, r .before .loop-test, s .pre .1 .1)),
-      ),
-    )
+round-at-requires : tie.Need-round-at-requires Inv-loop μ-loop
+round-at-requires c κs = search needs
 
-add-t : tie.Need-add-t Inv-loop μ-loop
-add-t c = search needs
+enum-known-v : tie.Need-enum-known-v Inv-loop μ-loop
+enum-known-v c = search needs
 
-loop-less : tie.Need-loop-less Inv-loop μ-loop
-loop-less c = search needs
+-- the elimination goes on
+going : (c : tie.Else1 Inv-loop μ-loop) → c .before .before .loop .p .progress ≡ Running
+going c = running-yes (c .before .before .loop .p .progress) (sym (c .before .is-running .ensures) ∙ not-false _ (c .if1 .left))
 
-loop-again : tie.Need-loop-again Inv-loop μ-loop
-loop-again c = let k = c .before .before in let l = k .before .before .before .before .before in
-    rounds-next (l .loop .inv) (omega arith) (k .round-of .ensures)
+-- a variable's round
+here : (c : tie.After-v Inv-loop μ-loop) → IsRound (c .before .before .before .before .before .loop .t) (Of (c .v .given .0 .0))
+here c = let r = c .before .before in subst (IsRound (r .before .before .before .loop .t)) (c .v .given .1) (r .round-at .ensures)
+
+round-requires : tie.Need-round-requires Inv-loop μ-loop
+round-requires c κs =
+    let v = c .before .before in
+    let e = v .before .before .before in
+    let l = e .before .before in
+    let s = l .before .before in
+    let b = l .loop .inv .counted in
+    let f = l .loop .inv .few in
+    (l .loop .inv .leads .standing, (going e, (here v .0, (s .pre .1 .0, omega (arith, b, f, s .pre .1 .1)))))
+
+enum-told : tie.Need-enum-told Inv-loop μ-loop
+enum-told c = search needs
 
 same-length-2 : tie.Need-same-length-2 Inv-loop μ-loop
 same-length-2 c = search needs
 
 returns-2 : tie.Need-returns-2 Inv-loop μ-loop
-returns-2 c = rounds-done (c .before .loop .inv) (omega arith)
+returns-2 c =
+    let r = c .before .before in
+    let l = r .before .before .before .loop in
+    rounds-done (l .inv) (subst (IsRound (l .t)) (c .enum-told .given .1) (r .round-at .ensures))
+
+add-t : tie.Need-add-t Inv-loop μ-loop
+add-t c = search needs
+
+loop-again : tie.Need-loop-again Inv-loop μ-loop
+loop-again c =
+    let r = c .before .before in
+    let v = r .before .before .before in
+    let e = v .before .before .before in
+    rounds-next (e .before .before .loop .inv) (v .v .given .0 .0) (here v) (going e) (r .round .ensures .0) (r .round .ensures .1)
+
+loop-less : tie.Need-loop-less Inv-loop μ-loop
+loop-less c = omega (arith, loop-again c .few)
 
 pub rounds-spec : {M : Type 1} → statement M
 rounds-spec =
@@ -66,9 +90,12 @@ rounds-spec =
     is-running-requires
     same-length
     returns
-    round-of-requires
+    round-at-requires
+    enum-known-v
+    round-requires
+    enum-told
+    same-length-2
+    returns-2
     add-t
     loop-less
-    loop-again
-    same-length-2
-    returns-2)
+    loop-again)

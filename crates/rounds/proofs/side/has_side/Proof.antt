@@ -1,6 +1,6 @@
 -- `side::has_side` meets its contract. Assumes nothing.
 use mathlib.Core.Path.{subst, _∙_}
-use Rattle.rounds.specs.Sides.{variableOf, Ranged}
+use Rattle.lines.specs.Order.{variableOf, Ranged}
 use borrow.Author.Needs.{needs}
 use Rattle.rounds.proofs.side.has_side.Statement.{statement}
 use Rattle.rounds.proofs.side.has_side.Tie as tie

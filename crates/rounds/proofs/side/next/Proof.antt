@@ -4,7 +4,8 @@ use Prim.Native.Nat.{_-_, _≤_}
 use native.Mathlib.Omega.{arith}
 use borrow.Author.Needs.{needs}
 use Rattle.steps.specs.Lines.{lineAt}
-use Rattle.rounds.specs.Sides.{variableOf, chosen, selected, selected-past}
+use Rattle.lines.specs.Order.{variableOf}
+use Rattle.rounds.specs.Sides.{chosen, selected, selected-past}
 use Rattle.rounds.proofs.side.next.Statement.{statement}
 use Rattle.rounds.proofs.side.next.Tie as tie
 

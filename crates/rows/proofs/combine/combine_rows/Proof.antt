@@ -8,6 +8,7 @@ use lib.ListN.{length, getD}
 use mir.Syntax.{w64}
 use mir.Val.{toZ, ofZ}
 use mir.Facts.{toZ-ofZ}
+use Rattle.rules_types.specs.Limits as limit
 use Rattle.rules.specs.Arithmetic.{combine}
 use Rattle.theory_vectors.specs.Dot.{getD-combine}
 use Rattle.rows.specs.Row.{Filled, filled-none, filled-more, filled-all, length-rows}
@@ -16,17 +17,18 @@ use Rattle.rows.proofs.combine.combine_rows.Statement.{statement}
 use Rattle.rows.proofs.combine.combine_rows.Tie as tie
 
 abbrev Inv-loop : tie.InvT-loop
-Inv-loop c a us ls out₀ i₀ out i = (i ≤ 8) × (length us ≡ 8) × (length ls ≡ 8) × Filled (combine (toZ w64 c) us (toZ w64 a) ls) i out
+Inv-loop c a us ls out₀ i₀ out i = (i ≤ limit.rationals) × (length us ≡ limit.rationals) × (length ls ≡ limit.rationals)
+    × Filled (combine (toZ w64 c) us (toZ w64 a) ls) i out
 
 abbrev μ-loop : tie.MeasureT-loop
-μ-loop c a us ls out₀ i₀ out i = 8 - i
+μ-loop c a us ls out₀ i₀ out i = limit.rationals - i
 
 loop-holds : tie.Need-loop-holds Inv-loop μ-loop
 loop-holds c =
     let us = c .args .t2 in
     let ls = c .args .t4 in
-    let hu : length us ≡ 8 = search needs in
-    let hl : length ls ≡ 8 = search needs in
+    let hu : length us ≡ limit.rationals = search needs in
+    let hl : length ls ≡ limit.rationals = search needs in
     (omega arith, hu, hl, filled-none _ _ (sym (length-rows _ us _ ls hu hl)))
 
 mul-x : tie.Need-mul-x Inv-loop μ-loop

@@ -9,16 +9,18 @@ use lib.ListN.{length, drop, getD}
 use mir.Syntax.{w64}
 use mir.Val.{toZ, SFits}
 use mir.Facts.{toZ-ofZ}
+use Rattle.rules_types.specs.Limits as limit
 use Rattle.rules.specs.Arithmetic.{gcd, gcdAll}
 use Rattle.theory_vectors.specs.GcdFold.{gcd-oneˡ, gcdAll-next, gcdAll-end}
 use Rattle.rows.proofs.content.content.Statement.{statement}
 use Rattle.rows.proofs.content.content.Tie as tie
 
 abbrev Inv-loop : tie.InvT-loop
-Inv-loop bound row g₀ i₀ g i = (i ≤ 8) × (length row ≡ 8) × (gcd g (gcdAll (drop i row)) ≡ gcdAll (toZ w64 bound ∷ row))
+Inv-loop bound row g₀ i₀ g i =
+    (i ≤ limit.rationals) × (length row ≡ limit.rationals) × (gcd g (gcdAll (drop i row)) ≡ gcdAll (toZ w64 bound ∷ row))
 
 abbrev μ-loop : tie.MeasureT-loop
-μ-loop bound row g₀ i₀ g i = 8 - i
+μ-loop bound row g₀ i₀ g i = limit.rationals - i
 
 size-requires : tie.Need-size-requires Inv-loop μ-loop
 size-requires c κs = search needs

@@ -8,16 +8,17 @@ use lib.ListN.{length, getD}
 use mir.Syntax.{w64}
 use mir.Val.{SFits}
 use mir.Facts.{toZ-ofZ}
+use Rattle.rules_types.specs.Limits as limit
 use Rattle.theory_vectors.specs.Constraint.{quotients, length-quotients, getD-quotients}
 use Rattle.rows.specs.Row.{Filled, filled-none, filled-more, filled-all, quotients-one}
 use Rattle.rows.proofs.content.divide.Statement.{statement}
 use Rattle.rows.proofs.content.divide.Tie as tie
 
 abbrev Inv-loop : tie.InvT-loop
-Inv-loop g row out₀ i₀ out i = (i ≤ 8) × (length row ≡ 8) × Filled (quotients g row) i out
+Inv-loop g row out₀ i₀ out i = (i ≤ limit.rationals) × (length row ≡ limit.rationals) × Filled (quotients g row) i out
 
 abbrev μ-loop : tie.MeasureT-loop
-μ-loop g row out₀ i₀ out i = 8 - i
+μ-loop g row out₀ i₀ out i = limit.rationals - i
 
 returns : tie.Need-returns Inv-loop μ-loop
 returns c = rw (c .if1 .taken) (sym (quotients-one (c .before .args .t1)))
@@ -25,7 +26,7 @@ returns c = rw (c .if1 .taken) (sym (quotients-one (c .before .args .t1)))
 loop-holds : tie.Need-loop-holds Inv-loop μ-loop
 loop-holds c =
     let row = c .before .args .t1 in
-    let h : length row ≡ 8 = search needs in
+    let h : length row ≡ limit.rationals = search needs in
     (omega arith, h, filled-none _ _ (sym (length-quotients (c .before .args .g) row ∙ h)))
 
 mul-z : tie.Need-mul-z Inv-loop μ-loop

@@ -6,7 +6,7 @@ use Rattle.rules.specs.Elimination.{order}
 use Rattle.rules.specs.Values.{walk}
 use Rattle.rules.specs.Model.{written}
 use Rattle.steps.specs.Lines.{linesIn}
-use Rattle.walk.specs.Outcome.{bytesOf, Kept}
+use Rattle.walk.specs.Reached.{bytesOf, WrittenInRange}
 use borrow.Author.Needs.{needs}
 use Rattle.solving.proofs.conclude.saturated.Statement.{statement}
 use Rattle.solving.proofs.conclude.saturated.Tie as tie
@@ -53,7 +53,7 @@ write-model-requires c κs =
     let w = f .before .before in
     let s = w .before .before .before .before in
     let e : w .walk .result .written ≡ true = search (needs, not-true, not-false, f .if1) in
-    let k : Kept true (w .walk .result .model) = rw e at (w .walk .ensures .1) in
+    let k : WrittenInRange true (w .walk .result .model) = rw e at (w .walk .ensures .1) in
     (s .pre .1 .1 .1 .1 .0, (s .pre .0, (s .pre .1 .0, k .amounts)))
 
 decided-requires : tie.Need-decided-requires

@@ -1,4 +1,4 @@
--- `decide::decide` meets its contract: a law for each end of the course. Assumes nothing.
+-- `decide::decide` meets its contract: a law for each end of the elimination. Assumes nothing.
 use Rattle.theory_splitting.specs.WellFormed.{WellFormed}
 use Rattle.theory_splitting.specs.Reading.{read-well-formed}
 use Rattle.problem_read.specs.Parsed.{problemAt}
@@ -7,13 +7,13 @@ use borrow.Author.Needs.{needs}
 use Rattle.solving.proofs.decide.decide.Statement.{statement}
 use Rattle.solving.proofs.decide.decide.Tie as tie
 
--- the question is well formed
+-- the problem is well formed
 formed : (c : tie.After-eliminate) → let a = c .before .before .before .before .before .args in
-    WellFormed (problemAt (a .input .now) (a .b) (a .r) (a .n))
+    WellFormed (problemAt (a .input .now) (a .sizes))
 formed c =
     let s = c .before .before .before .before .before in
     let a = s .args in
-    read-well-formed (a .input .now) (problemAt (a .input .now) (a .b) (a .r) (a .n)) (s .pre .0 .is-read)
+    read-well-formed (a .input .now) (problemAt (a .input .now) (a .sizes)) (s .pre .0 .is-read)
 
 eliminate-requires : tie.Need-eliminate-requires
 eliminate-requires c κs = search needs

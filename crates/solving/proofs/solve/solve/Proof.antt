@@ -1,6 +1,5 @@
 -- `solve::solve` meets its contract. Assumes nothing.
 use native.Mathlib.Omega.{arith}
-use Rattle.rules.specs.Calls.{solve}
 use borrow.Author.Needs.{needs}
 use Rattle.solving.proofs.solve.solve.Statement.{statement}
 use Rattle.solving.proofs.solve.solve.Tie as tie
@@ -18,11 +17,7 @@ same-length-2 : tie.Need-same-length-2
 same-length-2 c = search needs
 
 returns : tie.Need-returns
-unfolding solve
-returns c =
-    let k = c .before .before .before .before in
-    let l = rw (k .before .standard .ensures) at (k .solve-within .ensures) in
-    (l .says, (l .proof, l .model))
+returns c = let k = c .before .before .before .before in rw (k .before .standard .ensures) at (k .solve-within .ensures)
 
 pub solve-spec : {M : Type 1} → statement M
 solve-spec =

@@ -1,9 +1,9 @@
 -- `solve::solve_within` meets its contract: a law for each test. Assumes nothing.
 use mathlib.Core.Path.{sym, _∙_}
 use native.Mathlib.Omega.{arith}
-use Rattle.rules.specs.Calls.{read}
+use Rattle.rules.specs.Calls.{read, solve}
 use Rattle.theory_splitting.specs.Lent.{lent-short-proof, lent-short-model, lent-fault, lent-sound}
-use Rattle.problem_read.specs.Outcome.{outcome-faulty}
+use Rattle.problem_read.specs.ScanOf.{scanOf-faulty}
 use Rattle.problem_read.specs.Readable.{readable}
 use Rattle.solving.specs.Leaves.{leaves-faulted}
 use borrow.Author.Needs.{needs}
@@ -17,6 +17,7 @@ faulted-requires : tie.Need-faulted-requires
 faulted-requires c κs = search needs
 
 returns : tie.Need-returns
+unfolding solve
 returns c =
     let t = c .before in
     let b = t .before in
@@ -31,6 +32,7 @@ faulted-requires-2 : tie.Need-faulted-requires-2
 faulted-requires-2 c κs = search needs
 
 returns-2 : tie.Need-returns-2
+unfolding solve
 returns-2 c =
     let t = c .before in
     let l = t .before in
@@ -64,9 +66,10 @@ decide-requires c κs =
     let s = b .before .before .before .before in
     let a = s .args in
     let h = rw (b .proof-bytes .ensures) at (l .before .if1 .left) in
-    (readable (a .input .now) _ _ _ (sym (d .read .ensures) ∙ m .s2 .given .1), (omega (arith, h), (l .if2 .left, s .pre)))
+    (readable (a .input .now) _ (sym (d .read .ensures) ∙ m .s2 .given .1), (omega (arith, h), (l .if2 .left, s .pre)))
 
 returns-3 : tie.Need-returns-3
+unfolding solve
 returns-3 c =
     let m = c .before .before in
     let d = m .before .before in
@@ -74,7 +77,7 @@ returns-3 c =
     let b = l .before .before in
     let s = b .before .before .before .before in
     let a = s .args in
-    let e = outcome-faulty (read (a .input .now)) _ _ (sym (d .read .ensures) ∙ m .s .given .1) in
+    let e = scanOf-faulty (read (a .input .now)) _ _ (sym (d .read .ensures) ∙ m .s .given .1) in
     rw (
       lent-fault (a .limits) (a .input .now) (a .proof .now) (a .model .now) (rw (b .proof-bytes .ensures) at (l .before .if1 .left))
           (l .if2 .left) _ _ e,
@@ -88,6 +91,7 @@ same-length-2 : tie.Need-same-length-2
 same-length-2 c = search needs
 
 returns-4 : tie.Need-returns-4
+unfolding solve
 returns-4 c =
     let k = c .before .before .before .before in
     let m = k .before .before .before .before in
@@ -96,7 +100,7 @@ returns-4 c =
     let b = l .before .before in
     let s = b .before .before .before .before in
     let a = s .args in
-    let r = readable (a .input .now) _ _ _ (sym (d .read .ensures) ∙ m .s2 .given .1) in
+    let r = readable (a .input .now) _ (sym (d .read .ensures) ∙ m .s2 .given .1) in
     rw (lent-sound (a .limits) (a .input .now) (a .proof .now) (a .model .now) (rw (b .proof-bytes .ensures) at (l .before .if1 .left))
     (l .if2 .left) _ (r .is-read)) (k .decide .ensures)
 

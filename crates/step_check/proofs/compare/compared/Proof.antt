@@ -5,9 +5,11 @@ use Prim.Native.Nat.{_<_}
 use borrow.Author.Tests.{not-true, not-false}
 use lib.Dec.{eqb}
 use lib.ListN.{length}
+use Rattle.rules_types.specs.Limits as limit
 use Rattle.rules.specs.Lists.{same}
 use Rattle.rules.specs.Steps.{Header}
-use Rattle.steps.specs.Encoding.{headerOf, encoded}
+use Rattle.steps.specs.Origin.{headerOf}
+use Rattle.steps.specs.Encoding.{encoded}
 use Rattle.lines.specs.Line.{meaning}
 use Rattle.step_check.specs.Stated.{states-none, matched-unfound, matched-other, matched-same}
 use borrow.Author.Needs.{needs}
@@ -18,7 +20,7 @@ unstated-requires : tie.Need-unstated-requires
 unstated-requires c κs = search needs
 
 abbrev header-of : tie.Start → Header
-header-of s = headerOf (s .args .how) (s .args .which) (s .args .first) (s .args .second)
+header-of s = headerOf (s .args .origin)
 
 returns : tie.Need-returns
 returns c =
@@ -33,7 +35,7 @@ encode-requires c κs = search needs
 same-bytes-requires : tie.Need-same-bytes-requires
 same-bytes-requires c κs = search needs
 
-eight : (s : tie.Start) → length (s .args .s .line .coefficients) ≡ 8
+eight : (s : tie.Start) → length (s .args .s .line .coefficients) ≡ limit.rationals
 eight s = search (needs, s .good)
 
 positive-fits : (s : tie.Start) → s .args .s .line .positive < 4294967296

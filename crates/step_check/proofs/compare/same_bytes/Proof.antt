@@ -6,16 +6,17 @@ use borrow.Author.Needs.{needs}
 use borrow.Author.Tests.{eq-eqb, ne-eqb}
 use lib.Dec.{eqb}
 use lib.ListN.{length, drop, getD}
+use Rattle.rules_types.specs.Limits.{stepBytes}
 use Rattle.rules.specs.Lists.{same}
 use Rattle.theory_lists.specs.Scan.{same-next, same-end}
 use Rattle.step_check.proofs.compare.same_bytes.Statement.{statement}
 use Rattle.step_check.proofs.compare.same_bytes.Tie as tie
 
 abbrev Inv-loop : tie.InvT-loop
-Inv-loop a b i₀ i = (i ≤ 64) × (length a ≡ 64) × (length b ≡ 64) × (same eqb a b ≡ same eqb (drop i a) (drop i b))
+Inv-loop a b i₀ i = (i ≤ stepBytes) × (length a ≡ stepBytes) × (length b ≡ stepBytes) × (same eqb a b ≡ same eqb (drop i a) (drop i b))
 
 abbrev μ-loop : tie.MeasureT-loop
-μ-loop a b i₀ i = 64 - i
+μ-loop a b i₀ i = stepBytes - i
 
 loop-holds : tie.Need-loop-holds Inv-loop μ-loop
 loop-holds c = (omega arith, search needs, search needs, refl)

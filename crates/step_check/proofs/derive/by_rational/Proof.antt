@@ -4,6 +4,7 @@ use mathlib.Core.Bool.{true, false}
 use borrow.Author.Tests.{not-true, not-false}
 use native.Mathlib.Omega.{arith}
 use lib.ListN.{length}
+use Rattle.rules_types.specs.Limits as limit
 use Rattle.rules.specs.Lines.{rational, positively, negatively}
 use Rattle.rules.specs.Checker.{pairable}
 use Rattle.lines.specs.Line.{meaning}
@@ -16,10 +17,10 @@ use Rattle.step_check.proofs.derive.by_rational.Tie as tie
 unstated-requires : tie.Need-unstated-requires
 unstated-requires c κs = search needs
 
-eight : (s : tie.Start) → length (s .args .upper .coefficients) ≡ 8
+eight : (s : tie.Start) → length (s .args .upper .coefficients) ≡ limit.rationals
 eight s = search (needs, s .good)
 
--- without the variable in the upper line there is no result
+-- without the variable in the upper line there is no resolvent
 unbounded : (s : tie.Start) → positively (rational (s .args .f)) (meaning (s .args .upper)) ≡ false
     → suited (rational (s .args .f)) (meaning (s .args .upper)) (meaning (s .args .lower)) ≡ false
 unbounded s e = suited-upper (rational (s .args .f)) (meaning (s .args .upper)) (meaning (s .args .lower)) e

@@ -1,20 +1,57 @@
--- `proof_lines::line_at` meets its contract. Assumes nothing.
-use mathlib.Core.Path.{ap, _∙_}
+-- `access::line_at` meets its contract. Assumes nothing.
+use mathlib.Core.Path.{sym, ap, _∙_}
+use native.Mathlib.Omega.{arith}
+use mir.Syntax.{w64}
+use mir.Facts.{toZ-ofZ}
+use borrow.Author.Needs.{needs, sfits-of}
+use Rattle.rules_types.specs.Layout.{stepBound, stepPositive, stepNegative, stepRelation}
+use Rattle.rules.specs.Bytes.{fromUnsigned}
 use Rattle.steps.specs.Decoding.{decoded}
+use Rattle.steps.specs.Places.{field-stepAt}
 use Rattle.steps.specs.Lines.{lineAt}
-use borrow.Author.Needs.{needs}
 use Rattle.steps.proofs.access.line_at.Statement.{statement}
 use Rattle.steps.proofs.access.line_at.Tie as tie
 
-get-requires : tie.Need-get-requires
-get-requires c κs = search needs
+coefficients-at-requires : tie.Need-coefficients-at-requires
+coefficients-at-requires c κs = search needs
 
-decode-requires : tie.Need-decode-requires
-decode-requires c κs = search needs
+positive-at-requires : tie.Need-positive-at-requires
+positive-at-requires c κs = search needs
+
+negative-at-requires : tie.Need-negative-at-requires
+negative-at-requires c κs = search needs
+
+relation-at-requires : tie.Need-relation-at-requires
+relation-at-requires c κs = search needs
+
+bound-at-requires : tie.Need-bound-at-requires
+bound-at-requires c κs = search needs
 
 returns : tie.Need-returns
-unfolding lineAt
-returns c = c .decode .ensures ∙ ap decoded (c .before .get .ensures)
+unfolding lineAt decoded
+returns c =
+    let r = c .before in
+    let n = r .before in
+    let p = n .before in
+    let k = p .before in
+    let s = k .before .before in
+    let proof = s .args .proof .now in
+    let i = s .args .i in
+    let field = field-stepAt proof i (s .pre) in
+    let bound = toZ-ofZ {w = w64} (sfits-of (c .bound-at .ok)) ∙ c .bound-at .ensures
+    ∙ ap fromUnsigned (sym (field stepBound 4 (omega arith))) in
+    let positive = p .positive-at .ensures ∙ sym (field stepPositive 4 (omega arith)) in
+    let negative = n .negative-at .ensures ∙ sym (field stepNegative 4 (omega arith)) in
+    let relation = r .relation-at .ensures ∙ sym (field stepRelation 1 (omega arith)) in
+    (λ x. record {
+      positive = positive x;
+      negative = negative x;
+      relation = relation x;
+      coefficients = k .coefficients-at .ensures x;
+      bound = bound x;
+    })
 
 pub line-at-spec : {M : Type 1} → statement M
-line-at-spec = tie.close (tie.spec get-requires decode-requires returns)
+line-at-spec =
+    tie.close
+    (tie.spec coefficients-at-requires positive-at-requires negative-at-requires relation-at-requires bound-at-requires returns)

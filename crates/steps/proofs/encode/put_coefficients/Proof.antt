@@ -7,21 +7,24 @@ use borrow.Author.Needs.{needs}
 use lib.IntN.{ℤ, pos}
 use lib.ListN.{length, getD, take}
 use lib.Seq.{take-all}
+use Rattle.rules_types.specs.Limits.{rationals}
+use Rattle.rules_types.specs.Layout.{stepCoefficients}
 use Rattle.rules.specs.Bytes.{toBytes, toUnsigned, amountBytes}
 use Rattle.fields.specs.Field.{stored}
 use Rattle.rows.specs.Products.{amount-bits}
-use Rattle.steps.specs.Encoding.{amount-stored, stored-none}
+use Rattle.fields.specs.Filled.{amounts-more, amounts-none}
 use Rattle.steps.proofs.encode.put_coefficients.Statement.{statement}
 use Rattle.steps.proofs.encode.put_coefficients.Tie as tie
 
 abbrev Inv-loop : tie.InvT-loop
-Inv-loop s₀ row i₀ s i = (i ≤ 8) × (length row ≡ 8) × (length s ≡ length s₀) × (s ≡ stored 16 (amountBytes (take i row)) s₀)
+Inv-loop s₀ row i₀ s i = (i ≤ rationals) × (length row ≡ rationals) × (length s ≡ length s₀)
+    × (s ≡ stored stepCoefficients (amountBytes (take i row)) s₀)
 
 abbrev μ-loop : tie.MeasureT-loop
-μ-loop s₀ row i₀ s i = 8 - i
+μ-loop s₀ row i₀ s i = rationals - i
 
 loop-holds : tie.Need-loop-holds Inv-loop μ-loop
-loop-holds c = (omega arith, search needs, refl, stored-none 16 (c .before .args .s .now))
+loop-holds c = (omega arith, search needs, refl, amounts-none stepCoefficients (c .before .args .s .now))
 
 mul-z : tie.Need-mul-z Inv-loop μ-loop
 mul-z c = search needs
@@ -59,8 +62,8 @@ loop-again c =
       l .inv .1,
       c .before .before .put-amount .kept .0 ∙ l .inv .2,
       e
-          ∙ ap (λ (t : List ℕ). stored (16 + 4 * l .i) (toBytes 4 (toUnsigned z)) t) (l .inv .3)
-          ∙ amount-stored 16 row (l .i) (s .args .s .now) (omega (arith, l .inv .1)) (omega (arith, s .pre .0)),
+          ∙ ap (λ (t : List ℕ). stored (stepCoefficients + 4 * l .i) (toBytes 4 (toUnsigned z)) t) (l .inv .3)
+          ∙ amounts-more stepCoefficients row (l .i) (s .args .s .now) (omega (arith, l .inv .1)) (omega (arith, s .pre .0)),
     )
 
 same-length : tie.Need-same-length Inv-loop μ-loop
@@ -70,7 +73,7 @@ returns : tie.Need-returns Inv-loop μ-loop
 returns c =
     let l = c .before .loop in
     let s = c .before .before .before in
-    l .inv .3 ∙ ap (λ (zs : List ℤ). stored 16 (amountBytes zs) (s .args .s .now))
+    l .inv .3 ∙ ap (λ (zs : List ℤ). stored stepCoefficients (amountBytes zs) (s .args .s .now))
     (take-all (l .i) (s .args .t2) (omega (arith, l .inv .1)))
 
 pub put-coefficients-spec : {M : Type 1} → statement M

@@ -1,9 +1,10 @@
 -- `encode::put_header` meets its contract. Assumes nothing.
 use mathlib.Core.Path.{ap, _∙_}
 use mathlib.Core.List.{List}
-use Prim.Native.Nat.{ℕ, _+_}
+use Prim.Native.Nat.{ℕ}
 use native.Mathlib.Omega.{arith}
 use lib.ListN.{set, length-set}
+use Rattle.rules_types.specs.Layout.{stepHow, stepWhich, stepSecond}
 use Rattle.rules.specs.Bytes.{toBytes}
 use Rattle.rules.specs.Steps.{headerBytes}
 use Rattle.fields.specs.Field.{stored}
@@ -22,29 +23,42 @@ slice-write-s-2 c = simp length-set (omega arith)
 put-u16-requires : tie.Need-put-u16-requires
 put-u16-requires c κs = simp length-set (omega arith)
 
+abbrev start : tie.After-put-u16 → tie.Start
+start k = k .before .before .before
+
 put-u16-requires-2 : tie.Need-put-u16-requires-2
 put-u16-requires-2 c κs =
-    let s = c .before .before .before .before .before .before .args in
-    let first = set (s .s .now) 0 (s .how) in
-    omega (arith, c .before .before .before .put-u16 .kept .0, length-set first (0 + 1) (s .which), length-set (s .s .now) 0 (s .how))
+    let k = c .before .before .before in
+    let s = start k .args in
+    let first = set (s .s .now) stepHow (s .origin .how) in
+    omega (
+      arith,
+      k .put-u16 .kept .0,
+      length-set first stepWhich (s .origin .which),
+      length-set (s .s .now) stepHow (s .origin .how),
+    )
 
 same-length : tie.Need-same-length
 same-length c =
-    let s = c .before .before .before .before .before .before .before .before .before .args in
-    let first = set (s .s .now) 0 (s .how) in
-    c .before .before .put-u162 .kept .0 ∙ c .before .before .before .before .before .before .put-u16 .kept .0
-    ∙ length-set first (0 + 1) (s .which) ∙ length-set (s .s .now) 0 (s .how)
+    let q = c .before .before in
+    let k = q .before .before .before .before in
+    let s = start k .args in
+    let first = set (s .s .now) stepHow (s .origin .how) in
+    q .put-u162 .kept .0 ∙ k .put-u16 .kept .0
+    ∙ length-set first stepWhich (s .origin .which) ∙ length-set (s .s .now) stepHow (s .origin .how)
 
 returns : tie.Need-returns
 unfolding headerBytes
 returns c =
-    let e = c .before .before .before .before .before .before .before .before .before in
+    let q = c .before .before in
+    let k = q .before .before .before .before in
+    let e = start k in
     let s = e .args in
-    c .before .before .put-u162 .ensures
-    ∙ ap (λ (t : List ℕ). stored (0 + 2 + 2) (toBytes 2 (s .second)) t)
-    (c .before .before .before .before .before .before .put-u16 .ensures)
-    ∙ fields-stored 0 2 (s .how) (s .which) (toBytes 2 (s .first)) (toBytes 2 (s .second)) (s .s .now)
-    (length-toBytes 2 (s .first)) (omega (arith, e .pre))
+    q .put-u162 .ensures
+    ∙ ap (λ (t : List ℕ). stored stepSecond (toBytes 2 (s .origin .second)) t)
+    (k .put-u16 .ensures)
+    ∙ fields-stored stepHow 2 (s .origin .how) (s .origin .which) (toBytes 2 (s .origin .first)) (toBytes 2 (s .origin .second)) (s .s .now)
+    (length-toBytes 2 (s .origin .first)) (omega (arith, e .pre))
 
 pub put-header-spec : {M : Type 1} → statement M
 put-header-spec =

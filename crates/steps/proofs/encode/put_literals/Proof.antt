@@ -4,6 +4,7 @@ use mathlib.Core.List.{List}
 use Prim.Native.Nat.{ℕ, _+_}
 use native.Mathlib.Omega.{arith}
 use lib.ListN.{set, length-set}
+use Rattle.rules_types.specs.Layout.{stepRelation, stepNegative}
 use Rattle.rules.specs.Bytes.{toBytes}
 use Rattle.fields.specs.Field.{stored}
 use Rattle.theory_bytes.specs.Bytes.{length-toBytes}
@@ -15,33 +16,49 @@ use Rattle.steps.proofs.encode.put_literals.Tie as tie
 slice-write-s : tie.Need-slice-write-s
 slice-write-s c = search needs
 
+add-s : tie.Need-add-s
+add-s c = search needs
+
 slice-write-s-2 : tie.Need-slice-write-s-2
 slice-write-s-2 c = simp length-set (omega arith)
 
 put-u32-requires : tie.Need-put-u32-requires
 put-u32-requires c κs = simp length-set (omega arith)
 
+abbrev start : tie.After-put-u32 → tie.Start
+start k = k .before .before .before
+
 put-u32-requires-2 : tie.Need-put-u32-requires-2
 put-u32-requires-2 c κs =
-    let s = c .before .before .before .before .before .before .args in
-    let first = set (s .s .now) 6 (s .relation) in
-    omega (arith, c .before .before .before .put-u32 .kept .0, length-set first (6 + 1) 0, length-set (s .s .now) 6 (s .relation))
+    let k = c .before .before .before in
+    let s = start k .args in
+    let first = set (s .s .now) stepRelation (s .relation) in
+    omega (
+      arith,
+      k .put-u32 .kept .0,
+      length-set first (stepRelation + 1) 0,
+      length-set (s .s .now) stepRelation (s .relation),
+    )
 
 same-length : tie.Need-same-length
 same-length c =
-    let s = c .before .before .before .before .before .before .before .before .before .args in
-    let first = set (s .s .now) 6 (s .relation) in
-    c .before .before .put-u322 .kept .0 ∙ c .before .before .before .before .before .before .put-u32 .kept .0
-    ∙ length-set first (6 + 1) 0 ∙ length-set (s .s .now) 6 (s .relation)
+    let q = c .before .before in
+    let k = q .before .before .before .before in
+    let s = start k .args in
+    let first = set (s .s .now) stepRelation (s .relation) in
+    q .put-u322 .kept .0 ∙ k .put-u32 .kept .0
+    ∙ length-set first (stepRelation + 1) 0 ∙ length-set (s .s .now) stepRelation (s .relation)
 
 returns : tie.Need-returns
 returns c =
-    let e = c .before .before .before .before .before .before .before .before .before in
+    let q = c .before .before in
+    let k = q .before .before .before .before in
+    let e = start k in
     let s = e .args in
-    c .before .before .put-u322 .ensures
-    ∙ ap (λ (t : List ℕ). stored (6 + 2 + 4) (toBytes 4 (s .negative)) t)
-    (c .before .before .before .before .before .before .put-u32 .ensures)
-    ∙ fields-stored 6 4 (s .relation) 0 (toBytes 4 (s .positive)) (toBytes 4 (s .negative)) (s .s .now)
+    q .put-u322 .ensures
+    ∙ ap (λ (t : List ℕ). stored stepNegative (toBytes 4 (s .negative)) t)
+    (k .put-u32 .ensures)
+    ∙ fields-stored stepRelation 4 (s .relation) 0 (toBytes 4 (s .positive)) (toBytes 4 (s .negative)) (s .s .now)
     (length-toBytes 4 (s .positive)) (omega (arith, e .pre))
 
 pub put-literals-spec : {M : Type 1} → statement M
@@ -49,6 +66,7 @@ put-literals-spec =
     tie.close
     (tie.spec
     slice-write-s
+    add-s
     slice-write-s-2
     put-u32-requires
     put-u32-requires-2

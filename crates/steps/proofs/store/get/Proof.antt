@@ -1,4 +1,4 @@
--- `steps::get` meets its contract. Invariant: the first j bytes are copied. Assumes nothing.
+-- `store::get` meets its contract. Invariant: the first j bytes are copied. Assumes nothing.
 use lib.ListN.{length-set, length-drop}
 use lib.Seq.{getD-set-same, getD-set-other, ext-getD, getD-take, getD-drop, length-take-le}
 use borrow.Author.Count.{below-none, below-more}
@@ -7,15 +7,17 @@ use lib.ListN.{length, getD, drop, take}
 use Prim.Native.Nat.{ℕ, _+_, _-_, _*_, _≤_, _<_}
 use native.Mathlib.Omega.{arith}
 use borrow.Author.Needs.{needs}
+use Rattle.rules_types.specs.Limits.{stepBytes}
 use Rattle.steps.specs.Places.{stepAt}
 use Rattle.steps.proofs.store.get.Statement.{statement}
 use Rattle.steps.proofs.store.get.Tie as tie
 
 abbrev Inv-loop : tie.InvT-loop
-Inv-loop proof i at bytes₀ j₀ bytes j = (j ≤ 64) × ((length bytes ≡ 64) × ((k : ℕ) → k < j → getD bytes k 0 ≡ getD proof (at + k) 0))
+Inv-loop proof i at bytes₀ j₀ bytes j = (j ≤ stepBytes)
+    × ((length bytes ≡ stepBytes) × ((k : ℕ) → k < j → getD bytes k 0 ≡ getD proof (at + k) 0))
 
 abbrev μ-loop : tie.MeasureT-loop
-μ-loop proof i at bytes₀ j₀ bytes j = 64 - j
+μ-loop proof i at bytes₀ j₀ bytes j = stepBytes - j
 
 mul-at : tie.Need-mul-at Inv-loop μ-loop
 mul-at c = search needs
@@ -41,7 +43,7 @@ loop-less c = search needs
 loop-again : tie.Need-loop-again Inv-loop μ-loop
 loop-again c = let s = c .before .before .before in
     let l = c .before .before .loop in
-    let at = 64 * s .args .i in
+    let at = stepBytes * s .args .i in
     let x = getD (s .args .proof .now) (at + l .j) 0 in (
       omega arith,
       (
@@ -57,10 +59,10 @@ unfolding stepAt
 returns c = let s = c .before .before in
     let l = c .before .loop in
     let b = s .args .proof .now in
-    let at = 64 * s .args .i in
-    let n : length (take 64 (drop at b)) ≡ 64 = length-take-le 64 (drop at b) (omega (arith, length-drop at b)) in
-    ext-getD 0 (l .bytes) (take 64 (drop at b)) (l .inv .1 .0 ∙ sym n)
-    (λ k h. l .inv .1 .1 k (omega arith) ∙ sym (getD-take 64 (drop at b) k 0 (omega arith) ∙ getD-drop at b k 0))
+    let at = stepBytes * s .args .i in
+    let n : length (take stepBytes (drop at b)) ≡ stepBytes = length-take-le stepBytes (drop at b) (omega (arith, length-drop at b)) in
+    ext-getD 0 (l .bytes) (take stepBytes (drop at b)) (l .inv .1 .0 ∙ sym n)
+    (λ k h. l .inv .1 .1 k (omega arith) ∙ sym (getD-take stepBytes (drop at b) k 0 (omega arith) ∙ getD-drop at b k 0))
 
 pub get-spec : {M : Type 1} → statement M
 get-spec =

@@ -1,11 +1,11 @@
 -- `boolean::forces` meets its contract. Assumes nothing.
 use mathlib.Core.Path.{_≡_, sym, ap, _∙_}
 use mathlib.Core.Bool.{not, true, false}
-use Prim.Native.Nat.{_+_}
 use borrow.Author.Needs.{needs}
 use borrow.Author.Tests.{eq-eqb, ne-eqb, not-true, not-false}
 use lib.Dec.{eqb}
 use Rattle.rules.specs.Elimination.{order, roundOf}
+use Rattle.lines.specs.Order.{booleanRound}
 use Rattle.lines.specs.Line.{meaning}
 use Rattle.values.specs.Boolean.{forces}
 use Rattle.values.proofs.boolean.forces.Statement.{statement}
@@ -14,20 +14,25 @@ use Rattle.values.proofs.boolean.forces.Tie as tie
 round-requires : tie.Need-round-requires
 round-requires c κs = search needs
 
-add-if1 : tie.Need-add-if1
-add-if1 c = search needs
+boolean-round-requires : tie.Need-boolean-round-requires
+boolean-round-requires c κs = search needs
+
+-- the two rounds compared
+compared : (c : tie.After-boolean-round) → let s = c .before .before in eqb (c .before .round .result) (c .boolean-round .result)
+    ≡ eqb (roundOf order (meaning (s .args .line))) (booleanRound (s .args .i))
+compared c = λ k. eqb (c .before .round .ensures k) (c .boolean-round .ensures k)
 
 returns : tie.Need-returns
 unfolding forces
 returns c =
-    let s = c .before .before in
-    let e : eqb (roundOf order (meaning (s .args .line))) (8 + s .args .i) ≡ false =
-    rw (← c .before .round .ensures) (ne-eqb (c .before .round .result) (8 + s .args .i) (c .if1 .taken)) in
+    let b = c .before in
+    let e = sym (compared b) ∙ ne-eqb (b .before .round .result) (b .boolean-round .result) (c .if1 .taken) in
     rw e
 
 -- the line is of this round
-here : (c : tie.Else1) → let s = c .before .before in eqb (roundOf order (meaning (s .args .line))) (8 + s .args .i) ≡ true
-here c = rw (← c .before .round .ensures) (eq-eqb (c .before .round .result) (8 + c .before .before .args .i) (c .if1 .left))
+here : (c : tie.Else1) → let s = c .before .before .before in
+    eqb (roundOf order (meaning (s .args .line))) (booleanRound (s .args .i)) ≡ true
+here c = let b = c .before in sym (compared b) ∙ eq-eqb (b .before .round .result) (b .boolean-round .result) (c .if1 .left)
 
 has-positive-boolean-requires : tie.Need-has-positive-boolean-requires
 has-positive-boolean-requires c κs = search needs
@@ -57,7 +62,7 @@ forces-spec =
     tie.close
     (tie.spec
     round-requires
-    add-if1
+    boolean-round-requires
     returns
     has-positive-boolean-requires
     returns-2

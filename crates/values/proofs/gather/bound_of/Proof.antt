@@ -6,6 +6,7 @@ use lib.ListN.{length, getD}
 use mir.Syntax.{w64}
 use mir.Val.{toZ, ofZ}
 use mir.Facts.{toZ-ofZ}
+use Rattle.rules_types.specs.Limits as limit
 use Rattle.theory_bounds.specs.Meets.{rest}
 use Rattle.rows.specs.Products.{amount-bits}
 use Rattle.models.specs.Model.{value}
@@ -25,8 +26,8 @@ array-copy-out-a c = search needs
 rest-requires : tie.Need-rest-requires
 rest-requires c κs = search needs
 
-eight : (s : tie.Start) → length (s .args .line .coefficients) ≡ 8
-eight s = search (needs, s .good)
+row-length : (s : tie.Start) → length (s .args .line .coefficients) ≡ limit.rationals
+row-length s = search (needs, s .good)
 
 -- the operands, as numbers
 divided : (c : tie.After-rest) → let s = c .before .before .before .before in toZ w64 (ofZ w64 (c .rest .result)) ≡ rest (s .args .f)
@@ -41,13 +42,14 @@ quotient-requires : tie.Need-quotient-requires
 quotient-requires c κs =
     let s = c .before .before .before .before in
     rw (divided c, divisor s)
-    (rest-scaled (s .args .line) (s .args .model) (s .args .f) (eight s) (s .pre .0) (s .pre .1 .0) (s .pre .1 .1 .1) (s .pre .1 .1 .0))
+    (rest-scaled (s .args .line) (s .args .model) (s .args .f) (row-length s)
+    (s .pre .0) (s .pre .1 .0) (s .pre .1 .1 .1) (s .pre .1 .1 .0))
 
 returns : tie.Need-returns
 returns c =
     let s = c .before .before .before .before .before in
     (rw (divided (c .before), divisor s) at (c .quotient .ensures))
-    ∙ bound-is (s .args .line) (s .args .model) (s .args .f) (eight s) (s .pre .0) (s .pre .1 .0) (s .pre .1 .1 .1)
+    ∙ bound-is (s .args .line) (s .args .model) (s .args .f) (row-length s) (s .pre .0) (s .pre .1 .0) (s .pre .1 .1 .1)
 
 pub bound-of-spec : {M : Type 1} → statement M
 bound-of-spec = tie.close (tie.spec cast-d mul-a array-copy-out-a rest-requires quotient-requires returns)

@@ -5,20 +5,22 @@ use Prim.Native.Nat.{_+_, _-_, _≤_, _<_}
 use native.Mathlib.Omega.{arith}
 use borrow.Author.Needs.{needs}
 use lib.ListN.{drop}
-use Rattle.fractions.specs.Meaning.{boundMeaning}
 use Rattle.steps.specs.Lines.{linesIn}
 use Rattle.models.specs.Model.{assignment}
-use Rattle.values.specs.Gather.{Collected, Gathering, collected-none, exceeding-front}
+use Rattle.values.specs.Gather.{CollectedIn, GatheredIn, collected-none, exceeding-front}
 use Rattle.values.specs.Round.{lines-next, lines-end}
 use Rattle.values.proofs.gather.gathered.Statement.{statement}
 use Rattle.values.proofs.gather.gathered.Tie as tie
 
 abbrev Inv-loop : tie.InvT-loop
-Inv-loop proof n f model b₀ j₀ b j = (j ≤ n) × (b .beyond ≡ false)
-    × Collected (assignment model) f (drop j (linesIn proof n)) (boundMeaning (b .lower)) (boundMeaning (b .upper))
+Inv-loop proof n f model b₀ j₀ b j = (j ≤ n) × (b .beyond ≡ false) × CollectedIn b (assignment model) f (drop j (linesIn proof n))
 
 abbrev μ-loop : tie.MeasureT-loop
 μ-loop proof n f model b₀ j₀ b j = j
+
+-- at the entry
+abbrev entry : tie.At-loop Inv-loop μ-loop → tie.Start Inv-loop μ-loop
+entry c = c .before .before
 
 loop-holds : tie.Need-loop-holds Inv-loop μ-loop
 loop-holds c =
@@ -34,7 +36,7 @@ line-at-requires c κs = search needs
 with-line-requires : tie.Need-with-line-requires Inv-loop μ-loop
 with-line-requires c κs =
     let l = c .before .before .loop in
-    let s = c .before .before .before .before in
+    let s = entry (c .before .before) in
     let h : l .j - 1 < s .args .n = omega (arith, l .inv .0, c .before .loop-test .taken) in (
       l .inv .1,
       (
@@ -44,12 +46,12 @@ with-line-requires c κs =
     )
 
 -- the bounds with the line that was read
-gathering : (c : tie.After-with-line Inv-loop μ-loop) → let s = c .before .before .before .before .before in let b = c .with-line .result in
-    Gathering (b .beyond) (assignment (s .args .model)) (s .args .f) (drop (c .before .before .before .loop .j - 1)
-    (linesIn (s .args .proof .now) (s .args .n))) (boundMeaning (b .lower)) (boundMeaning (b .upper))
+gathering : (c : tie.After-with-line Inv-loop μ-loop) → let s = entry (c .before .before .before) in
+    GatheredIn (c .with-line .result) (assignment (s .args .model)) (s .args .f)
+    (drop (c .before .before .before .loop .j - 1) (linesIn (s .args .proof .now) (s .args .n)))
 gathering c =
     let l = c .before .before .before .loop in
-    let s = c .before .before .before .before .before in
+    let s = entry (c .before .before .before) in
     let j = l .j - 1 in
     let h : j < s .args .n = omega (arith, l .inv .0, c .before .before .loop-test .taken) in
     let n : j + 1 ≡ l .j = omega (arith, c .before .before .loop-test .taken) in
@@ -59,7 +61,7 @@ gathering c =
 returns : tie.Need-returns Inv-loop μ-loop
 returns c =
     let a = c .before in
-    let s = a .before .before .before .before .before in
+    let s = entry (a .before .before .before) in
     let g = rw (c .if1 .taken) at (gathering a) in
     rw (c .if1 .taken) (exceeding-front (assignment (s .args .model)) (s .args .f) (a .before .before .before .loop .j - 1)
     (linesIn (s .args .proof .now) (s .args .n)) g)

@@ -7,6 +7,7 @@ use lib.ListN.{length}
 use mir.Syntax.{w64}
 use mir.Val.{SFits, toZ, ofZ}
 use mir.Facts.{toZ-ofZ}
+use Rattle.rules_types.specs.Limits as limit
 use Rattle.theory_vectors.specs.Amounts.{amounts-set}
 use Rattle.machine.specs.Signed.{fits-size}
 use Rattle.theory_bounds.specs.Meets.{rest}
@@ -30,8 +31,8 @@ sum-requires c κs =
     let s = c .before .before .before .before in
     (amounts-set (s .args .line .coefficients) (s .args .f) (pos 0) (s .pre .1 .0 .coefficients) (omega arith), s .pre .1 .1 .amounts)
 
-eight : (s : tie.Start) → length (s .args .line .coefficients) ≡ 8
-eight s = search (needs, s .good)
+row-length : (s : tie.Start) → length (s .args .line .coefficients) ≡ limit.rationals
+row-length s = search (needs, s .good)
 
 fits : (s : tie.Start) → SFits w64 (rest (s .args .f) (s .args .line .coefficients) (s .args .line .bound)
     (value (s .args .model .numerators)) (s .args .model .denominator))
@@ -39,7 +40,7 @@ fits s =
     let l = s .args .line in
     let m = s .args .model in
     fits-size (rest (s .args .f) (l .coefficients) (l .bound) (value (m .numerators)) (m .denominator))
-    (omega (arith, rest-≤ l m (s .args .f) (eight s) (s .pre .0) (s .pre .1 .0) (s .pre .1 .1)))
+    (omega (arith, rest-≤ l m (s .args .f) (row-length s) (s .pre .0) (s .pre .1 .0) (s .pre .1 .1)))
 
 computed : (c : tie.After-sum) → let s = c .before .before .before .before .before in
     toZ w64 (ofZ w64 (c .before .scaled .result)) -ℤ toZ w64 (ofZ w64 (c .sum .result)) ≡ rest (s .args .f) (s .args .line .coefficients)

@@ -9,6 +9,7 @@ use borrow.Author.Tests.{eq-eqb, ne-eqb}
 use lib.IntN.{pos, natAbs}
 use lib.Dec.{eqb}
 use lib.ListN.{length, getD}
+use Rattle.rules_types.specs.Limits as limit
 use Rattle.rules.specs.Elimination.{order, roundOf}
 use Rattle.rules.specs.Lines as rules
 use Rattle.rules.specs.Lines.{aLiteralHolds, rational, positively, negatively}
@@ -20,9 +21,17 @@ use Rattle.lines.specs.Forms.{constraint-is}
 use Rattle.models.specs.Model.{assignment}
 use Rattle.values.specs.Constraint.{bound-small}
 use Rattle.values.specs.Leading.{round-coefficient, round-related, round-sides}
-use Rattle.values.specs.Gather.{Collected, withLower, withUpper, collected-other, collected-held, collected-more, exceeding-here}
+use Rattle.values.specs.Gather.{Collected, CollectedIn, withLower, withUpper, collected-other, collected-held, collected-more}
+use Rattle.values.specs.Gather.{exceeding-here}
 use Rattle.values.proofs.gather.with_line.Statement.{statement}
 use Rattle.values.proofs.gather.with_line.Tie as tie
+
+-- earlier points: the line is of the round; the entry
+abbrev of-round : tie.After-bound-of → tie.Else1
+of-round c = c .before .before .before
+
+abbrev entry : tie.Else1 → tie.Start
+entry c = c .before .before
 
 round-requires : tie.Need-round-requires
 round-requires c κs = search needs
@@ -36,27 +45,27 @@ returns c = λ ls h.
     (boundMeaning (s .args .earlier .lower)) (boundMeaning (s .args .earlier .upper)) h e)
 
 -- ---- a line of the variable's round
-eight : (s : tie.Start) → length (s .args .line .coefficients) ≡ 8
-eight s = search (needs, s .good)
+row-length : (s : tie.Start) → length (s .args .line .coefficients) ≡ limit.rationals
+row-length s = search (needs, s .good)
 
-same-round : (c : tie.Else1) → let s = c .before .before in roundOf order (meaning (s .args .line)) ≡ s .args .f
+same-round : (c : tie.Else1) → let s = entry c in roundOf order (meaning (s .args .line)) ≡ s .args .f
 same-round c = sym (c .before .round .ensures) ∙ c .if1 .left
 
-own-round : (c : tie.Else1) → let s = c .before .before in eqb (roundOf order (meaning (s .args .line))) (s .args .f) ≡ true
-own-round c = let s = c .before .before in eq-eqb (roundOf order (meaning (s .args .line))) (s .args .f) (same-round c)
+own-round : (c : tie.Else1) → let s = entry c in eqb (roundOf order (meaning (s .args .line))) (s .args .f) ≡ true
+own-round c = let s = entry c in eq-eqb (roundOf order (meaning (s .args .line))) (s .args .f) (same-round c)
 
-bounded : (c : tie.Else1) → let s = c .before .before in 0 < natAbs (getD (s .args .line .coefficients) (s .args .f) (pos 0))
-bounded c = let s = c .before .before in
-    round-coefficient (s .args .line) (s .pre .1 .1 .1 .0 .shaped) (eight s) (s .args .f) (s .pre .1 .1 .0) (same-round c)
+bounded : (c : tie.Else1) → let s = entry c in 0 < natAbs (getD (s .args .line .coefficients) (s .args .f) (pos 0))
+bounded c = let s = entry c in
+    round-coefficient (s .args .line) (s .pre .1 .1 .1 .0 .shaped) (row-length s) (s .args .f) (s .pre .1 .1 .0) (same-round c)
 
-constrained : (c : tie.Else1) → let s = c .before .before in meaning (s .args .line) .constraint ≡ some (constraintIn (s .args .line))
-constrained c = let s = c .before .before in constraint-is (s .args .line)
-    (round-related (s .args .line) (s .pre .1 .1 .1 .0 .shaped) (eight s) (s .args .f) (s .pre .1 .1 .0) (same-round c))
+constrained : (c : tie.Else1) → let s = entry c in meaning (s .args .line) .constraint ≡ some (constraintIn (s .args .line))
+constrained c = let s = entry c in constraint-is (s .args .line)
+    (round-related (s .args .line) (s .pre .1 .1 .1 .0 .shaped) (row-length s) (s .args .f) (s .pre .1 .1 .0) (same-round c))
 
-one-side : (c : tie.Else1) → let s = c .before .before in
+one-side : (c : tie.Else1) → let s = entry c in
     negatively (rational (s .args .f)) (meaning (s .args .line)) ≡ not (positively (rational (s .args .f)) (meaning (s .args .line)))
-one-side c = let s = c .before .before in
-    round-sides (s .args .line) (s .pre .1 .1 .1 .0 .shaped) (eight s) (s .args .f) (s .pre .1 .1 .0) (same-round c)
+one-side c = let s = entry c in
+    round-sides (s .args .line) (s .pre .1 .1 .1 .0 .shaped) (row-length s) (s .args .f) (s .pre .1 .1 .0) (same-round c)
 
 literal-holds-requires : tie.Need-literal-holds-requires
 literal-holds-requires c κs = search needs
@@ -64,18 +73,18 @@ literal-holds-requires c κs = search needs
 returns-2 : tie.Need-returns-2
 returns-2 c = λ ls h.
     let o = c .before .before in
-    let s = o .before .before in
+    let s = entry o in
     rw (s .pre .0)
     (collected-held (assignment (s .args .model)) (s .args .f) (meaning (s .args .line)) ls (boundMeaning (s .args .earlier .lower))
     (boundMeaning (s .args .earlier .upper)) h (own-round o) (sym (c .before .literal-holds .ensures) ∙ c .if2 .taken))
 
-free : (c : tie.Else2) → let s = c .before .before .before .before in
+free : (c : tie.Else2) → let s = entry (c .before .before) in
     aLiteralHolds (assignment (s .args .model)) (meaning (s .args .line)) ≡ false
 free c = sym (c .before .literal-holds .ensures) ∙ c .if2 .left
 
 bound-of-requires : tie.Need-bound-of-requires
 bound-of-requires c κs =
-    let s = c .before .before .before .before in
+    let s = entry (c .before .before) in
     (s .pre .1 .1 .0, (s .pre .1 .1 .1 .0, (bounded (c .before .before), s .pre .1 .1 .1 .1)))
 
 beyond-requires : tie.Need-beyond-requires
@@ -84,21 +93,21 @@ beyond-requires c κs = search needs
 returns-3 : tie.Need-returns-3
 returns-3 c = λ ls h.
     let b = c .before .before in
-    let o = b .before .before .before in
-    let s = o .before .before in
+    let o = of-round b in
+    let s = entry o in
     exceeding-here (assignment (s .args .model)) (s .args .f) (meaning (s .args .line)) ls (boundMeaning (s .args .earlier .lower))
     (boundMeaning (s .args .earlier .upper)) h (own-round o) (free (b .before)) (constraintIn (s .args .line)) (constrained o)
     (rw (one-side o) (or-not-self (positively (rational (s .args .f)) (meaning (s .args .line)))))
     (rw (← b .bound-of .ensures, ← c .before .beyond .ensures) (c .if3 .taken))
 
 -- the bound is in range
-small : (c : tie.Else3) → let s = c .before .before .before .before .before .before .before in
+small : (c : tie.Else3) → let s = entry (of-round (c .before .before)) in
     Small (boundOf (assignment (s .args .model)) (s .args .f) (constraintIn (s .args .line)))
 small c =
     let b = c .before .before in
-    let o = b .before .before .before in
-    let s = o .before .before in
-    bound-small (s .args .line) (s .args .model) (s .args .f) (eight s) (s .pre .1 .1 .0) (s .pre .1 .1 .1 .0) (s .pre .1 .1 .1 .1)
+    let o = of-round b in
+    let s = entry o in
+    bound-small (s .args .line) (s .args .model) (s .args .f) (row-length s) (s .pre .1 .1 .0) (s .pre .1 .1 .1 .0) (s .pre .1 .1 .1 .1)
     (bounded o) (rw (← b .bound-of .ensures, ← c .before .beyond .ensures) (c .if3 .left))
 
 has-positive-rational-requires : tie.Need-has-positive-rational-requires
@@ -106,17 +115,17 @@ has-positive-rational-requires c κs = search needs
 
 -- the bounds with the line's on its side
 more : (c : tie.After-has-positive-rational) (t : Bool) → c .has-positive-rational .result ≡ t
-    → let b = c .before .before .before .before in let s = b .before .before .before .before .before in let e = s .args .earlier in
+    → let b = c .before .before .before .before in let s = entry (of-round b) in let e = s .args .earlier in
     let strict = eqb (s .args .line .relation) 2 in
-    (ls : List rules.Line) → Collected (assignment (s .args .model)) (s .args .f) ls (boundMeaning (e .lower)) (boundMeaning (e .upper))
+    (ls : List rules.Line) → CollectedIn e (assignment (s .args .model)) (s .args .f) ls
     → Collected (assignment (s .args .model)) (s .args .f) (meaning (s .args .line) ∷ ls)
     (withLower t (fractionMeaning (b .bound-of .result)) strict (boundMeaning (e .lower)))
     (withUpper t (fractionMeaning (b .bound-of .result)) strict (boundMeaning (e .upper)))
 more c t e = λ ls h.
     let r = c .before .before in
     let b = r .before .before in
-    let o = b .before .before .before in
-    let s = o .before .before in
+    let o = of-round b in
+    let s = entry o in
     let p = sym (c .has-positive-rational .ensures) ∙ e in
     rw (b .bound-of .ensures)
     (collected-more (assignment (s .args .model)) (s .args .f) (meaning (s .args .line)) ls (boundMeaning (s .args .earlier .lower))
@@ -127,7 +136,7 @@ or-upper-requires : tie.Need-or-upper-requires
 or-upper-requires c κs =
     let r = c .before .before .before in
     let b = r .before .before in
-    (b .before .before .before .before .before .pre .1 .0 .1, rw (b .bound-of .ensures) (small r))
+    (entry (of-round b) .pre .1 .0 .1, rw (b .bound-of .ensures) (small r))
 
 returns-4 : tie.Need-returns-4
 returns-4 c = λ ls h. rw (c .or-upper .ensures) (more (c .before .before) true (c .before .if4 .taken) ls h)
@@ -136,7 +145,7 @@ or-lower-requires : tie.Need-or-lower-requires
 or-lower-requires c κs =
     let r = c .before .before .before in
     let b = r .before .before in
-    (b .before .before .before .before .before .pre .1 .0 .0, rw (b .bound-of .ensures) (small r))
+    (entry (of-round b) .pre .1 .0 .0, rw (b .bound-of .ensures) (small r))
 
 returns-5 : tie.Need-returns-5
 returns-5 c = λ ls h. rw (c .or-lower .ensures) (more (c .before .before) false (c .before .if4 .left) ls h)

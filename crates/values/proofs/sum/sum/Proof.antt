@@ -8,6 +8,7 @@ use lib.ListN.{length, getD}
 use mir.Syntax.{w64}
 use mir.Val.{toZ, ofZ}
 use mir.Facts.{toZ-ofZ}
+use Rattle.rules_types.specs.Limits as limit
 use Rattle.theory_integers.specs.Ring.{+-comm}
 use Rattle.rows.specs.Products.{amount-bits}
 use Rattle.models.specs.Model.{value}
@@ -17,14 +18,15 @@ use Rattle.values.proofs.sum.sum.Tie as tie
 
 abbrev Inv-loop : tie.InvT-loop
 Inv-loop row numerators total₀ i₀ total i =
-    (i ≤ 8) × (length row ≡ 8) × (length numerators ≡ 8) × (toZ w64 total ≡ termsFrom row numerators i)
-    × (natAbs (toZ w64 total) ≤ (8 - i) * 1000000000000000000)
+    (i ≤ limit.rationals) × (length row ≡ limit.rationals) × (length numerators ≡ limit.rationals)
+    × (toZ w64 total ≡ termsFrom row numerators i) × (natAbs (toZ w64 total) ≤ (limit.rationals - i) * 1000000000000000000)
 
 abbrev μ-loop : tie.MeasureT-loop
 μ-loop row numerators total₀ i₀ total i = i
 
 loop-holds : tie.Need-loop-holds Inv-loop μ-loop
-loop-holds c = (omega arith, search needs, search needs, terms-none (c .args .t1) (c .args .t2) (search needs), omega arith)
+loop-holds c =
+    (omega arith, search needs, search needs, terms-none (c .args .t1) (c .args .t2) limit.rationals (search needs), omega arith)
 
 sub-i : tie.Need-sub-i Inv-loop μ-loop
 sub-i c = search needs
@@ -73,13 +75,13 @@ loop-again c =
     e ∙ +-comm (toZ w64 (l .total)) (getD (s .args .t1) i (pos 0) *ℤ getD (s .args .t2) i (pos 0))
     ∙ ap (λ (u : ℤ). getD (s .args .t1) i (pos 0) *ℤ getD (s .args .t2) i (pos 0) +ℤ u)
     (l .inv .3 ∙ ap (λ (k : ℕ). termsFrom (s .args .t1) (s .args .t2) k) n) ∙ sym (terms-more (s .args .t1) (s .args .t2) i h) in
-    let b : natAbs (termsFrom (s .args .t1) (s .args .t2) (suc i)) ≤ (8 - l .i) * 1000000000000000000 =
+    let b : natAbs (termsFrom (s .args .t1) (s .args .t2) (suc i)) ≤ (limit.rationals - l .i) * 1000000000000000000 =
     rw (← n, ← l .inv .3) (l .inv .4) in (
       omega (arith, l .inv .0),
       l .inv .1,
       l .inv .2,
       f,
-      rw f (omega (arith, terms-≤ (s .args .t1) (s .args .t2) i h (8 - l .i) (s .pre .0) (s .pre .1) b, n, l .inv .0)),
+      rw f (omega (arith, terms-≤ (s .args .t1) (s .args .t2) i h (limit.rationals - l .i) (s .pre .0) (s .pre .1) b, n, l .inv .0)),
     )
 
 returns : tie.Need-returns Inv-loop μ-loop

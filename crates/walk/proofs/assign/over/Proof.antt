@@ -8,6 +8,7 @@ use lib.ListN.{length, replicate}
 use mir.Syntax.{w64}
 use mir.Val.{toZ}
 use mir.Facts.{toZ-pos}
+use Rattle.rules_types.specs.Limits as limit
 use Rattle.rules_types.specs.Limits.{amount}
 use Rattle.theory_vectors.specs.Amounts.{zeros-amounts, amounts-set}
 use Rattle.rows.specs.Products.{amount-bits}
@@ -48,13 +49,13 @@ combine-rows-requires c κs =
         (
           amounts-set (a .numerators) (a .f) (pos 0) (p .0) (omega arith),
           rw (as-signed (a .m) (p .1 .1 .1 .1))
-              (amounts-set (replicate 8 (pos 0)) (a .f) (pos (a .m)) (zeros-amounts 8) (p .1 .1 .1 .1)),
+              (amounts-set (replicate limit.rationals (pos 0)) (a .f) (pos (a .m)) (zeros-amounts limit.rationals) (p .1 .1 .1 .1)),
         ),
       ),
     )
 
-eight : (s : tie.Start) → length (s .args .numerators) ≡ 8
-eight s = search (needs, s .good)
+row-length : (s : tie.Start) → length (s .args .numerators) ≡ limit.rationals
+row-length s = search (needs, s .good)
 
 returns : tie.Need-returns
 returns c =
@@ -63,7 +64,7 @@ returns c =
     let p = s .pre in
     let e = rw (as-signed (a .k) (p .1 .0), amount-bits (a .a) (p .1 .1 .1 .0), as-signed (a .m) (p .1 .1 .1 .1))
     at (c .combine-rows .ensures) in
-    ap value e ∙ scaled-value (a .a) (pos (a .k)) (pos (a .m)) (a .numerators) (eight s) (a .f) (p .1 .1 .0)
+    ap value e ∙ scaled-value (a .a) (pos (a .k)) (pos (a .m)) (a .numerators) (row-length s) (a .f) (p .1 .1 .0)
 
 pub over-spec : {M : Type 1} → statement M
 over-spec =

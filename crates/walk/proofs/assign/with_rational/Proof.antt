@@ -6,6 +6,7 @@ use native.Mathlib.Omega.{arith}
 use borrow.Author.Needs.{needs}
 use lib.IntN.{pos, _*ℤ_}
 use lib.ListN.{length}
+use Rattle.rules_types.specs.Limits as limit
 use Rattle.rules_types.specs.Limits.{amount}
 use Rattle.rules.specs.Lists.{put}
 use Rattle.theory_vectors.specs.Lcm.{lcm-positive}
@@ -54,8 +55,8 @@ scaled : (c : tie.After-over) → let a = c .before .before .before .before .bef
 scaled c = let s = c .before .before .before .before .before .before in
     rw (amount-bits (s .args .x .numerator) (s .pre .1 .0 .numerator)) at (c .over .ensures)
 
-eight : (c : tie.After-over) → length (c .over .result) ≡ 8
-eight c = search (needs, c)
+row-length : (c : tie.After-over) → length (c .over .result) ≡ limit.rationals
+row-length c = search (needs, c)
 
 overflowing-row-requires : tie.Need-overflowing-row-requires
 overflowing-row-requires c κs = search needs
@@ -65,7 +66,7 @@ returns-2 c =
     let o = c .before .before in
     let l = o .before .before .before .before in
     let a = l .before .before .args in
-    numerators-large (a .model) (a .f) (meaning (a .x)) (l .lcm .result) (l .lcm .ensures) (o .over .result) (eight o) (scaled o)
+    numerators-large (a .model) (a .f) (meaning (a .x)) (l .lcm .result) (l .lcm .ensures) (o .over .result) (row-length o) (scaled o)
     (sym (c .before .overflowing-row .ensures) ∙ c .if2 .taken)
 
 cast-t13 : tie.Need-cast-t13
@@ -78,7 +79,7 @@ returns-3 c =
     let l = n .before in
     let s = l .before .before in
     let a = s .args in
-    rational-words (a .model) (a .f) (meaning (a .x)) (l .lcm .result) (l .lcm .ensures) (o .over .result) (eight o) (scaled o)
+    rational-words (a .model) (a .f) (meaning (a .x)) (l .lcm .result) (l .lcm .ensures) (o .over .result) (row-length o) (scaled o)
     (sym (c .before .overflowing-row .ensures) ∙ c .if2 .left)
     (rw (l .lcm .ensures) (lcm-positive (a .model .denominator) (a .x .denominator) (s .pre .1 .1 .positive) (s .pre .1 .0 .positive)))
     (omega (arith, n .if1 .left))

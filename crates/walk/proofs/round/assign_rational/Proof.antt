@@ -5,7 +5,7 @@ use Rattle.steps.specs.Lines.{linesIn}
 use Rattle.models.specs.Model.{assignment}
 use Rattle.values.specs.Round.{own}
 use Rattle.values.specs.Chosen.{Value}
-use Rattle.walk.specs.Outcome.{assigned-by}
+use Rattle.walk.specs.Reached.{assigned-by}
 use Rattle.walk.proofs.round.assign_rational.Statement.{statement}
 use Rattle.walk.proofs.round.assign_rational.Tie as tie
 

@@ -49,8 +49,8 @@ total : (c : tie.After-sum) → toZ w64 (ofZ w64 (c .sum .result))
     ≡ toZ w64 (ofZ w64 (c .before .before .before .cross .result)) +ℤ toZ w64 (ofZ w64 (c .before .cross2 .result))
 total c = returned (c .sum .result) (c .sum .ok) ∙ c .sum .ensures
 
-reduced-requires : tie.Need-reduced-requires
-reduced-requires c κs =
+reduce-requires : tie.Need-reduce-requires
+reduce-requires c κs =
     let s = c .before .before .before .before .before .before in
     rw (total (c .before), left (c .before .before .before .before), right (c .before .before), c .twice .ensures)
     (midpoint-ratio (meaning (s .args .self)) (meaning (s .args .other)) (s .pre .0) (s .pre .1))
@@ -63,9 +63,9 @@ returns c =
       left (c .before .before .before .before .before),
       right (c .before .before .before),
       c .before .twice .ensures,
-    ) at (c .reduced .ensures)
+    ) at (c .reduce .ensures)
 
 pub midpoint-spec : {M : Type 1} → statement M
 midpoint-spec =
     tie.close
-    (tie.spec cross-requires cross-requires-2 sum-requires twice-requires reduced-requires returns)
+    (tie.spec cross-requires cross-requires-2 sum-requires twice-requires reduce-requires returns)

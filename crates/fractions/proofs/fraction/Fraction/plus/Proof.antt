@@ -32,14 +32,14 @@ total c =
     returned (c .sum .result) (c .sum .ok)
     ∙ (rw (same (s .args .self .numerator) (omega arith), added (c .before .before)) at (c .sum .ensures))
 
-reduced-requires : tie.Need-reduced-requires
-reduced-requires c κs =
+reduce-requires : tie.Need-reduce-requires
+reduce-requires c κs =
     let s = c .before .before .before in
     rw (total c) (plus-ratio (meaning (s .args .self)) (s .args .z) (s .pre .0) (s .pre .1))
 
 returns : tie.Need-returns
 unfolding plus
-returns c = rw (total (c .before)) at (c .reduced .ensures)
+returns c = rw (total (c .before)) at (c .reduce .ensures)
 
 pub plus-spec : {M : Type 1} → statement M
-plus-spec = tie.close (tie.spec cross-requires sum-requires reduced-requires returns)
+plus-spec = tie.close (tie.spec cross-requires sum-requires reduce-requires returns)

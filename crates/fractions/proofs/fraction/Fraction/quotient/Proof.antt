@@ -42,8 +42,8 @@ negative : (c : tie.After-negated) → toZ w64 (ofZ w64 (c .negated .result)) �
 negative c = returned (c .negated .result) (c .negated .ok)
     ∙ (rw (same (c .before .before .before .args .n) (omega arith)) at (c .negated .ensures))
 
-reduced-requires : tie.Need-reduced-requires
-reduced-requires c κs =
+reduce-requires : tie.Need-reduce-requires
+reduce-requires c κs =
     let s = c .before .before .before in
     let n = s .args .n in
     let a = s .args .a in
@@ -53,11 +53,11 @@ returns : tie.Need-returns
 returns c =
     let s = c .before .before .before .before in
     let t = rw (same (s .args .a) (omega arith)) at (c .before .before .if1 .taken) in
-    (rw (negative (c .before), sized (c .before .before .before)) at (c .reduced .ensures))
+    (rw (negative (c .before), sized (c .before .before .before)) at (c .reduce .ensures))
     ∙ sym (by-negative (s .args .n) (s .args .a) (s .args .d) t)
 
-reduced-requires-2 : tie.Need-reduced-requires-2
-reduced-requires-2 c κs =
+reduce-requires-2 : tie.Need-reduce-requires-2
+reduce-requires-2 c κs =
     let s = c .before .before in
     rw (same (s .args .n) (omega arith), sized (c .before)) (scaled-ratio (s .args .n) (s .args .a) (s .args .d) (s .pre))
 
@@ -65,10 +65,10 @@ returns-2 : tie.Need-returns-2
 returns-2 c =
     let s = c .before .before .before in
     let t = rw (same (s .args .a) (omega arith)) at (c .before .if1 .left) in
-    (rw (same (s .args .n) (omega arith), sized (c .before .before)) at (c .reduced2 .ensures))
+    (rw (same (s .args .n) (omega arith), sized (c .before .before)) at (c .reduce2 .ensures))
     ∙ sym (by-positive (s .args .n) (s .args .a) (s .args .d) t)
 
 pub quotient-spec : {M : Type 1} → statement M
 quotient-spec =
     tie.close
-    (tie.spec size-requires mul-e negated-requires reduced-requires returns reduced-requires-2 returns-2)
+    (tie.spec size-requires mul-e negated-requires reduce-requires returns reduce-requires-2 returns-2)

@@ -5,6 +5,7 @@ use native.Mathlib.Omega.{arith}
 use lib.ListN.{length}
 use lib.Bits.{bitOr}
 use lib.Count.{trailing-le}
+use Rattle.rules_types.specs.Limits as limit
 use Rattle.lines.specs.Forms.{leading, round-is}
 use borrow.Author.Needs.{needs}
 use Rattle.lines.proofs.line.Line.round.Statement.{statement}
@@ -16,13 +17,13 @@ lowest-requires c κs = search needs
 leading-requires : tie.Need-leading-requires
 leading-requires c κs =
     let l = c .before .before .before .args .self in
-    omega (arith, c .lowest .ensures, trailing-le 32 (bitOr (l .positive) (l .negative)))
+    omega (arith, c .lowest .ensures, trailing-le limit.allBooleans (bitOr (l .positive) (l .negative)))
 
 returns : tie.Need-returns
 returns c =
     let s = c .before .before .before .before in
     let l = s .args .self in
-    let n : length (l .coefficients) ≡ 8 = search (needs, s .good) in
+    let n : length (l .coefficients) ≡ limit.rationals = search (needs, s .good) in
     c .leading .ensures ∙ ap (λ (r : ℕ). leading (l .coefficients) r) (c .before .lowest .ensures) ∙ sym (round-is l (s .pre) n)
 
 pub round-spec : {M : Type 1} → statement M

@@ -1,0 +1,102 @@
+-- What is seen of an amount, a literal and a constraint at a place of a slice: one law for each way that its reading can go.
+use mathlib.Core.Path.{_≡_, sym, ap, _∙_}
+use mathlib.Core.Bool.{Bool, true, false, _||_}
+use mathlib.Core.List.{List}
+use Prim.Native.Nat.{ℕ, _+_, _%_, _≤_, _<_}
+use native.Mathlib.Omega.{arith}
+use borrow.Author.Tests.{lt-ltb, le-ltb}
+use lib.Dec.{eqb, ltb}
+use lib.IntN.{ℤ}
+use lib.ListN.{length, drop, getD}
+use Rattle.rules_types.specs.declared.answers.Refusal.{Refusal}
+use Rattle.rules_types.specs.declared.answers.Refusal.the-variants as refusal
+use Rattle.rules_types.specs.Layout as layout
+use Rattle.rules.specs.Bytes.{fromUnsigned, fieldAt}
+use Rattle.rules.specs.Problem.{Read, Reader, after, repeat, field, inRange, amount, literal, constraint}
+use Rattle.problem_scan.specs.declared.cursor.Cursor.{Cursor}
+use Rattle.problem_scan.specs.declared.cursor.Cursor.the-variants.{Next, Fault}
+use Rattle.problem_scan.specs.Seen.{seen, Aligned, next-within, seen-fault, seen-next, seen-map}
+use Rattle.problem_scan.specs.Steady.{steady-repeat, steady-amount}
+use Rattle.theory_bytes.specs.Fields.{fieldAt-1}
+use Rattle.problem_scan.specs.Fields.{then-short, then-bad, then-good}
+
+-- ---- an amount
+module _ (q : List ℕ) (at : ℕ) where
+  pub amount-short : at ≤ length q → length q < at + 4 → seen (amount refusal.Amount (drop at q) at) ≡ Fault refusal.Truncated (length q)
+  unfolding amount seen
+  amount-short h l = ap seen (then-short q 4 _ _ at _ h l)
+
+  pub amount-bad : at + 4 ≤ length q → inRange (fromUnsigned (fieldAt at 4 q)) ≡ false
+      → seen (amount refusal.Amount (drop at q) at) ≡ Fault refusal.Amount at
+  unfolding amount seen
+  amount-bad h e = ap seen (then-bad q 4 (λ n. inRange (fromUnsigned n)) _ at _ h e)
+
+  pub amount-good : at + 4 ≤ length q → inRange (fromUnsigned (fieldAt at 4 q)) ≡ true
+      → seen (amount refusal.Amount (drop at q) at) ≡ Next (at + 4)
+  unfolding amount seen
+  amount-good h e = ap seen (then-good q 4 (λ n. inRange (fromUnsigned n)) _ at _ h e)
+
+-- ---- a field of one byte
+module _ {A : Type 0} (q : List ℕ) (good : ℕ → Bool) (f : Refusal) (at : ℕ) (next : ℕ → Reader A) where
+  pub byte-short : at ≤ length q → length q ≤ at → seen (after (field 1 good f (drop at q) at) next) ≡ Fault refusal.Truncated (length q)
+  unfolding seen
+  byte-short h l = ap seen (then-short q 1 good f at next h (omega arith))
+
+  pub byte-bad : at < length q → good (getD q at 0) ≡ false → seen (after (field 1 good f (drop at q) at) next) ≡ Fault f at
+  unfolding seen
+  byte-bad h e = ap seen (then-bad q 1 good f at next (omega arith) (ap good (fieldAt-1 at q h) ∙ e))
+
+  pub byte-good : at < length q → good (getD q at 0) ≡ true
+      → seen (after (field 1 good f (drop at q) at) next) ≡ seen (next (getD q at 0) (drop (at + 1) q) (at + 1))
+  byte-good h e =
+      ap seen (then-good q 1 good f at next (omega arith) (ap good (fieldAt-1 at q h) ∙ e))
+      ∙ ap (λ (v : ℕ). seen (next v (drop (at + 1) q) (at + 1))) (fieldAt-1 at q h)
+
+-- ---- a literal
+module _ (q : List ℕ) (at b : ℕ) where
+  pub literal-short : at ≤ length q → length q ≤ at → seen (literal b (drop at q) at) ≡ Fault refusal.Truncated (length q)
+  unfolding literal
+  literal-short h l = byte-short q _ _ at _ h l
+
+  pub literal-bad : at < length q → b ≤ getD q at 0 % 128 → seen (literal b (drop at q) at) ≡ Fault refusal.Literal at
+  unfolding literal
+  literal-bad h l = byte-bad q (λ code. ltb (code % 128) b) _ at _ h (le-ltb (getD q at 0 % 128) b l)
+
+  pub literal-good : at < length q → getD q at 0 % 128 < b → seen (literal b (drop at q) at) ≡ Next (at + 1)
+  unfolding literal seen
+  literal-good h l = byte-good q (λ code. ltb (code % 128) b) _ at _ h (lt-ltb (getD q at 0 % 128) b l)
+
+-- ---- a constraint: its relation, then r coefficients, then the bound
+unfoldable pub isRelation : ℕ → Bool
+isRelation n = eqb n 1 || eqb n 2
+
+module _ (q : List ℕ) (at r : ℕ) where
+  abbrev coefficients : Read (List ℤ)
+  coefficients = repeat r (amount refusal.Amount) (drop (at + layout.constraintCoefficients) q) (at + layout.constraintCoefficients)
+
+  pub constraint-short : at ≤ length q → length q ≤ at → seen (constraint r (drop at q) at) ≡ Fault refusal.Truncated (length q)
+  unfolding constraint
+  constraint-short h l = byte-short q _ _ at _ h l
+
+  pub constraint-bad : at < length q → isRelation (getD q at 0) ≡ false → seen (constraint r (drop at q) at) ≡ Fault refusal.Relation at
+  unfolding constraint isRelation
+  constraint-bad h e = byte-bad q (λ n. eqb n 1 || eqb n 2) _ at _ h e
+
+  module _ (h : at < length q) (e : isRelation (getD q at 0) ≡ true) (w : Cursor) (given : w ≡ seen coefficients) where
+    pub constraint-fault : (f : Refusal) (p : ℕ) → w ≡ Fault f p → w ≡ seen (constraint r (drop at q) at)
+    unfolding constraint isRelation
+    constraint-fault f p i = i ∙ sym (byte-good q (λ n. eqb n 1 || eqb n 2) _ at _ h e ∙ seen-fault coefficients _ f p (sym given ∙ i))
+
+    aligned : Aligned q coefficients
+    aligned = steady-repeat q (amount refusal.Amount) (steady-amount q refusal.Amount) r (at + layout.constraintCoefficients) (omega arith)
+
+    pub constraint-within : (n : ℕ) → w ≡ Next n → n ≤ length q
+    constraint-within n i = next-within q coefficients n aligned (sym given ∙ i)
+
+    pub constraint-bound : (n : ℕ) → w ≡ Next n → seen (constraint r (drop at q) at) ≡ seen (amount refusal.Amount (drop n q) n)
+    unfolding constraint isRelation
+    constraint-bound n i =
+        byte-good q (λ n. eqb n 1 || eqb n 2) _ at _ h e
+        ∙ seen-next q coefficients _ n (seen (amount refusal.Amount (drop n q) n))
+        aligned (sym given ∙ i)
+        (λ cs. seen-map (amount refusal.Amount (drop n q) n) _)
