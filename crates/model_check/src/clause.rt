@@ -5,14 +5,14 @@ use models::model::Model;
 use problem_clauses::places::count_place;
 use rules_types::layout::constraint_bytes;
 ghost use mathlib.Core.Path.{_≡_};
-ghost use Prim.Native.Nat.{_+_, _*_, _≤_};
+ghost use Prim.Native.Nat.{_+_, _≤_};
 ghost use lib.ListN.{length};
 ghost use Rattle.rules_types.specs.Limits.{rationals};
 ghost use Rattle.rules_types.specs.Layout.{constraintBytes};
 ghost use Rattle.rules.specs.Lists.{any};
 ghost use Rattle.rules.specs.Meaning.{literalHolds, constraintHolds, clauseHolds};
 ghost use Rattle.theory_vectors.specs.Amounts.{Amounts};
-ghost use Rattle.problem_scan.specs.Values.{valuesAt, behind, literalAt, constraintAt, constraintsAt, clauseAt};
+ghost use Rattle.problem_scan.specs.Values.{valuesAt, behind, literalAt, constraintsAt, clauseAt};
 ghost use Rattle.problem_scan.specs.Sound.{Each, SoundConstraint, SoundClause};
 ghost use Rattle.models.specs.Model.{assignment};
 

@@ -3,11 +3,10 @@ use mathlib.Core.Path.{_≡_, refl, ap, _∙_}
 use mathlib.Core.Bool.{Bool, true, false}
 use mathlib.Core.List.{List}
 use mathlib.Core.Option.{Option, none, some}
-use Prim.Native.Nat.{ℕ, _+_, _*_, _-_}
+use Prim.Native.Nat.{ℕ, _+_, _-_}
 use native.Mathlib.Omega.{arith}
 use lib.ListN.{length, getD}
 use Rattle.rules_types.specs.Limits.{allBooleans}
-use Rattle.rules_types.specs.Layout as layout
 use Rattle.rules.specs.Problem.{Constraint, Clause}
 use Rattle.rules.specs.Lines.{meet}
 use Rattle.rules.specs.Normalize.{settledAll, membersOf, normalClause}
@@ -15,7 +14,7 @@ use Rattle.rules.specs.Split.{splitsOf}
 use Rattle.problem_clauses.specs.declared.splits.Staying.{Staying}
 use Rattle.problem_clauses.specs.declared.splits.Staying.the-variants.{Dropped, Count}
 use Rattle.masks.specs.Mask.{bits}
-use Rattle.problem_scan.specs.Values.{valuesAt, literalAt, constraintAt, constraintsAt, countOf, clauseAt}
+use Rattle.problem_scan.specs.Values.{valuesAt, literalAt, constraintsAt, countOf, clauseAt}
 use Rattle.problem_clauses.specs.Remaining.{counted}
 
 abbrev pub splitsBy : Bool → Staying → ℕ

@@ -10,7 +10,7 @@ use rules_types::layout::CONSTRAINT_COEFFICIENTS;
 use rules_types::layout::constraint_bytes;
 ghost use mathlib.Core.Path.{_≡_};
 ghost use mathlib.Core.Bool.{false};
-ghost use Prim.Native.Nat.{_≤_, _+_, _*_};
+ghost use Prim.Native.Nat.{_≤_, _+_};
 ghost use lib.ListN.{length};
 ghost use Rattle.rules_types.specs.Layout.{constraintBytes};
 ghost use Rattle.rules.specs.Lists.{all};

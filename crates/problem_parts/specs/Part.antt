@@ -1,21 +1,17 @@
 -- A part by its number: what is left of the parts decides.
 use mathlib.Core.Path.{_≡_, sym, ap, _∙_}
-use mathlib.Core.Bool.{true, false, cond}
+use mathlib.Core.Bool.{false, cond}
 use mathlib.Core.List.{List, [], _∷_}
 use mathlib.Core.Option.{Option, none, some}
 use Prim.Native.Nat.{ℕ, suc, _-_, _≤_, _<_}
 use native.Mathlib.Omega.{arith}
-use lib.ListN.{length, getElem?}
-use Rattle.rules.specs.Problem.{Constraint}
+use lib.ListN.{getElem?}
 use Rattle.rules.specs.Lines as rules
-use Rattle.rules.specs.Lines.{Booleans}
-use Rattle.rules.specs.Split.{chain, parts}
-use Rattle.problem_clauses.specs.declared.splits.Staying.the-variants.{Count}
-use Rattle.problem_clauses.specs.Remaining.{counted}
+use Rattle.rules.specs.Split.{parts}
 use Rattle.lines.specs.Line.{meaning}
 use Rattle.problem_parts.specs.declared.part.Found.{Found}
 use Rattle.problem_parts.specs.declared.parts.Parts.{Parts}
-use Rattle.problem_parts.specs.Parts.{positiveOf, negativeOf, partsBy, partsIf, partsFrom, SoundParts}
+use Rattle.problem_parts.specs.Parts.{partsIf, partsFrom, SoundParts}
 
 unfoldable pub partOf : Found → Option rules.Line
 partOf f = cond (f .found) (some (meaning (f .line))) none
@@ -24,17 +20,6 @@ partOf f = cond (f .found) (some (meaning (f .line))) none
 pub from-none : (q : List ℕ) (r : ℕ) (c : Parts) → c .more ≡ false → partsFrom q r c ≡ []
 unfolding partsFrom partsIf
 from-none q r c e = rw e
-
-some-part : (k : ℕ) (p n : Booleans) (o : Option (List Constraint)) (m : ℕ) → counted 0 o ≡ Count m → 0 < length (partsBy k p n o)
-unfolding partsBy counted parts chain
-some-part k p n none m e = let z : _≡_ {A = ℕ} 0 1 = cc in absurd (omega arith)
-some-part k p n (some []) m e = omega arith
-some-part k p n (some (c ∷ [])) m e = omega arith
-some-part k p n (some (c ∷ (d ∷ ds))) m e = omega arith
-
-pub from-some : (q : List ℕ) (r : ℕ) (c : Parts) → SoundParts q r c → c .more ≡ true → 0 < length (partsFrom q r c)
-unfolding partsFrom partsIf
-from-some q r c sound e = rw e (some-part (c .split) (positiveOf c) (negativeOf c) _ (c .stay) (sound .stays e))
 
 -- part `left` from here on is the one that is looked for
 pub record Looking (q : List ℕ) (r : ℕ) (wanted : Option rules.Line) (c : Parts) (left : ℕ) : Type 0 where

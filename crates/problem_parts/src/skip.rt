@@ -4,14 +4,14 @@ use problem_clauses::splits::weight;
 use rules_types::layout::constraint_bytes;
 ghost use mathlib.Core.Path.{_≡_};
 ghost use mathlib.Core.Bool.{not};
-ghost use Prim.Native.Nat.{_+_, _*_, _<_};
+ghost use Prim.Native.Nat.{_+_, _<_};
 ghost use Rattle.rules_types.specs.Layout.{constraintBytes};
 ghost use Rattle.rules.specs.Lists.{all};
 ghost use Rattle.rules.specs.Arithmetic.{isZero};
 ghost use Rattle.rules.specs.Normalize.{settledAll};
 ghost use Rattle.problem_clauses.specs.declared.splits.Staying.the-variants.{Count};
 ghost use Rattle.problem_clauses.specs.Remaining.{counted};
-ghost use Rattle.problem_scan.specs.Values.{valuesAt, constraintAt, constraintsAt};
+ghost use Rattle.problem_scan.specs.Values.{constraintAt, constraintsAt};
 ghost use Rattle.problem_scan.specs.Sound.{Each, SoundConstraint};
 ghost use Rattle.problem_parts.specs.Skip.{Skipped};
 

@@ -31,14 +31,6 @@ module _ (q : List ℕ) (r : ℕ) where
   length-clausesAt (suc n) at = ap suc (length-clausesAt n (clauseEnd q r at))
 
   -- ---- one pass of a loop over them
-  pub clauses-none : (at : ℕ) → clausesAt 0 at ≡ []
-  unfolding clausesAt
-  clauses-none at = refl
-
-  pub clauses-more : (n at : ℕ) → clausesAt (suc n) at ≡ clauseAt q r at ∷ clausesAt n (clauseEnd q r at)
-  unfolding clausesAt
-  clauses-more n at = refl
-
   module _ (n at : ℕ) (more : 0 < n) where
     pub clauses-next : clausesAt n at ≡ clauseAt q r at ∷ clausesAt (n - 1) (clauseEnd q r at)
     unfolding clausesAt

@@ -13,7 +13,7 @@ use Rattle.rules_types.specs.declared.answers.Refusal.the-variants as refusal
 use Rattle.rules_types.specs.Limits as limit
 use Rattle.rules_types.specs.Layout as layout
 use Rattle.rules.specs.Bytes.{fieldAt}
-use Rattle.rules.specs.Problem.{Clause, Problem, Read, fault, got, Reader, _>>=_, after, return, repeat, field, clause, end, problem}
+use Rattle.rules.specs.Problem.{Clause, Problem, Read, fault, got, Reader, _>>=_, after, return, repeat, field, end, problem}
 use Rattle.problem_scan.specs.declared.cursor.Cursor.{Cursor}
 use Rattle.problem_scan.specs.declared.cursor.Cursor.the-variants as cursor
 use Rattle.problem_scan.specs.declared.cursor.Sizes.{Sizes}

@@ -2,12 +2,11 @@
 use mathlib.Core.Path.{_≡_, sym, ap, _∙_}
 use mathlib.Core.Bool.{Bool, true, false}
 use native.Mathlib.Omega.{arith}
-use Prim.Native.Nat.{_+_, _*_, _<_}
+use Prim.Native.Nat.{_+_, _<_}
 use lib.ListN.{length, getD}
-use Rattle.rules_types.specs.Layout as layout
 use Rattle.rules.specs.Normalize.{settledAll}
 use Rattle.rules.specs.Split.{splitsOf}
-use Rattle.problem_scan.specs.Values.{valuesAt, constraintAt, constraintsAt, clauseAt}
+use Rattle.problem_scan.specs.Values.{constraintsAt, clauseAt}
 use Rattle.problem_clauses.specs.Walk.{count-within, clause-within, literals-within, constraints-within}
 use Rattle.problem_clauses.specs.Remaining.{counted}
 use Rattle.problem_clauses.specs.Splits.{splitsBy, splits-at}

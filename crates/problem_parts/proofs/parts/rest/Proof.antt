@@ -1,5 +1,4 @@
 -- `parts::rest` meets its contract. Assumes nothing.
-use Prim.Native.Nat.{_+_, _*_}
 use native.Mathlib.Omega.{arith}
 use borrow.Author.Needs.{needs}
 use Rattle.rules_types.specs.Layout.{constraintBytes}
