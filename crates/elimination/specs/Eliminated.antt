@@ -18,7 +18,7 @@ use Rattle.lines.specs.Line.{meaning}
 use Rattle.lines.specs.Forms.{coefficient-is}
 use Rattle.steps.specs.Places.{stepAt}
 use Rattle.steps.specs.Lines.{lineAt, linesIn, ReadyLines}
-use Rattle.placing.specs.declared.place.Point.{Point}
+use Rattle.placing.specs.declared.point.Point.{Point}
 use Rattle.steps.specs.Held.{stepFrom, stepsIn, length-stepsIn, Held, lines-stepsIn, held-ready, held-bytes}
 use Rattle.placing.specs.Point.{stateAt, Leads, leads-trans, progressOf, progress-at, pairs-at, Reaches, steps-at}
 use Rattle.elimination.specs.Loading.{origin}

@@ -17,8 +17,8 @@ use Rattle.lines.specs.Line.{meaning}
 use Rattle.problem_parts.specs.declared.parts.Parts.{Parts}
 use Rattle.problem_parts.specs.Parts.{partsFrom, SoundParts}
 use Rattle.problem_parts.specs.Part.{from-none}
-use Rattle.placing.specs.declared.place.Progress.the-variants.{Running}
-use Rattle.placing.specs.declared.place.Point.{Point}
+use Rattle.placing.specs.declared.point.Progress.the-variants.{Running}
+use Rattle.placing.specs.declared.point.Point.{Point}
 use Rattle.steps.specs.declared.origin.Step as words
 use Rattle.steps.specs.Origin.{loadedBy, originOf}
 use Rattle.steps.specs.Held.{stepsIn}

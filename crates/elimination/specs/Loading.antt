@@ -22,8 +22,8 @@ use Rattle.problem_scan.specs.Sound.{SoundClause}
 use Rattle.problem_read.specs.Clauses.{clausesAt, clauses-next}
 use Rattle.problem_read.specs.Parsed.{problemAt}
 use Rattle.problem_read.specs.Readable.{Readable, Ahead, ahead-start, ahead-sound, ahead-few, ahead-next}
-use Rattle.placing.specs.declared.place.Progress.the-variants.{Running}
-use Rattle.placing.specs.declared.place.Point.{Point}
+use Rattle.placing.specs.declared.point.Progress.the-variants.{Running}
+use Rattle.placing.specs.declared.point.Point.{Point}
 use Rattle.steps.specs.Held.{stepsIn}
 use Rattle.placing.specs.Point.{stateOf, stateAt, Standing, Leads, leads-none, leads-trans, pairs-at, isRunning, running-yes, Reaches}
 use Rattle.elimination.specs.LoadedParts.{LoadsParts, load-stays}

@@ -1,7 +1,7 @@
 // The parts of one clause.
-use placing::place::Point;
-use placing::place::is_running;
-use placing::place::place;
+use placing::admit::admit;
+use placing::point::Point;
+use placing::point::is_running;
 use problem_parts::parts::Parts;
 use problem_parts::parts::next;
 use rules_types::limits::Limits;
@@ -13,7 +13,7 @@ ghost use lib.ListN.{length};
 ghost use Rattle.rules_types.specs.Limits.{rationals, splits, mostSteps};
 ghost use Rattle.problem_parts.specs.Parts.{partsFrom, SoundParts};
 ghost use Rattle.placing.specs.Point.{Standing};
-ghost use Rattle.placing.specs.declared.place.Progress.the-variants.{Running};
+ghost use Rattle.placing.specs.declared.point.Progress.the-variants.{Running};
 ghost use Rattle.elimination.specs.LoadedParts.{LoadsParts};
 
 // "Pieces load in order." "Loading drops equal lines too."
@@ -44,7 +44,7 @@ pub fn load_parts(
             origin: Origin::loaded(clause, j),
             line: line,
         };
-        p = place(proof, p, step, limits);
+        p = admit(proof, p, step, limits);
         let progress = p.progress;
         if !is_running(progress) {
             return p;

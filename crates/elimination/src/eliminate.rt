@@ -1,6 +1,6 @@
 // The elimination of a problem: loading, then the rounds, in a proof's bytes.
 use crate::load::load;
-use placing::place::Point;
+use placing::point::Point;
 use problem_scan::cursor::Sizes;
 use rounds::sequence::rounds;
 use rules_types::limits::Limits;

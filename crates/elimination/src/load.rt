@@ -1,8 +1,8 @@
 // The parts of all clauses.
 use crate::clause::load_parts;
-use placing::place::Point;
-use placing::place::Progress;
-use placing::place::is_running;
+use placing::point::Point;
+use placing::point::Progress;
+use placing::point::is_running;
 use problem_clauses::places::next;
 use problem_parts::parts::begin;
 use problem_parts::parts::splits;

@@ -6,6 +6,7 @@ use mathlib.Core.List.{List}
 use Prim.Native.Nat.{ℕ, _*_}
 use native.Mathlib.Omega.{arith}
 use lib.ListN.{take}
+use Rattle.rules_types.specs.Limits as limit
 use Rattle.rules_types.specs.declared.answers.Verdict.the-variants.{Satisfiable, Unsatisfiable}
 use Rattle.rules_types.specs.declared.answers.Checked.the-variants.{Accepted}
 use Rattle.rules_types.specs.declared.answers.Evidence.{Evidence}
@@ -22,8 +23,8 @@ use Rattle.end_to_end.specs.Solving.{Delivered}
 -- the
 -- check accepts "every non-empty part our solver hands back"
 pub record Handed (input : List ℕ) (told : SolvedTold) (proof model : List ℕ) (t : Told) : Type 0 where
-  pub afterSatisfiable : told .number ≡ 64 → (t .number ≡ 70) × (t .value ≡ 64)
-  pub afterUnsatisfiable : told .number ≡ 65 → (t .number ≡ 69) × (t .value ≡ 64 * told .value)
+  pub afterSatisfiable : told .number ≡ 64 → (t .number ≡ 70) × (t .value ≡ limit.modelBytes)
+  pub afterUnsatisfiable : told .number ≡ 65 → (t .number ≡ 69) × (t .value ≡ limit.stepBytes * told .value)
   pub ofModel : t .number ≡ 70 → modelChecked input (take (t .value) model) ≡ Accepted
   pub ofProof : t .number ≡ 69 → (t .value ≡ 0) ⊎ (proofChecked standard input (take (t .value) proof) ≡ Accepted)
 
@@ -56,7 +57,7 @@ module _ {input lentProof lentModel : List ℕ} {told : SolvedTold} {proof model
         afterSatisfiable = λ e. let i = p ∙ ap evidenceTold (d .back .afterSatisfiable (d .verdict Satisfiable .0 e)) in
             (ap (λ (t : Told). t .number) i, ap (λ (t : Told). t .value) i);
         afterUnsatisfiable = λ e. let i = p ∙ ap evidenceTold (d .back .afterUnsatisfiable (d .verdict Unsatisfiable .0 e)) in
-            (ap (λ (t : Told). t .number) i, ap (λ (t : Told). t .value) i ∙ ap (λ (k : ℕ). 64 * k) (sym (d .value)));
+            (ap (λ (t : Told). t .number) i, ap (λ (t : Told). t .value) i ∙ ap (λ (k : ℕ). limit.stepBytes * k) (sym (d .value)));
         ofModel = λ e. rw p (of-model part refl (sym (ap (λ (t : Told). t .number) p) ∙ e));
         ofProof = λ e. rw p (of-proof part refl (sym (ap (λ (t : Told). t .number) p) ∙ e));
       }

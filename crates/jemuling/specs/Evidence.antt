@@ -29,11 +29,11 @@ module _ (limits : Limits) (number steps : ℕ) (proof model : List ℕ) where
   part-refused e = rw (e, evidence)
 
   module _ (e : refused limits steps proof model ≡ false) where
-    pub part-model : eqb number 64 ≡ true → evidence limits number steps proof model ≡ OfModel 64
+    pub part-model : eqb number 64 ≡ true → evidence limits number steps proof model ≡ OfModel limit.modelBytes
     unfolding evidence refused verdictNumber
     part-model f = rw (e, evidence, f)
 
-    pub part-proof : eqb number 64 ≡ false → eqb number 65 ≡ true → evidence limits number steps proof model ≡ OfProof (64 * steps)
+    pub part-proof : eqb number 64 ≡ false → eqb number 65 ≡ true → evidence limits number steps proof model ≡ OfProof (limit.stepBytes * steps)
     unfolding evidence refused verdictNumber
     part-proof f g = rw (e, evidence, f, g)
 
@@ -47,7 +47,7 @@ module _ (limits : Limits) (number steps : ℕ) (proof model : List ℕ) where
     neither false false true e = let z : _≡_ {A = ℕ} 0 1 = cc in absurd (omega arith)
     neither false false false e = (refl, refl, refl)
 
-    pub full : (64 * limits .steps ≤ length proof) × (64 ≤ length model) × (steps ≤ limits .steps)
+    pub full : (limit.stepBytes * limits .steps ≤ length proof) × (limit.modelBytes ≤ length model) × (steps ≤ limits .steps)
     unfolding refused
     full =
         let h = neither (ltb (length proof) (limit.proofBytes limits)) (ltb (length model) limit.modelBytes)

@@ -81,11 +81,11 @@ fn encode_model(b: u8, r: u8, model: Model) -> [u8; Limits::MODEL_BYTES]
 }
 
 pub fn write_model(buffer: &mut [u8], b: u8, r: u8, model: Model)
-    requires { ⌜ 64 ≤ length (now buffer) ⌝ }
-    requires { ⌜ b ≤ 16 ⌝ }
-    requires { ⌜ r ≤ 8 ⌝ }
+    requires { ⌜ modelBytes ≤ length (now buffer) ⌝ }
+    requires { ⌜ b ≤ booleans ⌝ }
+    requires { ⌜ r ≤ rationals ⌝ }
     requires { ⌜ Amounts (model .numerators) ⌝ }
-    ensures { λ _. ⌜ now (buffer .exit) ≡ encodeModel b r (assignment model) ++ drop 64 (now (buffer .entry)) ⌝ }
+    ensures { λ _. ⌜ now (buffer .exit) ≡ encodeModel b r (assignment model) ++ drop modelBytes (now (buffer .entry)) ⌝ }
 {
     let bytes = encode_model(b, r, model);
     put_bytes(buffer, 0, &bytes);

@@ -17,9 +17,9 @@ use Rattle.steps.specs.declared.origin.Step as words
 use Rattle.steps.specs.Origin.{stepOf}
 use Rattle.steps.specs.Places.{stepAt, HasStep}
 use Rattle.fields.specs.Field.{stored}
-use Rattle.placing.specs.declared.place.Progress.{Progress}
-use Rattle.placing.specs.declared.place.Progress.the-variants.{Running, Empty, Overflow, OutOfSteps}
-use Rattle.placing.specs.declared.place.Point.{Point}
+use Rattle.placing.specs.declared.point.Progress.{Progress}
+use Rattle.placing.specs.declared.point.Progress.the-variants.{Running, Empty, Overflow, OutOfSteps}
+use Rattle.placing.specs.declared.point.Point.{Point}
 use Rattle.steps.specs.Held.{stepFrom, stepsIn, length-stepsIn, StepBytes, Held, stepAt-same, stepsIn-same, stored-steps, stored-held}
 use Rattle.steps.specs.Held.{stored-front, stored-rest, stored-length}
 
@@ -154,22 +154,22 @@ module _ {limits : Limits} {proof : List ℕ} (p : Point) (standing : Standing l
   abbrev s : Step
   s = stepOf step
 
-  pub place-known : covered (s .line) (stepsIn proof (p .steps)) ≡ true → Reaches limits proof p proof (record {
+  pub admit-known : covered (s .line) (stepsIn proof (p .steps)) ≡ true → Reaches limits proof p proof (record {
     progress = Running;
     steps = p .steps;
     pairs = p .pairs;
   }) (added limits proof p step)
   unfolding stateAt stateOf add placed
-  place-known e = record { is = rw e; leads = leads-none standing }
+  admit-known e = record { is = rw e; leads = leads-none standing }
 
   module _ (new : covered (s .line) (stepsIn proof (p .steps)) ≡ false) where
-    pub place-out-of-steps : limits .steps ≤ p .steps → Reaches limits proof p proof (record {
+    pub admit-out-of-steps : limits .steps ≤ p .steps → Reaches limits proof p proof (record {
       progress = OutOfSteps;
       steps = p .steps;
       pairs = p .pairs;
     }) (added limits proof p step)
     unfolding stateAt stateOf add placed limited
-    place-out-of-steps h = record {
+    admit-out-of-steps h = record {
       is = rw (new, length-stepsIn proof (p .steps), le-leb (limits .steps) (p .steps) h);
       leads = leads-none standing;
     }
@@ -182,9 +182,9 @@ module _ {limits : Limits} {proof : List ℕ} (p : Point) (standing : Standing l
       room : HasStep proof (p .steps)
       room = omega (arith, standing .room)
 
-      pub place-new : Reaches limits proof p (stored (stepBytes * p .steps) bytes proof) put (added limits proof p step)
+      pub admit-new : Reaches limits proof p (stored (stepBytes * p .steps) bytes proof) put (added limits proof p step)
       unfolding stateAt stateOf add placed limited
-      place-new =
+      admit-new =
           let n = p .steps in
           let one : n + 1 ≡ suc n = omega arith in
           let steps : stepsIn (stored (stepBytes * n) bytes proof) (n + 1) ≡ stepsIn proof n ++ (s ∷ []) =

@@ -1,3 +1,4 @@
 // Lines put behind the others of a proof.
+pub mod admit;
 pub mod covered;
-pub mod place;
+pub mod point;

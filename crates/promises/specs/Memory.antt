@@ -69,16 +69,16 @@ module _ (limits : Limits) (p : Problem) (proof model : List ℕ) where
   no-model = no-model-by (elimination (limited limits) p)
 
 -- ---- no buffer grows or shrinks
-abbrev Kept : Limits → List ℕ → List ℕ → Outcome → Type 0
-Kept limits proof model o = (length (proofAfter limits o proof) ≡ length proof) × (length (modelAfter o model) ≡ length model)
+abbrev SameLengths : Limits → List ℕ → List ℕ → Outcome → Type 0
+SameLengths limits proof model o = (length (proofAfter limits o proof) ≡ length proof) × (length (modelAfter o model) ≡ length model)
 
 module _ (limits : Limits) (proof model : List ℕ) (full : FullSize limits proof model) where
-  kept-stopped : (f : Refusal) (steps n : ℕ) → Kept limits proof model (stopped f steps n)
+  kept-stopped : (f : Refusal) (steps n : ℕ) → SameLengths limits proof model (stopped f steps n)
   unfolding proofAfter modelAfter
   kept-stopped f steps n = (simp (length-append, length-replicate, length-drop) (omega (arith, full .proofSize)), refl)
 
   kept-decided : (v : Verdict) (steps : List Step) (n : ℕ) (bytes : List ℕ) → All (λ s. Formed (s .line)) steps
-      → length steps ≤ limits .steps → length bytes ≡ limit.modelBytes → Kept limits proof model (decided v steps n bytes)
+      → length steps ≤ limits .steps → length bytes ≡ limit.modelBytes → SameLengths limits proof model (decided v steps n bytes)
   unfolding proofAfter modelAfter
   kept-decided v steps n bytes f h e = (
     simp (length-append, length-replicate, length-drop) (omega (arith, proof-length steps f, full .proofSize)),
@@ -87,7 +87,7 @@ module _ (limits : Limits) (proof model : List ℕ) (full : FullSize limits proo
 
   module _ (input : List ℕ) (p : Problem) (e : read input ≡ sound p) where
     kept-finished : (steps : List Step) (n : ℕ) → elimination (limited limits) p ≡ running steps n → All (λ s. Formed (s .line)) steps
-        → length steps ≤ limits .steps → (o : Option (List ℕ)) → walkModel p steps ≡ o → Kept limits proof model (finished steps n o)
+        → length steps ≤ limits .steps → (o : Option (List ℕ)) → walkModel p steps ≡ o → SameLengths limits proof model (finished steps n o)
     unfolding noModel
     kept-finished steps n c f h none q = kept-decided Unwritten steps n noModel f h refl
     kept-finished steps n c f h (some bytes) q =
@@ -95,14 +95,14 @@ module _ (limits : Limits) (proof model : List ℕ) (full : FullSize limits proo
         (running-satisfies p (read-well-formed input p e) (limited limits) steps n c) .0)
 
     kept-concluded : (s : State) → elimination (limited limits) p ≡ s → All (λ x. Formed (x .line)) (stepsOf s)
-        → length (stepsOf s) ≤ limits .steps → Kept limits proof model (concluded p s)
+        → length (stepsOf s) ≤ limits .steps → SameLengths limits proof model (concluded p s)
     unfolding concluded stepsOf noModel
     kept-concluded (running steps n) c f h = rw (concluded-running p steps n) (kept-finished steps n c f h (walkModel p steps) refl)
     kept-concluded (ended empty steps n) c f h = kept-decided Unsatisfiable steps n noModel f h refl
     kept-concluded (ended overflow steps n) c f h = kept-stopped refusal.Overflow (length steps) n
     kept-concluded (ended outOfSteps steps n) c f h = kept-stopped refusal.OutOfSteps (length steps) n
 
-    kept-elimination : Kept limits proof model (concluded p (elimination (limited limits) p))
+    kept-elimination : SameLengths limits proof model (concluded p (elimination (limited limits) p))
     unfolding elimination
     kept-elimination =
         kept-concluded (elimination (limited limits) p) refl
@@ -110,7 +110,7 @@ module _ (limits : Limits) (proof model : List ℕ) (full : FullSize limits proo
         (elimination-sound p (read-well-formed input p e) (limited limits) order))
         (limited-held limits order (loadableOf p))
 
-kept-faulted : (limits : Limits) (proof model : List ℕ) (f : Refusal) (place : ℕ) → Kept limits proof model (faulted f place)
+kept-faulted : (limits : Limits) (proof model : List ℕ) (f : Refusal) (place : ℕ) → SameLengths limits proof model (faulted f place)
 unfolding proofAfter modelAfter
 kept-faulted limits proof model f place = (refl, refl)
 
@@ -127,7 +127,7 @@ sizes-kept limits input proof model =
     (kept-faulted limits proof model refusal.ShortModel 0))
     (λ u. by (record { proofSize = z; modelSize = nltb→le (length model) limit.modelBytes u }) (read input) refl) (split S)) (split B)
   where
-    by : FullSize limits proof model → (r : Reading) → read input ≡ r → Kept limits proof model (lent limits input proof model)
+    by : FullSize limits proof model → (r : Reading) → read input ≡ r → SameLengths limits proof model (lent limits input proof model)
     by full (faulty f place) e =
         rw (lent-fault limits input proof model (full .proofSize) (full .modelSize) f place e) (kept-faulted limits proof model f place)
     by full (sound p) e = rw (lent-sound limits input proof model (full .proofSize) (full .modelSize) p e)

@@ -14,7 +14,7 @@ ghost use Rattle.lines.specs.Line.{meaning, Shaped, Ready};
 ghost use Rattle.normalization.specs.Reduced.{Bounded};
 ghost use Rattle.resolvents.specs.Resolved.{Gives};
 
-pub enum Outcome {
+pub enum Status {
     Dropped,
     Overflows,
     Made,
@@ -22,7 +22,7 @@ pub enum Outcome {
 
 // The line that is left, where it is not dropped.
 pub struct Resolved {
-    pub outcome: Outcome,
+    pub status: Status,
     pub line: Line,
 }
 
@@ -36,18 +36,18 @@ pub fn finish(line: Line) -> Resolved
     let left = n.line;
     if n.dropped {
         return Resolved {
-            outcome: Outcome::Dropped,
+            status: Status::Dropped,
             line: left,
         };
     }
     if left.overflows() {
         return Resolved {
-            outcome: Outcome::Overflows,
+            status: Status::Overflows,
             line: left,
         };
     }
     Resolved {
-        outcome: Outcome::Made,
+        status: Status::Made,
         line: left,
     }
 }

@@ -17,12 +17,12 @@ use Rattle.rules.specs.Elimination.{State, overflows, limited, Pair, placed, ad
 use Rattle.lines.specs.declared.line.Line.{Line}
 use Rattle.lines.specs.Line.{meaning}
 use Rattle.steps.specs.Lines.{lineAt}
-use Rattle.resolvents.specs.declared.resolve.Outcome.the-variants.{Dropped, Overflows, Made}
+use Rattle.resolvents.specs.declared.resolve.Status.the-variants.{Dropped, Overflows, Made}
 use Rattle.resolvents.specs.declared.resolve.Resolved.{Resolved}
-use Rattle.resolvents.specs.Resolved.{outcomeOf, lineOf, Gives}
-use Rattle.placing.specs.declared.place.Progress.{Progress}
-use Rattle.placing.specs.declared.place.Progress.the-variants.{Running, Overflow}
-use Rattle.placing.specs.declared.place.Point.{Point}
+use Rattle.resolvents.specs.Resolved.{statusOf, lineOf, Gives}
+use Rattle.placing.specs.declared.point.Progress.{Progress}
+use Rattle.placing.specs.declared.point.Progress.the-variants.{Running, Overflow}
+use Rattle.placing.specs.declared.point.Point.{Point}
 use Rattle.steps.specs.Held.{stepsIn}
 use Rattle.placing.specs.Point.{stateOf, stateAt, Standing, leads-none, Reaches, added}
 use Rattle.lines.specs.declared.order.Variable.{Variable}
@@ -69,7 +69,7 @@ pairOf proof x = record { upper = numbered proof (x .upper); lower = numbered pr
 
 -- what is left of the resolvent
 abbrev pub left : Resolved → Option rules.Line
-left r = lineOf (r .outcome) (r .line)
+left r = lineOf (r .status) (r .line)
 
 -- ---- its three outcomes
 -- the pair tried and counted, with what is left of its resolvent
@@ -93,30 +93,30 @@ abbrev pub counted : Point → Progress → Point
 counted p g = record { progress = g; steps = p .steps; pairs = p .pairs + 1 }
 
 module _ {limits : Limits} {proof : List ℕ} (x : Parents) (r : Resolved) (p : Point) where
-  pub settle-dropped : Standing limits proof (p .steps) → r .outcome ≡ Dropped
+  pub settle-dropped : Standing limits proof (p .steps) → r .status ≡ Dropped
       → Reaches limits proof p proof (counted p Running) (settledBy r limits proof x p)
   unfolding stateAt stateOf tried lineOf
   settle-dropped h e = record { is = rw (add-one (p .pairs), e); leads = leads-none h }
 
   module _ (gives : Gives (left r) r) where
-    pub settle-overflow : Standing limits proof (p .steps) → r .outcome ≡ Overflows
+    pub settle-overflow : Standing limits proof (p .steps) → r .status ≡ Overflows
         → Reaches limits proof p proof (counted p Overflow) (settledBy r limits proof x p)
-    unfolding stateAt stateOf tried add placed limited lineOf outcomeOf
+    unfolding stateAt stateOf tried add placed limited lineOf statusOf
     settle-overflow h e = record {
-      is = rw (add-one (p .pairs), e, overflow-only (overflows (meaning (r .line))) (rw e at (gives .outcome)));
+      is = rw (add-one (p .pairs), e, overflow-only (overflows (meaning (r .line))) (rw e at (gives .status)));
       leads = leads-none h;
     }
 
-    pub settle-made : r .outcome ≡ Made → (after : List ℕ) (q : Point)
+    pub settle-made : r .status ≡ Made → (after : List ℕ) (q : Point)
         → Reaches limits proof (counted p Running) after q
         (added limits proof (counted p Running) (record { origin = originFor x; line = r .line }))
         → Reaches limits proof p after q (settledBy r limits proof x p)
-    unfolding tried limited lineOf outcomeOf
+    unfolding tried limited lineOf statusOf
     settle-made e after q k =
         record {
           is =
               k .is
-              ∙ rw (e, add-one (p .pairs), made-only (overflows (meaning (r .line))) (rw e at (gives .outcome)))
+              ∙ rw (e, add-one (p .pairs), made-only (overflows (meaning (r .line))) (rw e at (gives .status)))
               (ap (λ (o : Origin). add (limited limits) false (record { origin = o; line = meaning (r .line) }) (stepsIn proof (p .steps))
               (suc (p .pairs))) (origin-is x));
           leads = k .leads;

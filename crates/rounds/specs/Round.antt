@@ -17,8 +17,8 @@ use Rattle.theory_lists.specs.Tests.{is-true, of-true}
 use Rattle.theory_elimination.specs.States.{try-ended}
 use Rattle.theory_elimination.specs.PairBound.{tried-pairs}
 use Rattle.steps.specs.Lines.{lineAt}
-use Rattle.placing.specs.declared.place.Progress.the-variants.{Running}
-use Rattle.placing.specs.declared.place.Point.{Point}
+use Rattle.placing.specs.declared.point.Progress.the-variants.{Running}
+use Rattle.placing.specs.declared.point.Point.{Point}
 use Rattle.steps.specs.Held.{stepsIn}
 use Rattle.placing.specs.Point.{stateOf, stateAt, Standing, Leads, leads-none, leads-trans, pairs-at, isRunning, running-yes, ended-stays}
 use Rattle.placing.specs.Point.{Reaches}

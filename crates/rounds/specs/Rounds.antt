@@ -16,8 +16,8 @@ use Rattle.lines.specs.declared.order.Variable.{Variable}
 use Rattle.lines.specs.declared.order.Round.the-variants.{Of, End}
 use Rattle.lines.specs.Order.{variableOf, IsRound, order-at, round-few}
 use Rattle.steps.specs.Held.{stepsIn}
-use Rattle.placing.specs.declared.place.Progress.the-variants.{Running}
-use Rattle.placing.specs.declared.place.Point.{Point}
+use Rattle.placing.specs.declared.point.Progress.the-variants.{Running}
+use Rattle.placing.specs.declared.point.Point.{Point}
 use Rattle.placing.specs.Point.{stateOf, stateAt, Standing, Leads, leads-none, leads-trans, isRunning, ended-stays, Reaches}
 use Rattle.rounds.specs.Round.{afterRound}
 

@@ -1,11 +1,11 @@
 // One pair of a round: counted, and its resolvent put to the tests of a line where it is not dropped.
 use lines::line::Line;
 use lines::order::Variable;
-use placing::place::Point;
-use placing::place::Progress;
-use placing::place::place;
-use resolvents::resolve::Outcome;
+use placing::admit::admit;
+use placing::point::Point;
+use placing::point::Progress;
 use resolvents::resolve::Resolved;
+use resolvents::resolve::Status;
 use resolvents::resolve::resolve_boolean;
 use resolvents::resolve::resolve_rational;
 use rules_types::limits::Limits;
@@ -97,15 +97,15 @@ fn settle(proof: &mut [u8], parents: Parents, r: Resolved, p: Point, limits: Lim
     requires { ⌜ Gives (left r) r ⌝ }
     ensures { λ q. ⌜ Reaches limits (now (proof .entry)) p (now (proof .exit)) q (settledBy r limits (now (proof .entry)) parents p) ⌝ }
 {
-    let outcome = r.outcome;
-    match outcome {
-        Outcome::Dropped => counted(p, Progress::Running),
-        Outcome::Overflows => counted(p, Progress::Overflow),
-        Outcome::Made => {
+    let status = r.status;
+    match status {
+        Status::Dropped => counted(p, Progress::Running),
+        Status::Overflows => counted(p, Progress::Overflow),
+        Status::Made => {
             let line = r.line;
             let next = counted(p, Progress::Running);
             let origin = origin_of(parents);
-            place(
+            admit(
                 proof,
                 next,
                 Step {

@@ -3,8 +3,8 @@ use crate::pair::Parents;
 use crate::pair::pair;
 use crate::side::next;
 use lines::order::Variable;
-use placing::place::Point;
-use placing::place::is_running;
+use placing::point::Point;
+use placing::point::is_running;
 use rules_types::limits::Limits;
 use steps::access::line_at;
 ghost use mathlib.Core.Path.{_≡_};
@@ -12,7 +12,7 @@ ghost use Prim.Native.Nat.{_+_, _≤_};
 ghost use Rattle.lines.specs.Order.{Ranged};
 ghost use Rattle.rules_types.specs.Limits.{mostSteps};
 ghost use Rattle.placing.specs.Point.{Standing, Reaches};
-ghost use Rattle.placing.specs.declared.place.Progress.the-variants.{Running};
+ghost use Rattle.placing.specs.declared.point.Progress.the-variants.{Running};
 ghost use Rattle.rounds.specs.Round.{afterRound};
 
 // "The first empty line, wide result or line too many ends the course."

@@ -2,17 +2,18 @@
 use crate::round::round;
 use lines::order::Round;
 use lines::order::round_at;
-use placing::place::Point;
-use placing::place::is_running;
+use placing::point::Point;
+use placing::point::is_running;
 use rules_types::limits::Limits;
 ghost use Prim.Native.Nat.{_≤_};
+ghost use Rattle.rules_types.specs.Limits.{mostSteps};
 ghost use Rattle.placing.specs.Point.{Standing, Reaches};
 ghost use Rattle.rounds.specs.Rounds.{allRounds};
 
 pub fn rounds(proof: &mut [u8], from: Point, limits: Limits) -> Point
     requires { ⌜ Standing limits (now proof) (from .steps) ⌝ }
-    requires { ⌜ limits .steps ≤ 65536 ⌝ }
-    requires { ⌜ from .pairs ≤ 65536 ⌝ }
+    requires { ⌜ limits .steps ≤ mostSteps ⌝ }
+    requires { ⌜ from .pairs ≤ mostSteps ⌝ }
     ensures { λ p. ⌜ Reaches limits (now (proof .entry)) from (now (proof .exit)) p (allRounds limits (now (proof .entry)) from) ⌝ }
 {
     let mut p = from;

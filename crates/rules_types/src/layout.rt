@@ -45,9 +45,6 @@ pub const STEP_NEGATIVE: usize = 12;
 pub const STEP_COEFFICIENTS: usize = 16;
 
 pub const STEP_BOUND: usize = 48;
-// Zeros from here on.
-pub const STEP_ZEROS: usize = 52;
-
 // Of a model with b Boolean variables: b, a byte for each, r, the denominator, the numerators.
 pub const MODEL_BOOLEANS: usize = 0;
 

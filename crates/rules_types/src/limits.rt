@@ -1,7 +1,7 @@
 // The limits of document 01, named once: the reader, the elimination and the checker cite them here.
 ghost use mathlib.Core.Path.{_≡_};
 ghost use Rattle.rules_types.specs.Limits.{problemBytes, stepBytes, modelBytes, booleans, rationals, clauses, literals};
-ghost use Rattle.rules_types.specs.Limits.{constraints, splits, allBooleans, rounds, amount, steps, standard, proofBytes};
+ghost use Rattle.rules_types.specs.Limits.{constraints, splits, allBooleans, amount, steps, standard, proofBytes};
 
 // What may differ from caller to caller: the most steps that a proof holds.
 pub struct Limits {
@@ -27,10 +27,8 @@ impl Limits {
     pub const CONSTRAINTS: usize = 8;
 
     pub const SPLITS: usize = 16;
-    // Boolean variables of a line, the split variables among them; rounds, one for each variable.
+    // Boolean variables of a line, the split variables among them.
     pub const ALL_BOOLEANS: usize = 32;
-
-    pub const ROUNDS: usize = 40;
     // The size of an amount, and the steps of a proof.
     pub const AMOUNT: u64 = 1000000000;
 
@@ -60,7 +58,7 @@ impl Limits {
         ensures problem { λ _. do ⌜ ((← ⟦Limits::BOOLEANS⟧ .entry) ≡ booleans) × ((← ⟦Limits::RATIONALS⟧ .entry) ≡ rationals) ⌝ }
         ensures clause { λ _. do ⌜ ((← ⟦Limits::CLAUSES⟧ .entry) ≡ clauses) × ((← ⟦Limits::LITERALS⟧ .entry) ≡ literals) ⌝ }
         ensures split { λ _. do ⌜ ((← ⟦Limits::CONSTRAINTS⟧ .entry) ≡ constraints) × ((← ⟦Limits::SPLITS⟧ .entry) ≡ splits) ⌝ }
-        ensures rounds { λ _. do ⌜ ((← ⟦Limits::ALL_BOOLEANS⟧ .entry) ≡ allBooleans) × ((← ⟦Limits::ROUNDS⟧ .entry) ≡ rounds) ⌝ }
+        ensures line { λ _. do ⌜ (← ⟦Limits::ALL_BOOLEANS⟧ .entry) ≡ allBooleans ⌝ }
         ensures elimination { λ _. do ⌜ ((← ⟦Limits::AMOUNT⟧ .entry) ≡ amount) × ((← ⟦Limits::STEPS⟧ .entry) ≡ steps) ⌝ }
     {
         true

@@ -15,7 +15,7 @@ use Rattle.rules.specs.Values.{walk}
 use Rattle.rules.specs.Model.{written}
 use Rattle.fields.specs.Field.{stored}
 use Rattle.steps.specs.Lines.{linesIn}
-use Rattle.placing.specs.declared.place.Point.{Point}
+use Rattle.placing.specs.declared.point.Point.{Point}
 
 abbrev pub refusedBy : Refusal → Point → Solved
 refusedBy f c = record { answer = Refused f (c .steps); pairs = c .pairs }

@@ -30,9 +30,9 @@ use Rattle.theory_bytes.specs.Steps.{proof-length}
 use Rattle.steps.specs.Places.{zeroed, zeroed-behind}
 use Rattle.steps.specs.Lines.{linesIn}
 use Rattle.walk.specs.Narrow.{Narrow}
-use Rattle.placing.specs.declared.place.Progress.{Progress}
-use Rattle.placing.specs.declared.place.Progress.the-variants.{Running, Empty, Overflow, OutOfSteps}
-use Rattle.placing.specs.declared.place.Point.{Point}
+use Rattle.placing.specs.declared.point.Progress.{Progress}
+use Rattle.placing.specs.declared.point.Progress.the-variants.{Running, Empty, Overflow, OutOfSteps}
+use Rattle.placing.specs.declared.point.Point.{Point}
 use Rattle.elimination.specs.Eliminated.{Eliminated}
 use Rattle.solving.specs.Ends.{refusedBy, decidedBy, zeroModel, Written, WrittenBy}
 use Rattle.solving.specs.Leaves.{Leaves}

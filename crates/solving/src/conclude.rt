@@ -1,7 +1,7 @@
 // What each end of an elimination leaves: the answer, the proof's bytes and the model's.
 use fields::put_zeros;
 use models::encode::write_model;
-use placing::place::Point;
+use placing::point::Point;
 use rules_types::answers::Answer;
 use rules_types::answers::Refusal;
 use rules_types::answers::Solved;

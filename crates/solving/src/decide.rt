@@ -3,7 +3,7 @@ use crate::conclude::refuse;
 use crate::conclude::saturated;
 use crate::conclude::without_model;
 use elimination::eliminate::eliminate;
-use placing::place::Progress;
+use placing::point::Progress;
 use problem_scan::cursor::Sizes;
 use rules_types::answers::Refusal;
 use rules_types::answers::Solved;

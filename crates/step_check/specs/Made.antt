@@ -18,10 +18,10 @@ use Rattle.masks.specs.Mask.{bits, length-bits}
 use Rattle.lines.specs.declared.line.Line.{Line}
 use Rattle.lines.specs.Line.{constraintOf, meaning, Ready}
 use Rattle.lines.specs.Forms.{coefficient-is}
-use Rattle.resolvents.specs.declared.resolve.Outcome.the-variants.{Dropped, Overflows, Made}
-use Rattle.resolvents.specs.declared.resolve.Outcome.{Outcome}
+use Rattle.resolvents.specs.declared.resolve.Status.the-variants.{Dropped, Overflows, Made}
+use Rattle.resolvents.specs.declared.resolve.Status.{Status}
 use Rattle.resolvents.specs.declared.resolve.Resolved.{Resolved}
-use Rattle.resolvents.specs.Resolved.{outcomeOf, lineOf, Gives}
+use Rattle.resolvents.specs.Resolved.{statusOf, lineOf, Gives}
 use Rattle.step_check.specs.declared.compare.Stated.{Stated}
 use Rattle.step_check.specs.Stated.{lineFound, Holds}
 use Rattle.step_check.specs.Derived.{suited, narrow, derived-yes, derived-no}
@@ -31,40 +31,40 @@ holds-same e h = record { line = h .line ∙ sym e; ready = h .ready }
 
 -- ---- "neither wide nor dropped by tidying"
 module _ (r : Resolved) where
-  pub left-dropped : r .outcome ≡ Dropped → narrow (lineOf (r .outcome) (r .line)) ≡ none
+  pub left-dropped : r .status ≡ Dropped → narrow (lineOf (r .status) (r .line)) ≡ none
   unfolding narrow lineOf
   left-dropped e = rw e
 
-  module _ (g : Gives (lineOf (r .outcome) (r .line)) r) where
-    overflow-is : (o : Outcome) → r .outcome ≡ o → o ≡ outcomeOf (lineOf o (r .line))
-    overflow-is o e = sym e ∙ g .outcome ∙ ap (λ (o : Outcome). outcomeOf (lineOf o (r .line))) e
+  module _ (g : Gives (lineOf (r .status) (r .line)) r) where
+    overflow-is : (o : Status) → r .status ≡ o → o ≡ statusOf (lineOf o (r .line))
+    overflow-is o e = sym e ∙ g .status ∙ ap (λ (o : Status). statusOf (lineOf o (r .line))) e
 
-    pub left-overflow : r .outcome ≡ Overflows → narrow (lineOf (r .outcome) (r .line)) ≡ none
-    unfolding narrow lineOf outcomeOf
+    pub left-overflow : r .status ≡ Overflows → narrow (lineOf (r .status) (r .line)) ≡ none
+    unfolding narrow lineOf statusOf
     left-overflow e = rw e (by (overflows (meaning (r .line))) (overflow-is Overflows e))
       where
         by : (b : Bool) → Overflows ≡ cond b Overflows Made → cond b none (some (meaning (r .line))) ≡ none
         by true i = refl
         by false i = let z : _≡_ {A = ℕ} 0 1 = cc in absurd (omega arith)
 
-    pub left-made : r .outcome ≡ Made → narrow (lineOf (r .outcome) (r .line)) ≡ some (meaning (r .line))
-    unfolding narrow lineOf outcomeOf
+    pub left-made : r .status ≡ Made → narrow (lineOf (r .status) (r .line)) ≡ some (meaning (r .line))
+    unfolding narrow lineOf statusOf
     left-made e = rw e (by (overflows (meaning (r .line))) (overflow-is Made e))
       where
         by : (b : Bool) → Made ≡ cond b Overflows Made → cond b none (some (meaning (r .line))) ≡ some (meaning (r .line))
         by false i = refl
         by true i = let z : _≡_ {A = ℕ} 0 1 = cc in absurd (omega arith)
 
-    pub holds-made : r .outcome ≡ Made → Holds (narrow (lineOf (r .outcome) (r .line))) (record { found = true; line = r .line })
+    pub holds-made : r .status ≡ Made → Holds (narrow (lineOf (r .status) (r .line))) (record { found = true; line = r .line })
     unfolding lineFound
     holds-made e = record { line = sym (left-made e); ready = g .ready e }
 
 module _ {o : Option rules.Line} {r : Resolved} (g : Gives o r) where
-  pub gives-own : Gives (lineOf (r .outcome) (r .line)) r
+  pub gives-own : Gives (lineOf (r .status) (r .line)) r
   gives-own = subst (λ (o : Option rules.Line). Gives o r) (sym (g .line)) g
 
 pub holds-derived : (v : Variable) (u l : rules.Line) {r : Resolved} {s : Stated} → Gives (resolve v u l) r → suited v u l ≡ true
-    → Holds (narrow (lineOf (r .outcome) (r .line))) s → Holds (derived v (some u) (some l)) s
+    → Holds (narrow (lineOf (r .status) (r .line))) s → Holds (derived v (some u) (some l)) s
 holds-derived v u l g e h = record { line = h .line ∙ ap narrow (g .line) ∙ sym (derived-yes v u l e); ready = h .ready }
 
 pub holds-no : (v : Variable) (u l : rules.Line) {s : Stated} → suited v u l ≡ false → Holds none s → Holds (derived v (some u) (some l)) s

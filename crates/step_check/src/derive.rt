@@ -4,8 +4,8 @@ use crate::compare::Stated;
 use crate::compare::compared;
 use crate::compare::unstated;
 use lines::line::Line;
-use resolvents::resolve::Outcome;
 use resolvents::resolve::Resolved;
+use resolvents::resolve::Status;
 use resolvents::resolve::resolve_boolean;
 use resolvents::resolve::resolve_rational;
 use rules_types::limits::Limits;
@@ -28,15 +28,15 @@ ghost use Rattle.step_check.specs.Derived.{suited, narrow, derivedBy, re
 
 // "neither wide nor dropped by tidying".
 fn made(r: Resolved) -> Stated
-    requires { ⌜ Gives (lineOf (r .outcome) (r .line)) r ⌝ }
-    ensures { λ s. ⌜ Holds (narrow (lineOf (r .outcome) (r .line))) s ⌝ }
+    requires { ⌜ Gives (lineOf (r .status) (r .line)) r ⌝ }
+    ensures { λ s. ⌜ Holds (narrow (lineOf (r .status) (r .line))) s ⌝ }
 {
-    let outcome = r.outcome;
+    let status = r.status;
     let line = r.line;
-    match outcome {
-        Outcome::Dropped => unstated(),
-        Outcome::Overflows => unstated(),
-        Outcome::Made => Stated {
+    match status {
+        Status::Dropped => unstated(),
+        Status::Overflows => unstated(),
+        Status::Made => Stated {
             found: true,
             line: line,
         },

@@ -7,6 +7,7 @@ use Prim.Native.Nat.{ℕ, _^_, _<_}
 use native.Mathlib.Nat.{pow-succ'}
 use native.Mathlib.Omega.{arith}
 use lib.ListN.{length, getD, drop, length-append}
+use Rattle.rules_types.specs.Limits as limit
 use Rattle.rules.specs.Bytes.{toBytes, fromBytes, fieldAt}
 use Rattle.rules.specs.Problem.{Constraint}
 use Rattle.rules.specs.Lines.{Booleans, Line}
@@ -33,7 +34,7 @@ mask-below [] = omega arith
 mask-below (true ∷ s) = omega (arith, mask-below s, pow-succ' 2 (length s))
 mask-below (false ∷ s) = omega (arith, mask-below s, pow-succ' 2 (length s))
 
-mask-back : (s : Booleans) → length s ≡ 32 → fromBytes (toBytes 4 (mask s)) ≡ mask s
+mask-back : (s : Booleans) → length s ≡ limit.allBooleans → fromBytes (toBytes 4 (mask s)) ≡ mask s
 mask-back s l = let b : mask s < 2 ^ 32 = rw l at (mask-below s) in fromBytes-toBytes 4 (mask s) b
 
 mask-injective : (s t : Booleans) → length s ≡ length t → mask s ≡ mask t → s ≡ t

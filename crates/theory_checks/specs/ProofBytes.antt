@@ -4,6 +4,7 @@ use mathlib.Core.Logic.{inl, inr}
 use mathlib.Core.List.{List, [], _∷_, _++_}
 use Prim.Native.Nat.{ℕ, suc, _+_, _<_}
 use native.Mathlib.Omega.{arith}
+use Rattle.rules_types.specs.Limits as limit
 use Rattle.rules.specs.Lists.{tabulate}
 use Rattle.rules.specs.Problem.{Clause, Problem}
 use Rattle.rules.specs.Lines.{Line, Variable, rational, boolean}
@@ -39,8 +40,8 @@ Named (boolean i) = i < 256
 
 order-named : All Named order
 unfolding order
-order-named = all-append Named (tabulate 8 rational) (tabulate 32 boolean) (all-tabulate Named 8 rational (λ i h. omega arith))
-    (all-tabulate Named 32 boolean (λ i h. omega arith))
+order-named = all-append Named (tabulate limit.rationals rational) (tabulate limit.allBooleans boolean) (all-tabulate Named limit.rationals rational (λ i h. omega arith))
+    (all-tabulate Named limit.allBooleans boolean (λ i h. omega arith))
 
 resolvent-which : (v : Variable) (a b : ℕ) → Named v → header (resolved v a b) .which < 256
 unfolding header

@@ -79,7 +79,7 @@ accepted-proof-refutes p w bytes a χ s =
     let c = splitting-keeps p w χ (s .denominator) .0 s in
     let ψ = choosing (c .values) χ in
     let parts = loadableOf p in
-    let consistent = all-map (λ s. LineForm (λ i. i < 32) (s .line)) (λ s. Consistent (s .line)) parts
+    let consistent = all-map (λ s. LineForm (λ i. i < limit.allBooleans) (s .line)) (λ s. Consistent (s .line)) parts
     (λ s f. f .consistent) (loadable-formed p w) in
     let follow = all-both (λ s. T (lineHolds ψ (s .line))) (λ s. Consistent (s .line)) parts (c .holds) consistent in
     steps-refused ψ (s .denominator) parts follow (length bytes / limit.stepBytes) [] false bytes tt tt a

@@ -57,7 +57,7 @@ module _ (variables : List Variable) where
     resolvent-ran : (p : Pair) (m : Option Line) (steps : List Step) (n : ℕ) → DroppedOr (λ r. t < roundOf variables r) m
         → Ran stops (Late t) true (m ∷ []) steps n (tried stops v p m steps (suc n))
     unfolding tried
-    resolvent-ran p none steps n h = (record { grown = grown-none (Late t) steps; found = (tt, tt) }, omega arith)
+    resolvent-ran p none steps n h = (record { grown = grown-none (Late t) steps; present = (tt, tt) }, omega arith)
     resolvent-ran p (some l) steps n h =
         add-ran stops (Late t) (resolventOf v p l) steps true (stops .atLine l) n (suc n) h (λ t. t) (omega arith)
 
@@ -155,7 +155,7 @@ module _ (stops : Stops) (variables : List Variable) (parts : List Step) where
     last = b .last;
     rest = b .rest;
     split = b .split;
-    found = b .found;
+    present = b .present;
     because = b .because;
     count = c;
   }
@@ -165,7 +165,7 @@ module _ (stops : Stops) (variables : List Variable) (parts : List Step) where
   unfolding stepsOf took-broke broke-longer broke-weaken
   both (running mid k) (running now m) h g = (
     took-took stops Whatever (partLines parts) (resolvents variables now) [] mid now (h .0)
-        (took-weaken stops (Late variables 0) Whatever (λ s p. tt) (resolvents variables now) mid now (g .0)) .found,
+        (took-weaken stops (Late variables 0) Whatever (λ s p. tt) (resolvents variables now) mid now (g .0)) .present,
     omega (arith, h .1, g .1),
   )
   both (running mid k) (ended e now m) h g =

@@ -21,7 +21,7 @@ resolventOf v p l = record { origin = resolved v (p .upper .number) (p .lower .n
 
 module _ (stops : Stops) (variables : List Variable) (parts : List Step) (P : State → Type 0) where
   -- what each kind of event must keep
-  pub record Kept : Type 0 where
+  pub record Preserved : Type 0 where
     pub part : (s : Step) (steps : List Step) (n : ℕ) → Any (λ x. x ≡ s) parts → P (running steps n) → P (add stops false s steps n)
     pub dropped : (t : ℕ) (v : Variable) (vs : List Variable) → drop t variables ≡ v ∷ vs → (p : Pair) (steps : List Step) (n : ℕ)
         → PairOf variables v t steps p
@@ -47,7 +47,7 @@ module _ (variables : List Variable) (v : Variable) (t : ℕ) (ps : List Pair) w
       (pair-append variables v t steps (resolventOf v p l ∷ [])) h)
 
 -- ---- the stages
-module _ (stops : Stops) (variables : List Variable) (parts : List Step) (P : State → Type 0) (kept : Kept stops variables parts P) where
+module _ (stops : Stops) (variables : List Variable) (parts : List Step) (P : State → Type 0) (kept : Preserved stops variables parts P) where
   load-keeps : (ss : List Step) (state : State) → All (λ s. Any (λ x. x ≡ s) parts) ss → P state → P (load stops ss state)
   unfolding load
   load-keeps [] state h q = q

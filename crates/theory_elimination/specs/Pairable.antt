@@ -7,6 +7,7 @@ use Prim.Native.Nat.{ℕ, suc, _≤_, _<_}
 use native.Mathlib.Omega.{arith}
 use lib.Dec.{T, leb, leb→le, nleb→lt}
 use lib.ListN.{drop}
+use Rattle.rules_types.specs.Limits as limit
 use Rattle.rules.specs.Lines.{Line, Variable, rational, boolean, positively, negatively, contains, noConstraint}
 use Rattle.rules.specs.Elimination.{order, roundOf}
 use Rattle.rules.specs.Checker.{pairable}
@@ -19,12 +20,12 @@ use Rattle.theory_resolution.specs.Resolution.{Resolvable}
 use Rattle.theory_elimination.specs.Sound.{Sound}
 
 -- the rational variables stand at the places 0 to 7 of the order, the Boolean ones after them
-rational-at : (j : ℕ) → j < 8 → At order j (rational j)
+rational-at : (j : ℕ) → j < limit.rationals → At order j (rational j)
 rational-at j h = drop-at order j (rational j) (drop (suc j) order) (order-rational j h)
 
-boolean-late : (t i : ℕ) → At order t (boolean i) → 8 ≤ t
-boolean-late t i a = ⊎-elim (λ h. leb→le 8 t h)
-    (λ h. absurd (no (at-unique order t (rational t) (boolean i) (rational-at t (nleb→lt 8 t h)) a))) (split (leb 8 t))
+boolean-late : (t i : ℕ) → At order t (boolean i) → limit.rationals ≤ t
+boolean-late t i a = ⊎-elim (λ h. leb→le limit.rationals t h)
+    (λ h. absurd (no (at-unique order t (rational t) (boolean i) (rational-at t (nleb→lt limit.rationals t h)) a))) (split (leb limit.rationals t))
   where
     no : rational t ≡ boolean i → ⊥
     no e = let z : _≡_ {A = ℕ} 0 1 = cc in omega arith

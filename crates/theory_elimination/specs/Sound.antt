@@ -4,6 +4,7 @@ use mathlib.Core.List.{List}
 use mathlib.Core.Option.{some}
 use Prim.Native.Nat.{_<_}
 use lib.Dec.{T}
+use Rattle.rules_types.specs.Limits as limit
 use Rattle.rules.specs.Problem.{Problem}
 use Rattle.rules.specs.Lines.{Line, Variable, positively, negatively}
 use Rattle.rules.specs.Resolve.{resolve}
@@ -36,7 +37,7 @@ resolve-sound v u l m hu hl a b e =
 module _ (p : Problem) (w : WellFormed p) where
   pub loadable-sound : All (λ s. Sound (s .line)) (loadableOf p)
   loadable-sound =
-      all-map (λ s. LineForm (λ i. i < 32) (s .line)) (λ s. Sound (s .line)) (loadableOf p)
+      all-map (λ s. LineForm (λ i. i < limit.allBooleans) (s .line)) (λ s. Sound (s .line)) (loadableOf p)
       (λ s h. record { formed = h .formed; proper = h .proper; consistent = h .consistent }) (loadable-formed p w)
 
   pub elimination-sound : (stops : Stops) (variables : List Variable)

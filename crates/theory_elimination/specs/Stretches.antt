@@ -12,7 +12,7 @@ use Rattle.rules.specs.Steps.{Step}
 use Rattle.rules.specs.Lines.{Line, isEmpty}
 use Rattle.rules.specs.Elimination.{Stops, End, empty, overflow, outOfSteps, State, running, ended, placed, covered, add}
 use Rattle.theory_lists.specs.All.{All, all-map, all-append, any-right, map-append}
-use Rattle.theory_saturation.specs.Covered.{Found, found-more}
+use Rattle.theory_saturation.specs.Covered.{AccountedFor, found-more}
 use Rattle.theory_saturation.specs.Equal.{covered-yes}
 use Rattle.theory_elimination.specs.Taken.{lines, InProof, Because}
 
@@ -40,7 +40,7 @@ module _ (P : Step → Type 0) where
   pub in-grown : {mid now : List Step} → Grown mid now → (xs : List (Option Line)) → All (InProof mid) xs → All (InProof now) xs
   in-grown {mid} {now} g xs h =
       all-map (InProof mid) (InProof now) xs
-      (λ o k. subst (λ (S : List Line). Found _≡_ S o) (sym (ap lines (g .is) ∙ map-append (λ (s : Step). s .line) mid (g .more)))
+      (λ o k. subst (λ (S : List Line). AccountedFor _≡_ S o) (sym (ap lines (g .is) ∙ map-append (λ (s : Step). s .line) mid (g .more)))
       (found-more _≡_ (lines mid) (lines (g .more)) o k)) h
 
 pub grown-weaken : (P Q : Step → Type 0) → ((s : Step) → P s → Q s) → {steps now : List Step} → Grown P steps now → Grown Q steps now
@@ -51,7 +51,7 @@ module _ (stops : Stops) (P : Step → Type 0) where
   -- all of it was taken up
   pub record Took (xs : List (Option Line)) (steps now : List Step) : Type 0 where
     pub grown : Grown P steps now
-    pub found : All (InProof now) xs
+    pub present : All (InProof now) xs
 
   -- one of it ended the elimination, after the others before it
   pub record Broke (e : End) (xs : List (Option Line)) (steps now : List Step) : Type 0 where
@@ -60,7 +60,7 @@ module _ (stops : Stops) (P : Step → Type 0) where
     pub last : Line
     pub rest : List (Option Line)
     pub split : xs ≡ done ++ (some last ∷ rest)
-    pub found : All (InProof now) done
+    pub present : All (InProof now) done
     pub because : Because stops e now last
 
   -- resolvents count as pairs, parts do not
@@ -81,7 +81,7 @@ module _ (stops : Stops) (P : Step → Type 0) where
   After c ys (ended e mid k) final = final ≡ ended e mid k
 
   took-none : (steps : List Step) → Took [] steps steps
-  took-none steps = record { grown = grown-none P steps; found = tt }
+  took-none steps = record { grown = grown-none P steps; present = tt }
 
   pub ran-none : (c : Bool) (steps : List Step) (n : ℕ) → Ran c [] steps n (running steps n)
   ran-none true steps n = (took-none steps, omega arith)
@@ -92,7 +92,7 @@ module _ (stops : Stops) (P : Step → Type 0) where
     took-took mid now h g =
         record {
           grown = grown-twice P (h .grown) (g .grown);
-          found = all-append (InProof now) xs ys (in-grown P (g .grown) xs (h .found)) (g .found);
+          present = all-append (InProof now) xs ys (in-grown P (g .grown) xs (h .present)) (g .present);
         }
 
     unfoldable pub took-broke : {e : End} (mid now : List Step) → Took xs steps mid → Broke e ys mid now → Broke e (xs ++ ys) steps now
@@ -103,7 +103,7 @@ module _ (stops : Stops) (P : Step → Type 0) where
           last = g .last;
           rest = g .rest;
           split = ap (λ (zs : List (Option Line)). xs ++ zs) (g .split) ∙ sym (append-assoc xs (g .done) (some (g .last) ∷ g .rest));
-          found = all-append (InProof now) xs (g .done) (in-grown P (g .grown) xs (h .found)) (g .found);
+          present = all-append (InProof now) xs (g .done) (in-grown P (g .grown) xs (h .present)) (g .present);
           because = g .because;
         }
 
@@ -115,7 +115,7 @@ module _ (stops : Stops) (P : Step → Type 0) where
           last = b .last;
           rest = b .rest ++ ys;
           split = ap (λ (zs : List (Option Line)). zs ++ ys) (b .split) ∙ append-assoc (b .done) (some (b .last) ∷ b .rest) ys;
-          found = b .found;
+          present = b .present;
           because = b .because;
         }
 
@@ -136,7 +136,7 @@ module _ (stops : Stops) (P : Step → Type 0) where
   -- ---- one line put to the tests
   module _ (s : Step) (steps : List Step) where
     broke-at : (e : End) (now : List Step) → Grown P steps now → Because stops e now (s .line) → Broke e (some (s .line) ∷ []) steps now
-    broke-at e now g b = record { grown = g; done = []; last = s .line; rest = []; split = refl; found = tt; because = b }
+    broke-at e now g b = record { grown = g; done = []; last = s .line; rest = []; split = refl; present = tt; because = b }
 
     pub add-ran : (c : Bool) (w : Bool) (n k : ℕ) → P s → (T w → T (stops .atLine (s .line))) → k ≡ n + cost c 1
         → Ran c (some (s .line) ∷ []) steps n (add stops w s steps k)
@@ -149,13 +149,13 @@ module _ (stops : Stops) (P : Step → Type 0) where
             → (T many → T (stops .atSteps (length steps))) → (T blank → T (isEmpty (s .line)))
             → Ran c (some (s .line) ∷ []) steps n (placed w known many blank s steps k)
         by true known many blank o i j m b = (broke-at overflow steps (grown-none P steps) (o tt), e)
-        by false true many blank o i j m b = (record { grown = grown-none P steps; found = (covered-yes (s .line) steps (i tt), tt) }, e)
+        by false true many blank o i j m b = (record { grown = grown-none P steps; present = (covered-yes (s .line) steps (i tt), tt) }, e)
         by false false true blank o i j m b = (broke-at outOfSteps steps (grown-none P steps) (j tt, m tt), e)
         by false false false true o i j m b = (broke-at empty (steps ++ (s ∷ [])) (grown-one P steps s p) (b tt), e)
         by false false false false o i j m b = (
           record {
             grown = grown-one P steps s p;
-            found = (
+            present = (
               rw (map-append (λ (x : Step). x .line) steps (s ∷ []))
                   (any-right (λ j. j ≡ s .line) (lines steps) (s .line ∷ []) (inl refl)),
               tt,
@@ -167,7 +167,7 @@ module _ (stops : Stops) (P : Step → Type 0) where
 -- ---- of less, the same
 module _ (stops : Stops) (P Q : Step → Type 0) (f : (s : Step) → P s → Q s) (xs : List (Option Line)) (steps : List Step) where
   pub took-weaken : (now : List Step) → Took stops P xs steps now → Took stops Q xs steps now
-  took-weaken now h = record { grown = grown-weaken P Q f (h .grown); found = h .found }
+  took-weaken now h = record { grown = grown-weaken P Q f (h .grown); present = h .present }
 
   unfoldable pub broke-weaken : {e : End} (now : List Step) → Broke stops P e xs steps now → Broke stops Q e xs steps now
   broke-weaken now h = record {
@@ -176,7 +176,7 @@ module _ (stops : Stops) (P Q : Step → Type 0) (f : (s : Step) → P s → Q s
     last = h .last;
     rest = h .rest;
     split = h .split;
-    found = h .found;
+    present = h .present;
     because = h .because;
   }
 

@@ -11,14 +11,14 @@ use Rattle.rules.specs.Resolve.{resolve}
 use Rattle.rules.specs.Steps.{Step}
 use Rattle.rules.specs.Elimination.{Stops, End, empty, overflow, outOfSteps, State, running, ended, covered, Pair, roundPairs}
 use Rattle.theory_lists.specs.All.{All}
-use Rattle.theory_saturation.specs.Covered.{Found}
+use Rattle.theory_saturation.specs.Covered.{AccountedFor}
 
 abbrev pub lines : List Step → List Line
 lines steps = map (λ s. s .line) steps
 
 -- dropped by normalizing, or equal to a line of the proof
 abbrev pub InProof : List Step → Option Line → Type 0
-InProof steps o = Found _≡_ (lines steps) o
+InProof steps o = AccountedFor _≡_ (lines steps) o
 
 -- ---- what is taken up
 abbrev pub ofPair : Variable → Pair → Option Line
@@ -51,7 +51,7 @@ pub record Unfinished (stops : Stops) (variables : List Variable) (parts : List 
   pub last : Line
   pub rest : List (Option Line)
   pub split : taken variables parts steps ≡ done ++ (some last ∷ rest)
-  pub found : All (InProof steps) done
+  pub present : All (InProof steps) done
   pub because : Because stops e steps last
   pub count : n ≡ suc (length done) - length parts
 

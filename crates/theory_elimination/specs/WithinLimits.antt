@@ -11,7 +11,7 @@ use Rattle.rules.specs.Steps.{Step}
 use Rattle.rules.specs.Elimination.{limited, unlimited, State, running, ended, overflow, outOfSteps, empty, add, eliminate}
 use Rattle.rules.specs.Needs.{stepsOf}
 use Rattle.theory_elimination.specs.States.{add-cases, add-steps}
-use Rattle.theory_elimination.specs.Induction.{Kept, resolventOf, elimination-induction}
+use Rattle.theory_elimination.specs.Induction.{Preserved, resolventOf, elimination-induction}
 
 module _ (limits : Limits) where
   add-held : (w : Bool) (s : Step) (steps : List Step) (n : ℕ) → length steps ≤ limits .steps
@@ -24,7 +24,7 @@ module _ (limits : Limits) where
   abbrev Holds : State → Type 0
   Holds state = length (stepsOf state) ≤ limits .steps
 
-  kept : (variables : List Variable) (parts : List Step) → Kept (limited limits) variables parts Holds
+  kept : (variables : List Variable) (parts : List Step) → Preserved (limited limits) variables parts Holds
   unfolding stepsOf
   kept variables parts =
       record {

@@ -6,6 +6,7 @@ use Prim.Native.Nat.{ℕ}
 use native.Mathlib.Omega.{arith}
 use lib.IntN.{pos, natAbs}
 use lib.ListN.{length}
+use Rattle.rules_types.specs.Limits as limit
 use Rattle.rules.specs.Arithmetic.{gcdAll}
 use Rattle.rules.specs.Problem.{Constraint}
 use Rattle.rules.specs.Lines.{Line, Variable, rational, boolean, union, coefficient}
@@ -21,11 +22,11 @@ use Rattle.theory_resolution.specs.NormalLine.{having, line-ends, normal
 
 abbrev pub Eight : Option Constraint → Type 0
 Eight none = Unit {0}
-Eight (some c) = length (c .coefficients) ≡ 8
+Eight (some c) = length (c .coefficients) ≡ limit.rationals
 
 pub record Formed (l : Line) : Type 0 where
-  pub positive : length (l .positive) ≡ 32
-  pub negative : length (l .negative) ≡ 32
+  pub positive : length (l .positive) ≡ limit.allBooleans
+  pub negative : length (l .negative) ≡ limit.allBooleans
   pub constraint : Eight (l .constraint)
 
 -- ---- normalizing

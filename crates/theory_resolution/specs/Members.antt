@@ -9,6 +9,7 @@ use native.Mathlib.Omega.{arith}
 use lib.Dec.{T}
 use lib.ListN.{length, getD, set, length-set}
 use mir.Facts.{or-yes, and-yes, yes-and}
+use Rattle.rules_types.specs.Limits as limit
 use Rattle.theory_lists.specs.Tests.{or-l, or-r, or-else, or-left-comm, or-or-comm, or-absorb, and-or-both}
 use Rattle.theory_lists.specs.All.{getD-replicate-same}
 use Rattle.rules.specs.Lines.{Booleans, noBooleans, including, excluding, union, meet, someYes}
@@ -51,7 +52,7 @@ including-has (suc i) (a ∷ s) (suc j) h = ⊎-elim (λ e. inl (ap suc e)) (λ 
 
 pub none-has : (i : ℕ) → T (has noBooleans i) → ⊥
 unfolding noBooleans
-none-has i h = rw (getD-replicate-same 32 i false) at h
+none-has i h = rw (getD-replicate-same limit.allBooleans i false) at h
 
 -- every member is so
 abbrev pub Within : (ℕ → Type 0) → Booleans → Type 0
@@ -66,7 +67,7 @@ excluding-union zero (a ∷ s) (b ∷ t) = refl
 excluding-union (suc i) (a ∷ s) (b ∷ t) = ap (λ (r : Booleans). (a || b) ∷ r) (excluding-union i s t)
 
 -- ---- lengths
-pub length-none : length noBooleans ≡ 32
+pub length-none : length noBooleans ≡ limit.allBooleans
 unfolding noBooleans
 length-none = refl
 

@@ -27,18 +27,18 @@ pub record Covers (j r : Line) : Type 0 where
   pub gives : (χ : Assignment) → 1 ≤ χ .denominator → T (lineHolds χ j) → T (lineHolds χ r)
 
 -- a resolvent: dropped, or a line of S equals it, or covers it, or whatever R says
-abbrev pub Found : (Line → Line → Type 0) → List Line → Option Line → Type 0
-Found R S o = DroppedOr (λ r. Any (λ j. R j r) S) o
+abbrev pub AccountedFor : (Line → Line → Type 0) → List Line → Option Line → Type 0
+AccountedFor R S o = DroppedOr (λ r. Any (λ j. R j r) S) o
 
 -- ---- of more lines
-pub found-more : (R : Line → Line → Type 0) (S more : List Line) (o : Option Line) → Found R S o → Found R (S ++ more) o
+pub found-more : (R : Line → Line → Type 0) (S more : List Line) (o : Option Line) → AccountedFor R S o → AccountedFor R (S ++ more) o
 found-more R S more o c =
     dropped-map (λ r. Any (λ j. R j r) S) (λ r. Any (λ j. R j r) (S ++ more)) o (λ r h. any-left (λ j. R j r) S more h) c
 
 -- an upper and a lower of round t, whose variable is v: their resolvent is dropped or found in S
 abbrev pub PairDone : (Line → Line → Type 0) → List Line → List Variable → ℕ → Variable → Line → Line → Type 0
 PairDone R S variables t v u l = roundOf variables u ≡ t → roundOf variables l ≡ t → T (positively v u) → T (negatively v l)
-    → Found R S (resolve v u l)
+    → AccountedFor R S (resolve v u l)
 
 abbrev pub RoundDone : (Line → Line → Type 0) → List Line → List Variable → ℕ → Variable → Type 0
 RoundDone R S variables t v = All (λ u. All (PairDone R S variables t v u) S) S
@@ -68,7 +68,7 @@ module _ (variables : List Variable) (t : ℕ) (v : Variable) (a : At variables 
   resolve-later = dropped-map Derived (λ r. t < roundOf variables r) (resolve v u l) later resolve-derived
 
   -- a line of a later round, which holds
-  covered-holds : (S : List Line) (χ : Assignment) → 1 ≤ χ .denominator → HoldFrom variables (suc t) χ S → Found Covers S (resolve v u l)
+  covered-holds : (S : List Line) (χ : Assignment) → 1 ≤ χ .denominator → HoldFrom variables (suc t) χ S → AccountedFor Covers S (resolve v u l)
       → T (lineHolds χ (resolvent v u l))
   unfolding resolve
   covered-holds S χ z h c =

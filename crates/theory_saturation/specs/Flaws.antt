@@ -9,6 +9,7 @@ use Prim.Native.Nat.{_≤_}
 use lib.IntN.{pos, negsuc}
 use lib.Dec.{T}
 use lib.ListN.{replicate}
+use Rattle.rules_types.specs.Limits as limit
 use Rattle.rules.specs.Lists.{any, all}
 use Rattle.rules.specs.Arithmetic.{related, isPositive, isZero}
 use Rattle.rules.specs.Problem.{Constraint}
@@ -26,15 +27,15 @@ use Rattle.theory_saturation.specs.Covered.{Covers}
 use Rattle.theory_saturation.specs.Saturation.{AllPairs, LinesHold}
 
 zeros : Constraint
-zeros = record { strict = false; coefficients = replicate 8 (pos 0); bound = negsuc 0 }
+zeros = record { strict = false; coefficients = replicate limit.rationals (pos 0); bound = negsuc 0 }
 
 bad : Line
 bad = record { positive = noBooleans; negative = noBooleans; constraint = some zeros }
 
 never-upper : (v : Variable) → T (positively v bad) → ⊥
 unfolding bad zeros noBooleans positively coefficient isPositive
-never-upper (rational f) h = rw (getD-replicate-same 8 f (pos 0)) at h
-never-upper (boolean i) h = rw (getD-replicate-same 32 i false) at h
+never-upper (rational f) h = rw (getD-replicate-same limit.rationals f (pos 0)) at h
+never-upper (boolean i) h = rw (getD-replicate-same limit.allBooleans i false) at h
 
 never-holds : (χ : Assignment) → 1 ≤ χ .denominator → T (lineHolds χ bad) → ⊥
 unfolding bad zeros noBooleans aLiteralHolds someYes theConstraintHolds settled all isZero related

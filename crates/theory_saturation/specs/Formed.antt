@@ -9,6 +9,7 @@ use lib.IntN.{ℤ, pos}
 use lib.Dec.{T}
 use lib.ListN.{length, getD}
 use mir.Facts.{and-no, T-not-not}
+use Rattle.rules_types.specs.Limits as limit
 use Rattle.rules.specs.Lists.{any, all, tabulate}
 use Rattle.rules.specs.Arithmetic.{isZero}
 use Rattle.rules.specs.Problem.{Constraint}
@@ -26,42 +27,42 @@ use Rattle.theory_saturation.specs.Covered.{Covers}
 use Rattle.theory_saturation.specs.Saturation.{AllPairs, LinesHold, saturation}
 
 -- ---- a place below n with the property
-pub record Place (P : ℕ → Bool) (n : ℕ) : Type 0 where
+pub record Witness (P : ℕ → Bool) (n : ℕ) : Type 0 where
   pub at : ℕ
   pub below : at < n
   pub holds : T (P at)
 
-next : {P : ℕ → Bool} {n : ℕ} → Place (λ i. P (suc i)) n → Place P (suc n)
+next : {P : ℕ → Bool} {n : ℕ} → Witness (λ i. P (suc i)) n → Witness P (suc n)
 next p = record { at = suc (p .at); below = omega (arith, p .below); holds = p .holds }
 
-member-place : (s : Booleans) → T (any (λ a. a) s) → Place (has s) (length s)
+member-place : (s : Booleans) → T (any (λ a. a) s) → Witness (has s) (length s)
 unfolding any
 member-place [] h = absurd h
 member-place (true ∷ s) h = record { at = 0; below = omega arith; holds = tt }
 member-place (false ∷ s) h = next (member-place s h)
 
-nonzero-place : (cs : List ℤ) → T (not (all isZero cs)) → Place (λ i. nonzero (getD cs i (pos 0))) (length cs)
+nonzero-place : (cs : List ℤ) → T (not (all isZero cs)) → Witness (λ i. nonzero (getD cs i (pos 0))) (length cs)
 unfolding all
 nonzero-place [] h = absurd h
 nonzero-place (c ∷ cs) h =
     ⊎-elim (λ k. record { at = 0; below = omega arith; holds = k }) (λ k. next (nonzero-place cs k)) (and-no (isZero c) (all isZero cs) h)
 
 -- ---- in the order
-in-order : (l : Line) → Any (λ v. T (contains v l)) (tabulate 8 rational) ⊎ Any (λ v. T (contains v l)) (tabulate 32 boolean)
+in-order : (l : Line) → Any (λ v. T (contains v l)) (tabulate limit.rationals rational) ⊎ Any (λ v. T (contains v l)) (tabulate limit.allBooleans boolean)
     → T (any (λ v. contains v l) order)
 unfolding order
 in-order l h =
-    yes-any (λ v. contains v l) (tabulate 8 rational ++ tabulate 32 boolean)
-    (⊎-elim (any-left (λ v. T (contains v l)) (tabulate 8 rational) (tabulate 32 boolean))
-    (any-right (λ v. T (contains v l)) (tabulate 8 rational) (tabulate 32 boolean)) h)
+    yes-any (λ v. contains v l) (tabulate limit.rationals rational ++ tabulate limit.allBooleans boolean)
+    (⊎-elim (any-left (λ v. T (contains v l)) (tabulate limit.rationals rational) (tabulate limit.allBooleans boolean))
+    (any-right (λ v. T (contains v l)) (tabulate limit.rationals rational) (tabulate limit.allBooleans boolean)) h)
 
-by-boolean : (l : Line) (i : ℕ) → i < 32 → T (has (l .positive) i || has (l .negative) i) → T (any (λ v. contains v l) order)
-by-boolean l i b h = in-order l (inr (any-tabulate (λ v. T (contains v l)) 32 boolean i b (rw (contains-boolean i l) h)))
+by-boolean : (l : Line) (i : ℕ) → i < limit.allBooleans → T (has (l .positive) i || has (l .negative) i) → T (any (λ v. contains v l) order)
+by-boolean l i b h = in-order l (inr (any-tabulate (λ v. T (contains v l)) limit.allBooleans boolean i b (rw (contains-boolean i l) h)))
 
-by-rational : (l : Line) (i : ℕ) → i < 8 → T (nonzero (coefficient i (l .constraint))) → T (any (λ v. contains v l) order)
-by-rational l i b h = in-order l (inl (any-tabulate (λ v. T (contains v l)) 8 rational i b (rw (contains-rational i l) h)))
+by-rational : (l : Line) (i : ℕ) → i < limit.rationals → T (nonzero (coefficient i (l .constraint))) → T (any (λ v. contains v l) order)
+by-rational l i b h = in-order l (inl (any-tabulate (λ v. T (contains v l)) limit.rationals rational i b (rw (contains-rational i l) h)))
 
-pub constraint-place : (k : Option Constraint) → Eight k → Proper k → T (not (noConstraint k)) → Place (λ i. nonzero (coefficient i k)) 8
+pub constraint-place : (k : Option Constraint) → Eight k → Proper k → T (not (noConstraint k)) → Witness (λ i. nonzero (coefficient i k)) limit.rationals
 unfolding noConstraint coefficient
 constraint-place none e n h = absurd h
 constraint-place (some c) e n h = let p = nonzero-place (c .coefficients) n in record {

@@ -11,7 +11,7 @@ use Rattle.rules.specs.Steps.{Step}
 use Rattle.rules.specs.Elimination.{roundOf, Numbered, Pair, select, pairUp, sideOf}
 use Rattle.theory_lists.specs.Tests.{split, clash}
 use Rattle.theory_lists.specs.All.{All, all-map, append-all, one-kept, every, mapped-all}
-use Rattle.theory_saturation.specs.Covered.{Found, PairDone}
+use Rattle.theory_saturation.specs.Covered.{AccountedFor, PairDone}
 
 pairs-all : (P : Pair → Type 0) (us ls : List Numbered) → All P (pairUp us ls)
     → All (λ u. All (λ l. P (record { upper = u; lower = l })) ls) us
@@ -30,7 +30,7 @@ select-all P test n (s ∷ ss) h =
     (r .0, select-all P test (suc n) ss (r .1))
 
 pub pairs-tried : (R : Line → Line → Type 0) (variables : List Variable) (t : ℕ) (v : Variable) (C : List Line) (steps : List Step)
-    → All (λ p. Found R C (resolve v (p .upper .line) (p .lower .line)))
+    → All (λ p. AccountedFor R C (resolve v (p .upper .line) (p .lower .line)))
     (pairUp (sideOf positively variables v t steps) (sideOf negatively variables v t steps))
     → All (λ u. All (PairDone R C variables t v u) (map (λ s. s .line) steps)) (map (λ s. s .line) steps)
 unfolding sideOf
@@ -38,14 +38,14 @@ pairs-tried R variables t v C steps h =
     let S = map (λ s. s .line) steps in
     let up : Line → Bool = λ l. positively v l && eqb (roundOf variables l) t in
     let low : Line → Bool = λ l. negatively v l && eqb (roundOf variables l) t in
-    all-map (λ u. T (up u) → All (λ l. T (low l) → Found R C (resolve v u l)) S) (λ u. All (PairDone R C variables t v u) S) S
+    all-map (λ u. T (up u) → All (λ l. T (low l) → AccountedFor R C (resolve v u l)) S) (λ u. All (PairDone R C variables t v u) S) S
     (λ u f. ⊎-elim
-    (λ k. all-map (λ l. T (low l) → Found R C (resolve v u l)) (PairDone R C variables t v u) S
+    (λ k. all-map (λ l. T (low l) → AccountedFor R C (resolve v u l)) (PairDone R C variables t v u) S
     (λ l g eu el p n. g (yes-and (negatively v l) (eqb (roundOf variables l) t) n (yes-eqb el))) (f k))
     (λ k. every (PairDone R C variables t v u) S
     (λ l eu el p n. clash (up u) (yes-and (positively v u) (eqb (roundOf variables u) t) p (yes-eqb eu)) k)) (split (up u)))
-    (select-all (λ u. All (λ l. T (low l) → Found R C (resolve v u l)) S) up 0 steps
-    (all-map (λ u. All (λ l. Found R C (resolve v (u .line) (l .line))) (select low 0 steps))
-    (λ u. All (λ l. T (low l) → Found R C (resolve v (u .line) l)) S) (select up 0 steps)
-    (λ u k. select-all (λ l. Found R C (resolve v (u .line) l)) low 0 steps k)
-    (pairs-all (λ p. Found R C (resolve v (p .upper .line) (p .lower .line))) (select up 0 steps) (select low 0 steps) h)))
+    (select-all (λ u. All (λ l. T (low l) → AccountedFor R C (resolve v u l)) S) up 0 steps
+    (all-map (λ u. All (λ l. AccountedFor R C (resolve v (u .line) (l .line))) (select low 0 steps))
+    (λ u. All (λ l. T (low l) → AccountedFor R C (resolve v (u .line) l)) S) (select up 0 steps)
+    (λ u k. select-all (λ l. AccountedFor R C (resolve v (u .line) l)) low 0 steps k)
+    (pairs-all (λ p. AccountedFor R C (resolve v (p .upper .line) (p .lower .line))) (select up 0 steps) (select low 0 steps) h)))

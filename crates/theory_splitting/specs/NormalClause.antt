@@ -8,6 +8,7 @@ use Prim.Native.Nat.{ℕ, _<_}
 use lib.Dec.{T}
 use lib.ListN.{length}
 use mir.Facts.{or-yes}
+use Rattle.rules_types.specs.Limits as limit
 use Rattle.theory_lists.specs.Tests.{split, is-true, is-false, or-l, or-r, or-map, or-left-comm}
 use Rattle.theory_lists.specs.All.{All}
 use Rattle.rules.specs.Lists.{any}
@@ -26,11 +27,11 @@ normalHolds χ n = (someYes (n .positive) (χ .booleans) || someYes (n .negative
     || any (constraintHolds χ) (n .constraints)
 
 -- ---- literals
-length-step : (i : ℕ) (a : Bool) (s : Booleans) → length s ≡ 32 → length {A = Bool} (elim a [ true ↦ including i s | false ↦ s ]) ≡ 32
+length-step : (i : ℕ) (a : Bool) (s : Booleans) → length s ≡ limit.allBooleans → length {A = Bool} (elim a [ true ↦ including i s | false ↦ s ]) ≡ limit.allBooleans
 length-step i true s h = length-including i s ∙ h
 length-step i false s h = h
 
-pub length-members : (g : Bool) (ls : List Literal) → length (membersOf g ls) ≡ 32
+pub length-members : (g : Bool) (ls : List Literal) → length (membersOf g ls) ≡ limit.allBooleans
 unfolding membersOf
 length-members g [] = length-none
 length-members g (l ∷ ls) = length-step (l .boolean) (Bool·beq (l .negated) g) (membersOf g ls) (length-members g ls)
@@ -42,7 +43,7 @@ module _ (χ : Assignment) where
   abbrev someLiteral : List Literal → Bool
   someLiteral ls = someYes (membersOf false ls) (χ .booleans) || someYes (membersOf true ls) no
 
-  one-literal : (i : ℕ) (g : Bool) (ls : List Literal) → i < 32 → any (literalHolds χ) ls ≡ someLiteral ls
+  one-literal : (i : ℕ) (g : Bool) (ls : List Literal) → i < limit.allBooleans → any (literalHolds χ) ls ≡ someLiteral ls
       → let l : Literal = record { boolean = i; negated = g } in any (literalHolds χ) (l ∷ ls) ≡ someLiteral (l ∷ ls)
   unfolding any literalHolds membersOf
   one-literal i false ls h e =
@@ -54,7 +55,7 @@ module _ (χ : Assignment) where
       rw (e, yes-including i n no (rw (length-members true ls) h))
       (or-left-comm (no i) (someYes (membersOf false ls) (χ .booleans)) (someYes n no))
 
-  pub literals-hold : (ls : List Literal) → All (λ l. l .boolean < 32) ls → any (literalHolds χ) ls ≡ someLiteral ls
+  pub literals-hold : (ls : List Literal) → All (λ l. l .boolean < limit.allBooleans) ls → any (literalHolds χ) ls ≡ someLiteral ls
   unfolding any membersOf
   literals-hold [] h = rw (none-yes (χ .booleans), none-yes no)
   literals-hold (l ∷ ls) h = one-literal (l .boolean) (l .negated) ls (h .0) (literals-hold ls (h .1))
@@ -101,7 +102,7 @@ unfolding normalClause
 clause-ends P c m n =
     ⊎-elim (λ h. rw (is-true (meets c) h, normalClause) (m h)) (λ h. rw (is-false (meets c) h, normalClause) (n h)) (split (meets c))
 
-module _ (χ : Assignment) (d : 0 < χ .denominator) (c : Clause) (w : All (λ l. l .boolean < 32) (c .literals)) where
+module _ (χ : Assignment) (d : 0 < χ .denominator) (c : Clause) (w : All (λ l. l .boolean < limit.allBooleans) (c .literals)) where
   with-constraints : (o : Option (List Constraint)) → T (any (constraintHolds χ) (c .constraints))
       ↔ DroppedOr (λ ds. T (any (constraintHolds χ) ds)) o
       → T (clauseHolds χ c) ↔ DroppedOr (λ n. T (normalHolds χ n)) (normalOf c o)

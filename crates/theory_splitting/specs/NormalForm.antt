@@ -9,6 +9,7 @@ use Prim.Native.Nat.{ℕ, suc, _<_}
 use native.Mathlib.Omega.{arith}
 use lib.Dec.{T}
 use lib.ListN.{length}
+use Rattle.rules_types.specs.Limits as limit
 use Rattle.theory_lists.specs.All.{All}
 use Rattle.rules.specs.Problem.{Literal, Constraint, Clause}
 use Rattle.rules.specs.Lines.{Booleans, noBooleans, including, meet}
@@ -86,8 +87,8 @@ settled-kept c h = settled-cases (SettledTo Kept) c (λ z r. tt) (λ z r. tt) (�
 -- ---- clauses
 pub record NormalForm (P : ℕ → Type 0) (n : Normal) : Type 0 where
   pub consistent : T (not (meet (n .positive) (n .negative)))
-  pub positive-length : length (n .positive) ≡ 32
-  pub negative-length : length (n .negative) ≡ 32
+  pub positive-length : length (n .positive) ≡ limit.allBooleans
+  pub negative-length : length (n .negative) ≡ limit.allBooleans
   pub positive : Within P (n .positive)
   pub negative : Within P (n .negative)
   pub constraints : All Kept (n .constraints)

@@ -10,6 +10,7 @@ use native.Mathlib.Omega.{arith}
 use lib.Dec.{T}
 use lib.ListN.{length}
 use mir.Facts.{or-yes}
+use Rattle.rules_types.specs.Limits as limit
 use Rattle.theory_lists.specs.Tests.{clash, or-l, or-r, or-map, of-true, of-false}
 use Rattle.theory_lists.specs.All.{All}
 use Rattle.rules.specs.Lists.{any, put}
@@ -52,7 +53,7 @@ module _ (χ : Assignment) (k : ℕ) (p n : Booleans) (c : Constraint) where
   next b = choosing (put k (not b) (χ .booleans)) χ
 
   -- what is left for the later parts
-  next-holds : (ds : List Constraint) (b : Bool) → without ≡ b → k < 32 → T (normalHolds χ (whole p n (c ∷ ds)))
+  next-holds : (ds : List Constraint) (b : Bool) → without ≡ b → k < limit.allBooleans → T (normalHolds χ (whole p n (c ∷ ds)))
       → T (normalHolds (next b) (whole noBooleans (including k noBooleans) ds))
   unfolding any theConstraintHolds
   next-holds ds true e z h =
@@ -84,8 +85,8 @@ module _ (χ : Assignment) (k : ℕ) (p n : Booleans) (c : Constraint) where
       part-literal (choosing g χ) (including k p) n (some c)
       (or-l (someYes (including k p) g) (someYes n (λ i. not (g i))) (included k p g z (subst T v tt)))
 
-chain-chosen : (χ : Assignment) (k : ℕ) (p n : Booleans) (c : Constraint) (cs : List Constraint) → length p ≡ 32
-    → k + length cs ≤ 32 → Below k p → Below k n
+chain-chosen : (χ : Assignment) (k : ℕ) (p n : Booleans) (c : Constraint) (cs : List Constraint) → length p ≡ limit.allBooleans
+    → k + length cs ≤ limit.allBooleans → Below k p → Below k n
     → T (normalHolds χ (whole p n (c ∷ cs)))
     → Chosen χ k (k + length cs) (λ ψ. All (λ l. T (lineHolds ψ l)) (chain k p n c cs))
 unfolding chain any theConstraintHolds
@@ -114,7 +115,7 @@ chain-chosen χ k p n c (d ∷ ds) e z wp wn h =
       );
     }
 
-parts-of : (χ : Assignment) (k : ℕ) (p n : Booleans) (cs : List Constraint) → length p ≡ 32 → k + (length cs - 1) ≤ 32 → Below k p
+parts-of : (χ : Assignment) (k : ℕ) (p n : Booleans) (cs : List Constraint) → length p ≡ limit.allBooleans → k + (length cs - 1) ≤ limit.allBooleans → Below k p
     → Below k n → T (normalHolds χ (whole p n cs))
     → Chosen χ k (k + (length cs - 1)) (λ ψ. All (λ l. T (lineHolds ψ l)) (parts k (whole p n cs)))
 unfolding parts any
@@ -126,6 +127,6 @@ parts-of χ k p n (c ∷ cs) e z wp wn h =
     record { values = r .values; before = r .before; after = λ i l. r .after i (omega arith); holds = r .holds }
 
 pub parts-chosen : (χ : Assignment) (k : ℕ) (c : Normal) → NormalForm (λ i. i < k) c
-    → k + (length (c .constraints) - 1) ≤ 32 → T (normalHolds χ c)
+    → k + (length (c .constraints) - 1) ≤ limit.allBooleans → T (normalHolds χ c)
     → Chosen χ k (k + (length (c .constraints) - 1)) (λ ψ. All (λ l. T (lineHolds ψ l)) (parts k c))
 parts-chosen χ k c f z h = parts-of χ k (c .positive) (c .negative) (c .constraints) (f .positive-length) z (f .positive) (f .negative) h

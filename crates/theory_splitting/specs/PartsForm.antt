@@ -8,6 +8,7 @@ use Prim.Native.Nat.{ℕ, suc, _+_, _-_, _≤_, _<_}
 use native.Mathlib.Omega.{arith}
 use lib.Dec.{T, not-T}
 use lib.ListN.{length}
+use Rattle.rules_types.specs.Limits as limit
 use Rattle.theory_lists.specs.Tests.{clash}
 use Rattle.theory_lists.specs.All.{All}
 use Rattle.rules.specs.Problem.{Constraint}
@@ -42,7 +43,7 @@ including-apart k p n a w = not-T (meet (including k p) n) (λ m. no (member-mee
 none-apart : (n : Booleans) → T (not (meet noBooleans n))
 none-apart n = not-T (meet noBooleans n) (λ m. let c = member-meet noBooleans n m in none-has (c .member) (c .left))
 
-chain-form : (P : ℕ → Type 0) (k : ℕ) (p n : Booleans) (c : Constraint) (cs : List Constraint) → length p ≡ 32 → length n ≡ 32
+chain-form : (P : ℕ → Type 0) (k : ℕ) (p n : Booleans) (c : Constraint) (cs : List Constraint) → length p ≡ limit.allBooleans → length n ≡ limit.allBooleans
     → T (not (meet p n)) → Below k n → Within P p → Within P n
     → ((i : ℕ) → k ≤ i → i < k + length cs → P i)
     → All Kept (c ∷ cs) → All (LineForm P) (chain k p n c cs)

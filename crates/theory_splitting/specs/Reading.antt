@@ -37,7 +37,7 @@ getD-padded [] n i h = getD-replicate-same n i (pos 0)
 getD-padded (c ∷ cs) n zero h = absurd (omega arith)
 getD-padded (c ∷ cs) n (suc i) h = getD-padded cs n i (omega arith)
 
-padded-formed : (r : ℕ) (s : Bool) (cs : List ℤ) (β : ℤ) → r ≤ 8 → length cs ≡ r → All Small cs → Small β
+padded-formed : (r : ℕ) (s : Bool) (cs : List ℤ) (β : ℤ) → r ≤ limit.rationals → length cs ≡ r → All Small cs → Small β
     → WellFormedConstraint r (record { strict = s; coefficients = cs ++ replicate (limit.rationals - r) (pos 0); bound = β })
 padded-formed r s cs β z e h k =
     let n = limit.rationals - r in
@@ -48,7 +48,7 @@ padded-formed r s cs β z e h k =
       bound = k;
     }
 
-constraint-yields : (r : ℕ) → r ≤ 8 → Yields (WellFormedConstraint r) (constraint r)
+constraint-yields : (r : ℕ) → r ≤ limit.rationals → Yields (WellFormedConstraint r) (constraint r)
 unfolding constraint
 constraint-yields r z =
     field-then (WellFormedConstraint r) _ _ _ _ (λ relation t.
@@ -57,7 +57,7 @@ constraint-yields r z =
     (λ β k bytes place. padded-formed r (eqb relation 2) cs β z e h k)))
 
 -- ---- clauses
-clause-yields : (b r : ℕ) → r ≤ 8 → Yields (WellFormedClause b r) (clause b r)
+clause-yields : (b r : ℕ) → r ≤ limit.rationals → Yields (WellFormedClause b r) (clause b r)
 unfolding clause
 clause-yields b r z bytes start =
     field-then (WellFormedClause b r) _ _ _ _ (λ m u.

@@ -7,6 +7,7 @@ use native.Mathlib.Omega.{arith}
 use lib.Dec.{T}
 use lib.ListN.{length}
 use mir.Facts.{or-yes}
+use Rattle.rules_types.specs.Limits as limit
 use Rattle.theory_lists.specs.All.{All, Any, all-map, all-any}
 use Rattle.rules.specs.Problem.{Clause}
 use Rattle.rules.specs.Meaning.{Assignment, clauseHolds}
@@ -34,7 +35,7 @@ partsFrom k o = elim o [ none ↦ [] | some n ↦ parts k n ]
 abbrev splitsFrom : Option Normal → ℕ
 splitsFrom o = elim o [ none ↦ 0 | some n ↦ length (n .constraints) - 1 ]
 
-chosen-from : (χ : Assignment) (k : ℕ) (o : Option Normal) → DroppedOr (NormalForm (λ i. i < k)) o → k + splitsFrom o ≤ 32
+chosen-from : (χ : Assignment) (k : ℕ) (o : Option Normal) → DroppedOr (NormalForm (λ i. i < k)) o → k + splitsFrom o ≤ limit.allBooleans
     → DroppedOr (λ n. T (normalHolds χ n)) o
     → Chosen χ k (k + splitsFrom o) (λ ψ. AllHold ψ (partsFrom k o))
 chosen-from χ k none f z h = chosen-same χ k (k + 0) (λ ψ. AllHold ψ []) tt
@@ -56,18 +57,18 @@ module _ (b r : ℕ) (c : Clause) (w : WellFormedClause b r c) where
       normal-form P c (all-map (λ l. l .boolean < b) (λ l. P (l .boolean)) (c .literals) (λ l h. f (l .boolean) h) (w .literals))
       (all-map (WellFormedConstraint r) Sized (c .constraints) (λ d h. (h .coefficients, (h .amounts, h .bound))) (w .constraints))
 
-  clause-normal : b ≤ 32 → (χ : Assignment) → 0 < χ .denominator → T (clauseHolds χ c)
+  clause-normal : b ≤ limit.allBooleans → (χ : Assignment) → 0 < χ .denominator → T (clauseHolds χ c)
       ↔ DroppedOr (λ n. T (normalHolds χ n)) (normalClause c)
   clause-normal z χ d =
-      normal-clause-holds χ d c (all-map (λ l. l .boolean < b) (λ l. l .boolean < 32) (c .literals) (λ l h. omega arith) (w .literals))
+      normal-clause-holds χ d c (all-map (λ l. l .boolean < b) (λ l. l .boolean < limit.allBooleans) (c .literals) (λ l h. omega arith) (w .literals))
 
-  pub clause-chosen : (χ : Assignment) → 0 < χ .denominator → (k : ℕ) → b ≤ k → k + splitsOf c ≤ 32 → T (clauseHolds χ c)
+  pub clause-chosen : (χ : Assignment) → 0 < χ .denominator → (k : ℕ) → b ≤ k → k + splitsOf c ≤ limit.allBooleans → T (clauseHolds χ c)
       → Chosen χ k (k + splitsOf c) (λ ψ. AllHold ψ (partsOf k c))
   unfolding partsOf splitsOf
   clause-chosen χ d k z s h =
       chosen-from χ k (normalClause c) (normal-within (λ i. i < k) (λ i l. omega arith)) s (clause-normal (omega arith) χ d .0 h)
 
-  pub clause-given : (χ : Assignment) → 0 < χ .denominator → b ≤ 32 → (k : ℕ) → AllHold χ (partsOf k c) → T (clauseHolds χ c)
+  pub clause-given : (χ : Assignment) → 0 < χ .denominator → b ≤ limit.allBooleans → (k : ℕ) → AllHold χ (partsOf k c) → T (clauseHolds χ c)
   unfolding partsOf
   clause-given χ d z k h = clause-normal z χ d .1 (give-from χ k (normalClause c) h)
 

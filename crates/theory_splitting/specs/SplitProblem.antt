@@ -7,6 +7,7 @@ use mathlib.Core.List.{List, [], _∷_}
 use Prim.Native.Nat.{ℕ, suc, _+_, _≤_, _<_}
 use native.Mathlib.Omega.{arith}
 use lib.Dec.{T}
+use Rattle.rules_types.specs.Limits as limit
 use Rattle.theory_lists.specs.All.{All, all-map, all-both, all-append, append-all, all-yes, yes-all}
 use Rattle.rules.specs.Problem.{Clause, Problem}
 use Rattle.rules.specs.Meaning.{Assignment, clauseHolds, Satisfies}
@@ -65,7 +66,7 @@ module _ (b r : ℕ) where
         (all-both (LineForm (λ i. i < k)) (λ l. T (lineHolds χ l)) ls f h)
 
   loadable-chosen : (χ : Assignment) → 0 < χ .denominator → (c k : ℕ) (xs : List Clause) → All (WellFormedClause b r) xs → b ≤ k
-      → k + splitsIn xs ≤ 32 → All (λ x. T (clauseHolds χ x)) xs
+      → k + splitsIn xs ≤ limit.allBooleans → All (λ x. T (clauseHolds χ x)) xs
       → Chosen χ k (k + splitsIn xs) (λ ψ. StepsHold ψ (loadable c k xs))
   unfolding loadable
   loadable-chosen χ d c k [] w z s h = chosen-same χ k (k + 0) (λ ψ. StepsHold ψ []) tt
@@ -87,7 +88,7 @@ module _ (b r : ℕ) where
       }
 
   -- ---- the lines give the clauses
-  loadable-given : (χ : Assignment) → 0 < χ .denominator → b ≤ 32 → (c k : ℕ) (xs : List Clause) → All (WellFormedClause b r) xs
+  loadable-given : (χ : Assignment) → 0 < χ .denominator → b ≤ limit.allBooleans → (c k : ℕ) (xs : List Clause) → All (WellFormedClause b r) xs
       → StepsHold χ (loadable c k xs)
       → All (λ x. T (clauseHolds χ x)) xs
   unfolding loadable
@@ -100,10 +101,10 @@ module _ (b r : ℕ) where
 
 -- ---- a problem
 module _ (p : Problem) (w : WellFormed p) where
-  pub loadable-formed : All (λ s. LineForm (λ i. i < 32) (s .line)) (loadableOf p)
+  pub loadable-formed : All (λ s. LineForm (λ i. i < limit.allBooleans) (s .line)) (loadableOf p)
   unfolding loadableOf
   loadable-formed =
-      loadable-form (p .booleans) (p .rationals) (λ i. i < 32) 0 (p .booleans) (p .clauses) (w .clauses) (omega arith)
+      loadable-form (p .booleans) (p .rationals) (λ i. i < limit.allBooleans) 0 (p .booleans) (p .clauses) (w .clauses) (omega arith)
       (λ i l. omega (arith, w .booleans))
       (λ i h l. omega (arith, w .booleans, w .splits))
 

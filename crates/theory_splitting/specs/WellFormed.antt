@@ -12,7 +12,7 @@ use Rattle.theory_vectors.specs.Amounts.{Small}
 
 -- eight coefficients, 0 from r on, and amounts in their range
 pub record WellFormedConstraint (r : ℕ) (c : Constraint) : Type 0 where
-  pub coefficients : length (c .coefficients) ≡ 8
+  pub coefficients : length (c .coefficients) ≡ limit.rationals
   pub beyond : (i : ℕ) → r ≤ i → getD (c .coefficients) i (pos 0) ≡ pos 0
   pub amounts : All Small (c .coefficients)
   pub bound : Small (c .bound)

@@ -30,8 +30,8 @@ few c = omega (arith, c .loop .inv .few, c .before .before .before .pre .1 .1 .0
 loaded-requires : tie.Need-loaded-requires Inv-loop μ-loop
 loaded-requires c κs = search needs
 
-place-requires : tie.Need-place-requires Inv-loop μ-loop
-place-requires c κs =
+admit-requires : tie.Need-admit-requires Inv-loop μ-loop
+admit-requires c κs =
     let o = c .before in
     let n = o .before .before in
     let l = n .before .before in
@@ -56,7 +56,7 @@ returns c =
     let n = o .before .before in
     let l = n .before .before in
     parts-ended (l .loop .inv) (n .next .result .line) (n .next .result .rest) (n .next .ensures .0)
-    (rw (o .loaded .ensures) at (k .place .ensures)) (sym (c .before .is-running .ensures) ∙ not-true _ (c .if1 .taken))
+    (rw (o .loaded .ensures) at (k .admit .ensures)) (sym (c .before .is-running .ensures) ∙ not-true _ (c .if1 .taken))
 
 add-j : tie.Need-add-j Inv-loop μ-loop
 add-j c = omega (arith, few (c .before .before .before .before .before .before .before .before .before .before .before))
@@ -71,7 +71,7 @@ loop-again c =
     let o = k .before .before in
     let n = o .before .before in
     parts-next (n .before .before .loop .inv) (n .next .result .line) (n .next .result .rest) (n .next .ensures .0)
-    (rw (o .loaded .ensures) at (k .place .ensures)) (sym (e .before .is-running .ensures) ∙ not-false _ (e .if1 .left)) (n .next .ensures .1 .1)
+    (rw (o .loaded .ensures) at (k .admit .ensures)) (sym (e .before .is-running .ensures) ∙ not-false _ (e .if1 .left)) (n .next .ensures .1 .1)
 
 same-length-2 : tie.Need-same-length-2 Inv-loop μ-loop
 same-length-2 c = search needs
@@ -88,7 +88,7 @@ load-parts-spec =
     loop-holds
     next-requires
     loaded-requires
-    place-requires
+    admit-requires
     is-running-requires
     same-length
     returns

@@ -26,7 +26,7 @@ returns-2 c =
     sym (rw (
       le-ltb (length (s .args .proof .now)) (limit.proofBytes (s .args .limits))
           (rw (b .proof-bytes .ensures) at (c .before .if1 .left)),
-      lt-ltb (length (s .args .model .now)) 64 (c .if2 .taken),
+      lt-ltb (length (s .args .model .now)) limit.modelBytes (c .if2 .taken),
     ))
 
 cast-result : tie.Need-cast-result
@@ -41,7 +41,7 @@ returns-3 c =
     sym (rw (
       le-ltb (length (s .args .proof .now)) (limit.proofBytes (s .args .limits))
           (rw (b .proof-bytes .ensures) at (e .before .if1 .left)),
-      le-ltb (length (s .args .model .now)) 64 (e .if2 .left),
+      le-ltb (length (s .args .model .now)) limit.modelBytes (e .if2 .left),
     ))
 
 pub refused-spec : {M : Type 1} → statement M

@@ -4,6 +4,7 @@ use mathlib.Core.List.{List, _++_}
 use Prim.Native.Nat.{ℕ, _+_}
 use borrow.Author.Needs.{needs}
 use lib.ListN.{length, drop}
+use Rattle.rules_types.specs.Limits as limit
 use Rattle.models.proofs.encode.write_model.Statement.{statement}
 use Rattle.models.proofs.encode.write_model.Tie as tie
 
@@ -19,7 +20,7 @@ put-bytes-requires c κs = search needs
 same-length : tie.Need-same-length
 same-length c = search needs
 
-sixty-four : (c : tie.After-encode-model) → length (c .encode-model .result) ≡ 64
+sixty-four : (c : tie.After-encode-model) → length (c .encode-model .result) ≡ limit.modelBytes
 sixty-four c = search (needs, c)
 
 returns : tie.Need-returns
@@ -29,7 +30,7 @@ returns c =
     let s = e .before .before in
     p .put-bytes .ensures
     ∙ ap (λ (k : ℕ). e .encode-model .result ++ drop (0 + k) (s .args .buffer .now)) (sixty-four e)
-    ∙ ap (λ (x : List ℕ). x ++ drop 64 (s .args .buffer .now)) (e .encode-model .ensures)
+    ∙ ap (λ (x : List ℕ). x ++ drop limit.modelBytes (s .args .buffer .now)) (e .encode-model .ensures)
 
 pub write-model-spec : {M : Type 1} → statement M
 write-model-spec = tie.close (tie.spec encode-model-requires slice-aggregate-put-bytes put-bytes-requires same-length returns)

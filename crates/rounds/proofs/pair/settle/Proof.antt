@@ -26,8 +26,8 @@ counted-requires-3 c κs = search needs
 origin-of-requires : tie.Need-origin-of-requires
 origin-of-requires c κs = search needs
 
-place-requires : tie.Need-place-requires
-place-requires c κs =
+admit-requires : tie.Need-admit-requires
+admit-requires c κs =
     let o = c .before in
     let k = o .before in
     let t = k .before .before in
@@ -65,8 +65,8 @@ returns-3 c =
     let t = n .before .before in
     let s = t .before .before .before in
     let a = s .args in
-    settle-made (a .parents) (a .r) (a .p) (s .pre .1 .1) (t .enum-told3 .given .1) (k .place .last .0) (k .place .result)
-    (rw (o .origin-of .ensures, n .counted3 .ensures) at (k .place .ensures))
+    settle-made (a .parents) (a .r) (a .p) (s .pre .1 .1) (t .enum-told3 .given .1) (k .admit .last .0) (k .admit .result)
+    (rw (o .origin-of .ensures, n .counted3 .ensures) at (k .admit .ensures))
 
 pub settle-spec : {M : Type 1} → statement M
 settle-spec =
@@ -79,7 +79,7 @@ settle-spec =
     enum-told-3
     counted-requires-3
     origin-of-requires
-    place-requires
+    admit-requires
     returns
     returns-2
     same-length

@@ -6,7 +6,7 @@ use Prim.Native.Nat.{ℕ, _+_, _*_, _-_, _<_}
 use native.Mathlib.Omega.{arith}
 use borrow.Author.Needs.{needs}
 use borrow.Author.Tests.{not-true, not-false}
-use Rattle.placing.specs.declared.place.Point.{Point}
+use Rattle.placing.specs.declared.point.Point.{Point}
 use Rattle.steps.specs.Held.{held-fewer}
 use Rattle.rounds.specs.Left.{line-same}
 use Rattle.rounds.specs.Round.{AtUpper, AtLower, Entered, upper-first, upper-done, lower-first, upper-next, pairable, Underway}

@@ -7,7 +7,7 @@ use borrow.Author.Tests.{not-true, not-false}
 use Rattle.rules_types.specs.Limits as limit
 use Rattle.lines.specs.declared.order.Round.the-variants.{Of}
 use Rattle.lines.specs.Order.{IsRound}
-use Rattle.placing.specs.declared.place.Progress.the-variants.{Running}
+use Rattle.placing.specs.declared.point.Progress.the-variants.{Running}
 use Rattle.placing.specs.Point.{running-yes}
 use Rattle.rounds.specs.Rounds.{AtRound, rounds-start, rounds-next, rounds-done, rounds-stay}
 use Rattle.rounds.proofs.sequence.rounds.Statement.{statement}

@@ -1,8 +1,8 @@
--- `place::progress_of` meets its contract. Assumes nothing.
+-- `admit::progress_of` meets its contract. Assumes nothing.
 use mathlib.Core.Path.{sym, _∙_}
 use borrow.Author.Needs.{needs}
-use Rattle.placing.proofs.place.progress_of.Statement.{statement}
-use Rattle.placing.proofs.place.progress_of.Tie as tie
+use Rattle.placing.proofs.admit.progress_of.Statement.{statement}
+use Rattle.placing.proofs.admit.progress_of.Tie as tie
 
 is-empty-requires : tie.Need-is-empty-requires
 is-empty-requires c κs = search needs

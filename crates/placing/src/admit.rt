@@ -1,5 +1,7 @@
 // A line put to the tests: equal to an earlier one, one too many, empty; and else held.
 use crate::covered::covered;
+use crate::point::Point;
+use crate::point::Progress;
 use lines::line::Line;
 use rules_types::limits::Limits;
 use steps::encode::encode;
@@ -10,34 +12,8 @@ ghost use mathlib.Core.Bool.{cond};
 ghost use Rattle.rules.specs.Lines.{isEmpty};
 ghost use Rattle.lines.specs.Line.{meaning, Ready};
 ghost use Rattle.steps.specs.Origin.{Named};
-ghost use Rattle.placing.specs.Point.{isRunning, Standing, Reaches, added};
-ghost use Rattle.placing.specs.declared.place.Progress.the-variants.{Running, Empty};
-
-// Whether the elimination goes on, or what has ended it: "The first empty line, wide result or line too many".
-pub enum Progress {
-    Running,
-    Empty,
-    Overflow,
-    OutOfSteps,
-}
-
-// The elimination at a point: the steps held, and the pairs tried.
-pub struct Point {
-    pub progress: Progress,
-    pub steps: usize,
-    pub pairs: u64,
-}
-
-pub fn is_running(progress: Progress) -> bool
-    ensures { λ r. ⌜ r ≡ isRunning progress ⌝ }
-{
-    match progress {
-        Progress::Running => true,
-        Progress::Empty => false,
-        Progress::Overflow => false,
-        Progress::OutOfSteps => false,
-    }
-}
+ghost use Rattle.placing.specs.Point.{Standing, Reaches, added};
+ghost use Rattle.placing.specs.declared.point.Progress.the-variants.{Running, Empty};
 
 fn progress_of(line: Line) -> Progress
     ensures { λ r. ⌜ r ≡ cond (isEmpty (meaning line)) Empty Running ⌝ }
@@ -49,7 +25,7 @@ fn progress_of(line: Line) -> Progress
 }
 
 // The step goes behind the others, if there is no equal line and room for it.
-pub fn place(proof: &mut [u8], p: Point, step: Step, limits: Limits) -> Point
+pub fn admit(proof: &mut [u8], p: Point, step: Step, limits: Limits) -> Point
     requires { ⌜ Standing limits (now proof) (p .steps) ⌝ }
     requires { ⌜ Ready (step .line) ⌝ }
     requires { ⌜ Named (step .origin) ⌝ }

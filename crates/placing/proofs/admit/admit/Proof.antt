@@ -1,4 +1,4 @@
--- `place::place` meets its contract. Assumes nothing.
+-- `admit::admit` meets its contract. Assumes nothing.
 use mathlib.Core.Path.{_≡_, sym, ap, _∙_}
 use mathlib.Core.List.{List}
 use Prim.Native.Nat.{ℕ, _*_}
@@ -10,10 +10,10 @@ use Rattle.lines.specs.Line.{meaning}
 use Rattle.steps.specs.Origin.{headerOf}
 use Rattle.steps.specs.Encoding.{encoded}
 use Rattle.steps.specs.Held.{Words, step-back, step-bytes}
-use Rattle.placing.specs.Point.{place-known, place-out-of-steps, place-new}
+use Rattle.placing.specs.Point.{admit-known, admit-out-of-steps, admit-new}
 use borrow.Author.Needs.{needs}
-use Rattle.placing.proofs.place.place.Statement.{statement}
-use Rattle.placing.proofs.place.place.Tie as tie
+use Rattle.placing.proofs.admit.admit.Statement.{statement}
+use Rattle.placing.proofs.admit.admit.Tie as tie
 
 words : (s : tie.Start) → Words (s .args .step .line)
 words s = record {
@@ -36,7 +36,7 @@ returns : tie.Need-returns
 returns c =
     let a = c .before in
     let s = start a in
-    place-known (s .args .p) (s .pre .0) (s .args .step) (sym (a .covered .ensures) ∙ c .if1 .taken)
+    admit-known (s .args .p) (s .pre .0) (s .args .step) (sym (a .covered .ensures) ∙ c .if1 .taken)
 
 cast-if2 : tie.Need-cast-if2
 cast-if2 c = search needs
@@ -48,7 +48,7 @@ returns-2 : tie.Need-returns-2
 returns-2 c =
     let a = c .before .before .before in
     let s = start a in
-    place-out-of-steps (s .args .p) (s .pre .0) (s .args .step) (sym (a .covered .ensures) ∙ c .before .before .if1 .left) (omega arith)
+    admit-out-of-steps (s .args .p) (s .pre .0) (s .args .step) (sym (a .covered .ensures) ∙ c .before .before .if1 .left) (omega arith)
 
 encode-requires : tie.Need-encode-requires
 encode-requires c κs = search needs
@@ -78,11 +78,11 @@ returns-3 c =
     ∙ ap (λ (x : List ℕ). stored (limit.stepBytes * p .steps) x (a .proof .now)) (e .encode .ensures) in
     let whole : length bytes ≡ limit.stepBytes = ap length (sym (e .encode .ensures)) ∙ search needs in
     rw (wrote, c .progress-of .ensures)
-    (place-new p (s .pre .0) (s .args .step) (sym (b .covered .ensures) ∙ e .before .before .before .if1 .left) bytes
+    (admit-new p (s .pre .0) (s .args .step) (sym (b .covered .ensures) ∙ e .before .before .before .if1 .left) bytes
     (step-bytes (a .step) (s .pre .1 .1) (words s)) (step-back (a .step) (s .pre .1 .1) (words s)) (omega arith) whole)
 
-pub place-spec : {M : Type 1} → statement M
-place-spec =
+pub admit-spec : {M : Type 1} → statement M
+admit-spec =
     tie.close
     (tie.spec
     covered-requires
