@@ -18,7 +18,7 @@ ghost use Rattle.elimination.specs.LoadedParts.{LoadsParts};
 
 // "Pieces load in order." "Loading drops equal lines too."
 pub fn load_parts(
-    q: &[u8],
+    input: &[u8],
     r: u8,
     first: Parts,
     clause: u64,
@@ -27,18 +27,18 @@ pub fn load_parts(
     limits: Limits,
 ) -> Point
     requires { ⌜ r ≤ rationals ⌝ }
-    requires { ⌜ SoundParts (now q) r first ⌝ }
-    requires { ⌜ length (partsFrom (now q) r first) ≤ splits + 1 ⌝ }
+    requires { ⌜ SoundParts (now input) r first ⌝ }
+    requires { ⌜ length (partsFrom (now input) r first) ≤ splits + 1 ⌝ }
     requires { ⌜ clause < mostSteps ⌝ }
     requires { ⌜ Standing limits (now proof) (from .steps) ⌝ }
     requires { ⌜ from .progress ≡ Running ⌝ }
-    ensures { λ p. ⌜ LoadsParts limits clause (partsFrom (now (q .entry)) r first) (now (proof .entry)) from (now (proof .exit)) p ⌝ }
+    ensures { λ p. ⌜ LoadsParts limits clause (partsFrom (now (input .entry)) r first) (now (proof .entry)) from (now (proof .exit)) p ⌝ }
 {
     let mut parts = first;
     let mut p = from;
     let mut j: u64 = 0;
     while parts.more {
-        let part = next(q, r, parts);
+        let part = next(input, r, parts);
         let line = part.line;
         let step = Step {
             origin: Origin::loaded(clause, j),

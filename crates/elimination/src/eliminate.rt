@@ -12,12 +12,12 @@ ghost use Rattle.problem_read.specs.Readable.{Readable};
 ghost use Rattle.elimination.specs.Eliminated.{Eliminated};
 
 // Of a problem of these sizes that was read without fault; the proof's bytes are lent for the steps.
-pub fn eliminate(q: &[u8], sizes: Sizes, proof: &mut [u8], limits: Limits) -> Point
-    requires { ⌜ Readable (now q) sizes ⌝ }
+pub fn eliminate(input: &[u8], sizes: Sizes, proof: &mut [u8], limits: Limits) -> Point
+    requires { ⌜ Readable (now input) sizes ⌝ }
     requires { ⌜ proofBytes limits ≤ length (now proof) ⌝ }
     requires { ⌜ limits .steps ≤ mostSteps ⌝ }
-    ensures { λ c. ⌜ Eliminated limits (problemAt (now (q .entry)) sizes) (now (proof .entry)) (now (proof .exit)) c ⌝ }
+    ensures { λ c. ⌜ Eliminated limits (problemAt (now (input .entry)) sizes) (now (proof .entry)) (now (proof .exit)) c ⌝ }
 {
-    let loaded = load(q, sizes, proof, limits);
+    let loaded = load(input, sizes, proof, limits);
     rounds(proof, loaded, limits)
 }

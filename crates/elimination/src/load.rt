@@ -16,10 +16,10 @@ ghost use Rattle.problem_read.specs.Readable.{Readable};
 ghost use Rattle.elimination.specs.Loading.{LoadsAll};
 
 // "links, new marks numbered from b upward in clause order".
-pub fn load(q: &[u8], sizes: Sizes, proof: &mut [u8], limits: Limits) -> Point
-    requires { ⌜ Readable (now q) sizes ⌝ }
+pub fn load(input: &[u8], sizes: Sizes, proof: &mut [u8], limits: Limits) -> Point
+    requires { ⌜ Readable (now input) sizes ⌝ }
     requires { ⌜ stepBytes * limits .steps ≤ length (now proof) ⌝ }
-    ensures { λ p. ⌜ LoadsAll limits (now (q .entry)) sizes (now (proof .entry)) (now (proof .exit)) p ⌝ }
+    ensures { λ p. ⌜ LoadsAll limits (now (input .entry)) sizes (now (proof .entry)) (now (proof .exit)) p ⌝ }
 {
     let mut p = Point {
         progress: Progress::Running,
@@ -32,14 +32,14 @@ pub fn load(q: &[u8], sizes: Sizes, proof: &mut [u8], limits: Limits) -> Point
     let mut split = sizes.booleans as usize;
     let mut clause: u64 = 0;
     while clause < n {
-        let parts = begin(q, at, r, split);
-        p = load_parts(q, r, parts, clause, proof, p, limits);
+        let parts = begin(input, at, r, split);
+        p = load_parts(input, r, parts, clause, proof, p, limits);
         let progress = p.progress;
         if !is_running(progress) {
             return p;
         }
         split += splits(parts) as usize;
-        at = next(q, at, r);
+        at = next(input, at, r);
         clause += 1;
     }
     p

@@ -33,7 +33,8 @@ module _ (limits : Limits) (number steps : ℕ) (proof model : List ℕ) where
     unfolding evidence refused verdictNumber
     part-model f = rw (e, evidence, f)
 
-    pub part-proof : eqb number 64 ≡ false → eqb number 65 ≡ true → evidence limits number steps proof model ≡ OfProof (limit.stepBytes * steps)
+    pub part-proof : eqb number 64 ≡ false → eqb number 65 ≡ true
+        → evidence limits number steps proof model ≡ OfProof (limit.stepBytes * steps)
     unfolding evidence refused verdictNumber
     part-proof f g = rw (e, evidence, f, g)
 

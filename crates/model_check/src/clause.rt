@@ -17,14 +17,14 @@ ghost use Rattle.problem_scan.specs.Sound.{Each, SoundConstraint, SoundClause};
 ghost use Rattle.models.specs.Model.{assignment};
 
 // Of so many literals.
-fn any_literal(q: &[u8], from: usize, count: u8, model: Model) -> bool
-    requires { ⌜ behind 1 count from ≤ length (now q) ⌝ }
-    ensures { λ t. ⌜ t ≡ any (literalHolds (assignment model)) (valuesAt (literalAt (now (q .entry))) 1 count from) ⌝ }
+fn any_literal(input: &[u8], from: usize, count: u8, model: Model) -> bool
+    requires { ⌜ behind 1 count from ≤ length (now input) ⌝ }
+    ensures { λ t. ⌜ t ≡ any (literalHolds (assignment model)) (valuesAt (literalAt (now (input .entry))) 1 count from) ⌝ }
 {
     let mut at = from;
     let mut left = count;
     while 0 < left {
-        if literal_holds(q[at], model) {
+        if literal_holds(input[at], model) {
             return true;
         }
         at += 1;
@@ -34,18 +34,18 @@ fn any_literal(q: &[u8], from: usize, count: u8, model: Model) -> bool
 }
 
 // Of so many constraints.
-fn any_constraint(q: &[u8], from: usize, r: u8, count: u8, model: Model) -> bool
+fn any_constraint(input: &[u8], from: usize, r: u8, count: u8, model: Model) -> bool
     requires { ⌜ r ≤ rationals ⌝ }
-    requires { ⌜ behind (constraintBytes r) count from ≤ length (now q) ⌝ }
-    requires { ⌜ Each (SoundConstraint (now q) r) (constraintBytes r) count from ⌝ }
+    requires { ⌜ behind (constraintBytes r) count from ≤ length (now input) ⌝ }
+    requires { ⌜ Each (SoundConstraint (now input) r) (constraintBytes r) count from ⌝ }
     requires { ⌜ Amounts (model .numerators) ⌝ }
-    ensures { λ t. ⌜ t ≡ any (constraintHolds (assignment model)) (constraintsAt (now (q .entry)) r count from) ⌝ }
+    ensures { λ t. ⌜ t ≡ any (constraintHolds (assignment model)) (constraintsAt (now (input .entry)) r count from) ⌝ }
 {
     let size = constraint_bytes(r);
     let mut at = from;
     let mut left = count;
     while 0 < left {
-        if constraint_holds(q, at, r, model) {
+        if constraint_holds(input, at, r, model) {
             return true;
         }
         at += size;
@@ -54,15 +54,15 @@ fn any_constraint(q: &[u8], from: usize, r: u8, count: u8, model: Model) -> bool
     false
 }
 
-pub fn clause_holds(q: &[u8], at: usize, r: u8, model: Model) -> bool
+pub fn clause_holds(input: &[u8], at: usize, r: u8, model: Model) -> bool
     requires { ⌜ r ≤ rationals ⌝ }
-    requires { ⌜ SoundClause (now q) r at ⌝ }
+    requires { ⌜ SoundClause (now input) r at ⌝ }
     requires { ⌜ Amounts (model .numerators) ⌝ }
-    ensures { λ t. ⌜ t ≡ clauseHolds (assignment model) (clauseAt (now (q .entry)) r at) ⌝ }
+    ensures { λ t. ⌜ t ≡ clauseHolds (assignment model) (clauseAt (now (input .entry)) r at) ⌝ }
 {
-    let place = count_place(q, at);
-    if any_literal(q, at + 1, q[at], model) {
+    let place = count_place(input, at);
+    if any_literal(input, at + 1, input[at], model) {
         return true;
     }
-    any_constraint(q, place + 1, r, q[place], model)
+    any_constraint(input, place + 1, r, input[place], model)
 }

@@ -19,19 +19,19 @@ ghost use Rattle.problem_scan.specs.Sound.{Each, Amount, SoundConstraint};
 ghost use Rattle.models.specs.Model.{assignment, value};
 
 // Of so many coefficients.
-fn sum(q: &[u8], from: usize, count: u8, numerators: [i64; Limits::RATIONALS]) -> i64
+fn sum(input: &[u8], from: usize, count: u8, numerators: [i64; Limits::RATIONALS]) -> i64
     requires { ⌜ count ≤ rationals ⌝ }
-    requires { ⌜ behind 4 count from ≤ length (now q) ⌝ }
-    requires { ⌜ Each (Amount (now q)) 4 count from ⌝ }
+    requires { ⌜ behind 4 count from ≤ length (now input) ⌝ }
+    requires { ⌜ Each (Amount (now input)) 4 count from ⌝ }
     requires { ⌜ Amounts numerators ⌝ }
-    ensures { λ s. ⌜ s ≡ sum (valuesAt (amountAt (now (q .entry))) 4 count from) (value numerators) ⌝ }
+    ensures { λ s. ⌜ s ≡ sum (valuesAt (amountAt (now (input .entry))) 4 count from) (value numerators) ⌝ }
 {
     let mut at = from;
     let mut left = count;
     let mut i = 0;
     let mut total = 0 as i64;
     while 0 < left {
-        let z = amount_at(q, at);
+        let z = amount_at(input, at);
         let x = numerators[i];
         total = plus_product(total, z, x);
         at += 4;
@@ -41,16 +41,16 @@ fn sum(q: &[u8], from: usize, count: u8, numerators: [i64; Limits::RATIONALS]) -
     total
 }
 
-pub fn constraint_holds(q: &[u8], at: usize, r: u8, model: Model) -> bool
+pub fn constraint_holds(input: &[u8], at: usize, r: u8, model: Model) -> bool
     requires { ⌜ r ≤ rationals ⌝ }
-    requires { ⌜ SoundConstraint (now q) r at ⌝ }
+    requires { ⌜ SoundConstraint (now input) r at ⌝ }
     requires { ⌜ Amounts (model .numerators) ⌝ }
-    ensures { λ t. ⌜ t ≡ constraintHolds (assignment model) (constraintAt (now (q .entry)) r at) ⌝ }
+    ensures { λ t. ⌜ t ≡ constraintHolds (assignment model) (constraintAt (now (input .entry)) r at) ⌝ }
 {
     let numerators = model.numerators;
-    let s = sum(q, at + CONSTRAINT_COEFFICIENTS, r, numerators);
-    let b = scaled(bound_of(q, at, r), model.denominator);
-    if is_strict(q, at) {
+    let s = sum(input, at + CONSTRAINT_COEFFICIENTS, r, numerators);
+    let b = scaled(bound_of(input, at, r), model.denominator);
+    if is_strict(input, at) {
         return s < b;
     }
     s <= b

@@ -13,20 +13,20 @@ ghost use Rattle.problem_read.specs.Clauses.{clausesAt};
 ghost use Rattle.problem_scan.specs.Sound.{SoundClauses};
 
 // Of so many clauses, numbered from 0.
-pub fn check_clauses(q: &[u8], from: usize, r: u8, count: u64, model: Model) -> Checked
+pub fn check_clauses(input: &[u8], from: usize, r: u8, count: u64, model: Model) -> Checked
     requires { ⌜ r ≤ rationals ⌝ }
-    requires { ⌜ SoundClauses (now q) r count from ⌝ }
+    requires { ⌜ SoundClauses (now input) r count from ⌝ }
     requires { ⌜ Amounts (model .numerators) ⌝ }
-    ensures { λ c. ⌜ c ≡ checkClauses (assignment model) 0 (clausesAt (now (q .entry)) r count from) ⌝ }
+    ensures { λ c. ⌜ c ≡ checkClauses (assignment model) 0 (clausesAt (now (input .entry)) r count from) ⌝ }
 {
     let mut at = from;
     let mut left = count;
     let mut k: usize = 0;
     while 0 < left {
-        if !clause_holds(q, at, r, model) {
+        if !clause_holds(input, at, r, model) {
             return Checked::Fails(k);
         }
-        at = next(q, at, r);
+        at = next(input, at, r);
         left -= 1;
         k += 1;
     }

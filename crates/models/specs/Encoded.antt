@@ -1,10 +1,11 @@
 -- The parts of a model's bytes, stored one behind the other.
 use mathlib.Core.Path.{_≡_, refl, sym, ap, _∙_}
+use mathlib.Core.Bool.{false}
 use mathlib.Core.List.{List, [], _∷_, _++_, append-assoc}
 use Prim.Native.Nat.{ℕ, zero, suc, _+_, _-_, _≤_, _<_}
 use native.Mathlib.Numerals.{add-one}
 use native.Mathlib.Omega.{arith}
-use lib.ListN.{length, set, drop, replicate, length-append}
+use lib.ListN.{length, getD, set, drop, replicate, length-append}
 use lib.Seq.{sets-eq}
 use Rattle.rules_types.specs.Limits as limit
 use Rattle.rules_types.specs.Layout as layout
@@ -15,7 +16,12 @@ use Rattle.rules.specs.Meaning.{Assignment}
 use Rattle.theory_lists.specs.Tabulated.{length-tabulate, tabulate-snoc}
 use Rattle.theory_bytes.specs.Bytes.{length-toBytes}
 use Rattle.theory_bytes.specs.Amounts.{length-amountBytes}
+use Rattle.masks.specs.Mask.{bits}
 use Rattle.fields.specs.Field.{stored, length-stored, stored-++, byte-stored}
+
+-- a byte for each of b Boolean variables of a mask
+abbrev pub flagBytes : ℕ → ℕ → List ℕ
+flagBytes b mask = tabulate b (λ i. booleanByte (getD (bits limit.allBooleans mask) i false))
 
 -- one place more of a function
 pub tabulate-stored : (at i : ℕ) (g : ℕ → ℕ) (s : List ℕ) → at + i < length (stored at (tabulate i g) s) → at ≤ length s
@@ -53,7 +59,8 @@ module _ (b r : ℕ) (χ : Assignment) (hb : b ≤ limit.booleans) (hr : r ≤ l
       ∙ stored-++ 0 x y zeros (omega arith)
 
   pub encoded-is : stored (layout.modelNumerators b) numerators
-      (stored (layout.modelDenominator b) denominator (set (stored layout.modelFlags booleans (set zeros layout.modelBooleans b)) (layout.modelRationals b) r)) ≡ encodeModel b r χ
+      (stored (layout.modelDenominator b) denominator
+      (set (stored layout.modelFlags booleans (set zeros layout.modelBooleans b)) (layout.modelRationals b) r)) ≡ encodeModel b r χ
   unfolding encodeModel padded
   encoded-is =
       let two = b ∷ booleans in
@@ -61,14 +68,18 @@ module _ (b r : ℕ) (χ : Assignment) (hb : b ≤ limit.booleans) (hr : r ≤ l
       let four = three ++ denominator in
       let l₂ : length two ≡ layout.modelRationals b = omega (arith, length-tabulate b (λ i. booleanByte (χ .booleans i))) in
       let l₃ : length three ≡ layout.modelDenominator b = length-append two (r ∷ []) ∙ omega arith in
-      let l₄ : length four ≡ layout.modelNumerators b = length-append three denominator ∙ omega (arith, length-toBytes 4 (χ .denominator)) in
+      let l₄ : length four ≡ layout.modelNumerators b = length-append three denominator
+      ∙ omega (arith, length-toBytes 4 (χ .denominator)) in
       let l₅ : length (four ++ numerators) ≤ limit.modelBytes = rw (length-append four numerators)
       (omega (arith, length-amountBytes (tabulate r (χ .numerators)), length-tabulate r (χ .numerators))) in
       let s₃ : set (stored 0 two zeros) (layout.modelRationals b) r ≡ stored 0 three zeros =
-      byte-stored 0 (layout.modelRationals b) r two zeros (omega arith) (rw (length-stored 0 two zeros (omega arith)) (omega arith)) (omega arith) in
-      let first : stored layout.modelFlags booleans (set zeros layout.modelBooleans b) ≡ stored 0 two zeros = ap (stored layout.modelFlags booleans) (sets-eq (b ∷ []) zeros 0 (omega arith))
+      byte-stored 0 (layout.modelRationals b) r two zeros (omega arith)
+      (rw (length-stored 0 two zeros (omega arith)) (omega arith)) (omega arith) in
+      let first : stored layout.modelFlags booleans (set zeros layout.modelBooleans b) ≡ stored 0 two zeros =
+      ap (stored layout.modelFlags booleans) (sets-eq (b ∷ []) zeros 0 (omega arith))
       ∙ front layout.modelFlags (b ∷ []) booleans refl in
-      ap (λ (s : List ℕ). stored (layout.modelNumerators b) numerators (stored (layout.modelDenominator b) denominator (set s (layout.modelRationals b) r))) first
+      ap (λ (s : List ℕ). stored (layout.modelNumerators b) numerators
+      (stored (layout.modelDenominator b) denominator (set s (layout.modelRationals b) r))) first
       ∙ ap (λ (s : List ℕ). stored (layout.modelNumerators b) numerators (stored (layout.modelDenominator b) denominator s)) s₃
       ∙ ap (stored (layout.modelNumerators b) numerators) (front (layout.modelDenominator b) three denominator l₃)
       ∙ front (layout.modelNumerators b) four numerators l₄

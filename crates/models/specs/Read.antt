@@ -111,17 +111,20 @@ module _ {s : List ℕ} {b r : ℕ} where
       (rw (fieldAt-1 layout.modelBooleans s (omega (arith, h .long))) (ne-eqb b (getD s layout.modelBooleans 0) (λ e. n (sym e))))
 
   module _ {flags : Flags} where
-    booleans-on : BooleansRead s b r flags → model b r s 0 ≡ after (repeat b flag (drop layout.modelFlags s) layout.modelFlags) (rationalsOn r)
+    booleans-on : BooleansRead s b r flags
+        → model b r s 0 ≡ after (repeat b flag (drop layout.modelFlags s) layout.modelFlags) (rationalsOn r)
     unfolding model flag rationalsOn denominatorOn numeratorsAfter isDenominator
     booleans-on h =
         let l : layout.modelBooleans + 1 ≤ length s = omega (arith, h .sized .long) in
-        goes s 1 (eqb b) refusal.BadModel layout.modelBooleans _ l (rw (fieldAt-1 layout.modelBooleans s l) (eq-eqb b (getD s layout.modelBooleans 0) (sym (h .count))))
+        goes s 1 (eqb b) refusal.BadModel layout.modelBooleans _ l
+        (rw (fieldAt-1 layout.modelBooleans s l) (eq-eqb b (getD s layout.modelBooleans 0) (sym (h .count))))
 
     pub boolean-bad : BooleansRead s b r flags → flags .sound ≡ false → model b r s 0 ≡ fault refusal.BadModel (flags .place)
     unfolding reading after
     boolean-bad h e = booleans-on h ∙ rw (h .given .same, e)
 
-    rationals-on : BooleansRead s b r flags → flags .sound ≡ true → model b r s 0 ≡ rationalsOn r (bytesAt s b layout.modelFlags) (drop (layout.modelRationals b) s) (layout.modelRationals b)
+    rationals-on : BooleansRead s b r flags → flags .sound ≡ true
+        → model b r s 0 ≡ rationalsOn r (bytesAt s b layout.modelFlags) (drop (layout.modelRationals b) s) (layout.modelRationals b)
     unfolding reading after
     rationals-on h e = booleans-on h ∙ rw (h .given .same, e, h .given .end e)
 
@@ -133,7 +136,8 @@ module _ {s : List ℕ} {b r : ℕ} where
         rationals-on h e ∙ stops s 1 (eqb r) refusal.BadModel (layout.modelRationals b) _ (omega arith)
         (rw (fieldAt-1 (layout.modelRationals b) s l) (ne-eqb r (getD s (layout.modelRationals b) 0) (λ e. n (sym e))))
 
-    denominator-on : RationalsAhead s b r flags → model b r s 0 ≡ denominatorOn r (bytesAt s b layout.modelFlags) (drop (layout.modelDenominator b) s) (layout.modelDenominator b)
+    denominator-on : RationalsAhead s b r flags
+        → model b r s 0 ≡ denominatorOn r (bytesAt s b layout.modelFlags) (drop (layout.modelDenominator b) s) (layout.modelDenominator b)
     unfolding rationalsOn
     denominator-on h =
         let l = r-there (h .booleans .sized) in
@@ -148,7 +152,8 @@ module _ {s : List ℕ} {b r : ℕ} where
         ∙ stops s 4 isDenominator refusal.BadModel (layout.modelDenominator b) _ (denominator-there (h .booleans .sized)) e
 
     module _ {row : Row} (h : RationalsRead s b r flags row) where
-      numerators-on : model b r s 0 ≡ numeratorsAfter r (bytesAt s b layout.modelFlags) (fieldAt (layout.modelDenominator b) 4 s) (drop (layout.modelNumerators b) s) (layout.modelNumerators b)
+      numerators-on : model b r s 0 ≡ numeratorsAfter r (bytesAt s b layout.modelFlags) (fieldAt (layout.modelDenominator b) 4 s)
+          (drop (layout.modelNumerators b) s) (layout.modelNumerators b)
       unfolding denominatorOn
       numerators-on =
           let e : layout.modelDenominator b + 4 ≡ layout.modelNumerators b = omega arith in
@@ -172,7 +177,10 @@ module _ {s : List ℕ} {b r : ℕ} where
           record {
             same = numerators-on ∙ rw (h .given .same, e) (ap (λ (χ : Assignment). got χ (drop (row .place) s) (row .place)) (made e));
             numerators = h .given .small;
-            denominator = (leb→le 1 (fieldAt (layout.modelDenominator b) 4 s) (d .0), leb→le (fieldAt (layout.modelDenominator b) 4 s) limit.amount (d .1));
+            denominator = (
+              leb→le 1 (fieldAt (layout.modelDenominator b) 4 s) (d .0),
+              leb→le (fieldAt (layout.modelDenominator b) 4 s) limit.amount (d .1),
+            );
           }
         where
           made : row .sound ≡ true → record {
@@ -180,7 +188,11 @@ module _ {s : List ℕ} {b r : ℕ} where
             numerators = λ f. getD (valuesAt (amountAt s) 4 r (layout.modelNumerators b)) f (pos 0);
             denominator = fieldAt (layout.modelDenominator b) 4 s;
           }
-              ≡ assignment (record { booleans = flags .mask; numerators = row .numerators; denominator = fieldAt (layout.modelDenominator b) 4 s })
+              ≡ assignment (record {
+                booleans = flags .mask;
+                numerators = row .numerators;
+                denominator = fieldAt (layout.modelDenominator b) 4 s;
+              })
           made e = λ j. record {
             booleans = λ i. sym (h .ahead .booleans .given .members (h .ahead .sound) i) j;
             numerators = λ f. sym (h .given .values e f) j;

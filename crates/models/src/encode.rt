@@ -24,6 +24,7 @@ ghost use Rattle.fields.specs.Field.{stored};
 ghost use Rattle.masks.specs.Mask.{bits};
 ghost use Rattle.theory_vectors.specs.Amounts.{Amounts};
 ghost use Rattle.models.specs.Model.{value, assignment};
+ghost use Rattle.models.specs.Encoded.{flagBytes};
 
 fn boolean_byte(mask: u32, i: usize) -> u8
     requires { ⌜ i < allBooleans ⌝ }
@@ -38,7 +39,7 @@ fn boolean_byte(mask: u32, i: usize) -> u8
 fn put_booleans(s: &mut [u8], b: u8, mask: u32)
     requires { ⌜ b ≤ booleans ⌝ }
     requires { ⌜ modelFlags + booleans ≤ length (now s) ⌝ }
-    ensures { λ _. ⌜ now (s .exit) ≡ stored modelFlags (tabulate b (λ i. booleanByte (getD (bits allBooleans mask) i false))) (now (s .entry)) ⌝ }
+    ensures { λ _. ⌜ now (s .exit) ≡ stored modelFlags (flagBytes b mask) (now (s .entry)) ⌝ }
 {
     let count = b as usize;
     let mut i: usize = 0;

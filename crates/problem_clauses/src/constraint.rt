@@ -9,16 +9,16 @@ ghost use Rattle.rules_types.specs.Layout.{constraintBytes};
 ghost use Rattle.problem_scan.specs.Values.{constraintAt};
 
 // "1 is ≤, 2 is <"
-pub fn is_strict(q: &[u8], at: usize) -> bool
-    requires { ⌜ at < length (now q) ⌝ }
-    ensures { λ t. ⌜ t ≡ eqb (getD (now (q .entry)) at 0) 2 ⌝ }
+pub fn is_strict(input: &[u8], at: usize) -> bool
+    requires { ⌜ at < length (now input) ⌝ }
+    ensures { λ t. ⌜ t ≡ eqb (getD (now (input .entry)) at 0) 2 ⌝ }
 {
-    q[at] == 2
+    input[at] == 2
 }
 
-pub fn bound_of(q: &[u8], at: usize, r: u8) -> i64
-    requires { ⌜ at + constraintBytes r ≤ length (now q) ⌝ }
-    ensures { λ z. ⌜ z ≡ constraintAt (now (q .entry)) r at .bound ⌝ }
+pub fn bound_of(input: &[u8], at: usize, r: u8) -> i64
+    requires { ⌜ at + constraintBytes r ≤ length (now input) ⌝ }
+    ensures { λ z. ⌜ z ≡ constraintAt (now (input .entry)) r at .bound ⌝ }
 {
-    amount_at(q, at + constraint_bound(r))
+    amount_at(input, at + constraint_bound(r))
 }

@@ -34,10 +34,10 @@ fn including(l: Members, code: u8) -> Members
 }
 
 // Of so many literals, from the last to the first.
-pub fn literals(q: &[u8], from: usize, count: u8) -> Members
-    requires { ⌜ behind 1 count from ≤ length (now q) ⌝ }
-    ensures positive { λ l. ⌜ bits allBooleans (l .positive) ≡ membersOf false (valuesAt (literalAt (now (q .entry))) 1 count from) ⌝ }
-    ensures negative { λ l. ⌜ bits allBooleans (l .negative) ≡ membersOf true (valuesAt (literalAt (now (q .entry))) 1 count from) ⌝ }
+pub fn literals(input: &[u8], from: usize, count: u8) -> Members
+    requires { ⌜ behind 1 count from ≤ length (now input) ⌝ }
+    ensures positive { λ l. ⌜ bits allBooleans (l .positive) ≡ membersOf false (valuesAt (literalAt (now (input .entry))) 1 count from) ⌝ }
+    ensures negative { λ l. ⌜ bits allBooleans (l .negative) ≡ membersOf true (valuesAt (literalAt (now (input .entry))) 1 count from) ⌝ }
 {
     let mut left = count;
     let mut l = Members {
@@ -46,7 +46,7 @@ pub fn literals(q: &[u8], from: usize, count: u8) -> Members
     };
     while 0 < left {
         left -= 1;
-        l = including(l, q[from + left as usize]);
+        l = including(l, input[from + left as usize]);
     }
     l
 }

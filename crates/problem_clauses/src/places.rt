@@ -5,18 +5,18 @@ ghost use Prim.Native.Nat.{_≤_, _<_};
 ghost use lib.ListN.{length};
 ghost use Rattle.problem_scan.specs.Values.{countOf, clauseEnd};
 
-pub fn count_place(q: &[u8], at: usize) -> usize
-    requires { ⌜ countOf (now q) at < length (now q) ⌝ }
-    ensures { λ p. ⌜ p ≡ countOf (now (q .entry)) at ⌝ }
+pub fn count_place(input: &[u8], at: usize) -> usize
+    requires { ⌜ countOf (now input) at < length (now input) ⌝ }
+    ensures { λ p. ⌜ p ≡ countOf (now (input .entry)) at ⌝ }
 {
-    at + 1 + q[at] as usize
+    at + 1 + input[at] as usize
 }
 
 // The place behind a clause.
-pub fn next(q: &[u8], at: usize, r: u8) -> usize
-    requires { ⌜ clauseEnd (now q) r at ≤ length (now q) ⌝ }
-    ensures { λ p. ⌜ p ≡ clauseEnd (now (q .entry)) r at ⌝ }
+pub fn next(input: &[u8], at: usize, r: u8) -> usize
+    requires { ⌜ clauseEnd (now input) r at ≤ length (now input) ⌝ }
+    ensures { λ p. ⌜ p ≡ clauseEnd (now (input .entry)) r at ⌝ }
 {
-    let place = count_place(q, at);
-    place + 1 + (q[place] as usize) * constraint_bytes(r)
+    let place = count_place(input, at);
+    place + 1 + (input[place] as usize) * constraint_bytes(r)
 }

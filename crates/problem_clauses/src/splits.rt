@@ -36,14 +36,14 @@ pub enum Staying {
 }
 
 // Whether so many amounts are all 0.
-fn zeros(q: &[u8], from: usize, count: u8) -> bool
-    requires { ⌜ behind 4 count from ≤ length (now q) ⌝ }
-    ensures { λ z. ⌜ z ≡ all isZero (valuesAt (amountAt (now (q .entry))) 4 count from) ⌝ }
+fn zeros(input: &[u8], from: usize, count: u8) -> bool
+    requires { ⌜ behind 4 count from ≤ length (now input) ⌝ }
+    ensures { λ z. ⌜ z ≡ all isZero (valuesAt (amountAt (now (input .entry))) 4 count from) ⌝ }
 {
     let mut at = from;
     let mut left = count;
     while 0 < left {
-        if u32_at(q, at) != 0 {
+        if u32_at(input, at) != 0 {
             return false;
         }
         at += 4;
@@ -52,14 +52,14 @@ fn zeros(q: &[u8], from: usize, count: u8) -> bool
     true
 }
 
-pub fn settled(q: &[u8], at: usize, r: u8) -> Fate
-    requires { ⌜ at + constraintBytes r ≤ length (now q) ⌝ }
-    ensures { λ s. ⌜ s ≡ fate (settled (constraintAt (now (q .entry)) r at)) ⌝ }
+pub fn settled(input: &[u8], at: usize, r: u8) -> Fate
+    requires { ⌜ at + constraintBytes r ≤ length (now input) ⌝ }
+    ensures { λ s. ⌜ s ≡ fate (settled (constraintAt (now (input .entry)) r at)) ⌝ }
 {
-    if !zeros(q, at + CONSTRAINT_COEFFICIENTS, r) {
+    if !zeros(input, at + CONSTRAINT_COEFFICIENTS, r) {
         return Fate::Kept;
     }
-    if zero_related(is_strict(q, at), bound_of(q, at, r)) {
+    if zero_related(is_strict(input, at), bound_of(input, at, r)) {
         return Fate::Always;
     }
     Fate::Never
@@ -87,16 +87,16 @@ pub fn weight(f: Fate) -> u8
 }
 
 // Of so many constraints.
-pub fn remaining(q: &[u8], from: usize, r: u8, count: u8) -> Staying
-    requires { ⌜ behind (constraintBytes r) count from ≤ length (now q) ⌝ }
-    ensures { λ k. ⌜ k ≡ counted 0 (settledAll (constraintsAt (now (q .entry)) r count from)) ⌝ }
+pub fn remaining(input: &[u8], from: usize, r: u8, count: u8) -> Staying
+    requires { ⌜ behind (constraintBytes r) count from ≤ length (now input) ⌝ }
+    ensures { λ k. ⌜ k ≡ counted 0 (settledAll (constraintsAt (now (input .entry)) r count from)) ⌝ }
 {
     let size = constraint_bytes(r);
     let mut at = from;
     let mut left = count;
     let mut n: u8 = 0;
     while 0 < left {
-        let f = settled(q, at, r);
+        let f = settled(input, at, r);
         if is_always(f) {
             return Staying::Dropped;
         }
@@ -123,14 +123,14 @@ pub fn between(k: Staying) -> u8
 }
 
 // The split variables of a clause.
-pub fn splits(q: &[u8], at: usize, r: u8) -> u8
-    requires { ⌜ clauseEnd (now q) r at ≤ length (now q) ⌝ }
-    ensures { λ n. ⌜ n ≡ splitsOf (clauseAt (now (q .entry)) r at) ⌝ }
+pub fn splits(input: &[u8], at: usize, r: u8) -> u8
+    requires { ⌜ clauseEnd (now input) r at ≤ length (now input) ⌝ }
+    ensures { λ n. ⌜ n ≡ splitsOf (clauseAt (now (input .entry)) r at) ⌝ }
 {
-    let place = count_place(q, at);
-    let l = literals(q, at + 1, q[at]);
+    let place = count_place(input, at);
+    let l = literals(input, at + 1, input[at]);
     if meets(l.positive, l.negative) {
         return 0;
     }
-    between(remaining(q, place + 1, r, q[place]))
+    between(remaining(input, place + 1, r, input[place]))
 }

@@ -17,17 +17,17 @@ ghost use Rattle.lines.specs.Line.{meaning, Ready};
 ghost use Rattle.problem_parts.specs.Constraint.{lineOf};
 
 // So many coefficients, and 0 from there on.
-fn row(q: &[u8], from: usize, count: u8) -> [i64; Limits::RATIONALS]
+fn row(input: &[u8], from: usize, count: u8) -> [i64; Limits::RATIONALS]
     requires { ⌜ count ≤ rationals ⌝ }
-    requires { ⌜ behind 4 count from ≤ length (now q) ⌝ }
-    ensures { λ out. ⌜ out ≡ valuesAt (amountAt (now (q .entry))) 4 count from ++ replicate (rationals - count) (pos 0) ⌝ }
+    requires { ⌜ behind 4 count from ≤ length (now input) ⌝ }
+    ensures { λ out. ⌜ out ≡ valuesAt (amountAt (now (input .entry))) 4 count from ++ replicate (rationals - count) (pos 0) ⌝ }
 {
     let n = count as usize;
     let mut out = [0 as i64; Limits::RATIONALS];
     let mut at = from;
     let mut i = 0;
     while i < n {
-        out[i] = amount_at(q, at);
+        out[i] = amount_at(input, at);
         at += 4;
         i += 1;
     }
@@ -35,18 +35,18 @@ fn row(q: &[u8], from: usize, count: u8) -> [i64; Limits::RATIONALS]
 }
 
 // With these sets of Boolean variables.
-pub fn constraint_line(q: &[u8], at: usize, r: u8, positive: u32, negative: u32) -> Line
+pub fn constraint_line(input: &[u8], at: usize, r: u8, positive: u32, negative: u32) -> Line
     requires { ⌜ r ≤ rationals ⌝ }
-    requires { ⌜ SoundConstraint (now q) r at ⌝ }
-    ensures { λ l. ⌜ meaning l ≡ lineOf positive negative (some (constraintAt (now (q .entry)) r at)) ⌝ }
+    requires { ⌜ SoundConstraint (now input) r at ⌝ }
+    ensures { λ l. ⌜ meaning l ≡ lineOf positive negative (some (constraintAt (now (input .entry)) r at)) ⌝ }
     ensures { λ l. ⌜ Ready l ⌝ }
 {
-    let coefficients = row(q, at + CONSTRAINT_COEFFICIENTS, r);
-    let bound = bound_of(q, at, r);
+    let coefficients = row(input, at + CONSTRAINT_COEFFICIENTS, r);
+    let bound = bound_of(input, at, r);
     Line {
         positive: positive,
         negative: negative,
-        relation: q[at],
+        relation: input[at],
         coefficients: coefficients,
         bound: bound,
     }

@@ -21,14 +21,14 @@ pub struct Found {
     pub line: Line,
 }
 
-fn first(q: &[u8], r: u8, parts: Parts) -> Found
+fn first(input: &[u8], r: u8, parts: Parts) -> Found
     requires { ⌜ r ≤ rationals ⌝ }
-    requires { ⌜ SoundParts (now q) r parts ⌝ }
-    ensures { λ f. ⌜ partOf f ≡ getElem? (partsFrom (now (q .entry)) r parts) 0 ⌝ }
+    requires { ⌜ SoundParts (now input) r parts ⌝ }
+    ensures { λ f. ⌜ partOf f ≡ getElem? (partsFrom (now (input .entry)) r parts) 0 ⌝ }
     ensures { λ f. ⌜ Ready (f .line) ⌝ }
 {
     if parts.more {
-        let p = next(q, r, parts);
+        let p = next(input, r, parts);
         let line = p.line;
         return Found {
             found: true,
@@ -42,22 +42,22 @@ fn first(q: &[u8], r: u8, parts: Parts) -> Found
 }
 
 // Part j of the clause at a place; `split` is its first split variable.
-pub fn part(q: &[u8], at: usize, r: u8, split: usize, j: u64) -> Found
+pub fn part(input: &[u8], at: usize, r: u8, split: usize, j: u64) -> Found
     requires { ⌜ r ≤ rationals ⌝ }
-    requires { ⌜ SoundClause (now q) r at ⌝ }
+    requires { ⌜ SoundClause (now input) r at ⌝ }
     requires { ⌜ split ≤ allBooleans ⌝ }
-    ensures { λ f. ⌜ partOf f ≡ getElem? (partsOf split (clauseAt (now (q .entry)) r at)) j ⌝ }
+    ensures { λ f. ⌜ partOf f ≡ getElem? (partsOf split (clauseAt (now (input .entry)) r at)) j ⌝ }
     ensures { λ f. ⌜ Ready (f .line) ⌝ }
 {
-    let mut parts = begin(q, at, r, split);
+    let mut parts = begin(input, at, r, split);
     let mut left = j;
     while 0 < left {
         if !parts.more {
-            return first(q, r, parts);
+            return first(input, r, parts);
         }
-        let p = next(q, r, parts);
+        let p = next(input, r, parts);
         parts = p.rest;
         left -= 1;
     }
-    first(q, r, parts)
+    first(input, r, parts)
 }

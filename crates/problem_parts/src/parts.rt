@@ -53,16 +53,16 @@ pub struct Part {
 }
 
 // Before the first part of a clause; `split` is the next split variable.
-pub fn begin(q: &[u8], at: usize, r: u8, split: usize) -> Parts
-    requires { ⌜ SoundClause (now q) r at ⌝ }
+pub fn begin(input: &[u8], at: usize, r: u8, split: usize) -> Parts
+    requires { ⌜ SoundClause (now input) r at ⌝ }
     requires { ⌜ split ≤ allBooleans ⌝ }
-    ensures { λ p. ⌜ partsFrom (now (q .entry)) r p ≡ partsOf split (clauseAt (now (q .entry)) r at) ⌝ }
-    ensures { λ p. ⌜ SoundParts (now (q .entry)) r p ⌝ }
-    ensures { λ p. ⌜ splitsIn p ≡ splitsOf (clauseAt (now (q .entry)) r at) ⌝ }
+    ensures { λ p. ⌜ partsFrom (now (input .entry)) r p ≡ partsOf split (clauseAt (now (input .entry)) r at) ⌝ }
+    ensures { λ p. ⌜ SoundParts (now (input .entry)) r p ⌝ }
+    ensures { λ p. ⌜ splitsIn p ≡ splitsOf (clauseAt (now (input .entry)) r at) ⌝ }
 {
-    let place = count_place(q, at);
-    let l = literals(q, at + 1, q[at]);
-    let count = q[place];
+    let place = count_place(input, at);
+    let l = literals(input, at + 1, input[at]);
+    let count = input[place];
     let mut first = Parts {
         more: false,
         at: place + 1,
@@ -75,7 +75,7 @@ pub fn begin(q: &[u8], at: usize, r: u8, split: usize) -> Parts
     if meets(l.positive, l.negative) {
         return first;
     }
-    let k = remaining(q, place + 1, r, count);
+    let k = remaining(input, place + 1, r, count);
     let Staying::Count(n) = k else {
         return first;
     };
@@ -116,23 +116,23 @@ pub fn bare(parts: Parts) -> Line
 }
 
 // A constraint that stays, divided by its content.
-fn reduced_line(q: &[u8], at: usize, r: u8, positive: u32, negative: u32) -> Line
+fn reduced_line(input: &[u8], at: usize, r: u8, positive: u32, negative: u32) -> Line
     requires { ⌜ r ≤ rationals ⌝ }
-    requires { ⌜ SoundConstraint (now q) r at ⌝ }
-    requires { ⌜ all isZero (constraintAt (now q) r at .coefficients) ≡ false ⌝ }
-    ensures { λ l. ⌜ meaning l ≡ lineOf positive negative (some (reduced (constraintAt (now (q .entry)) r at))) ⌝ }
+    requires { ⌜ SoundConstraint (now input) r at ⌝ }
+    requires { ⌜ all isZero (constraintAt (now input) r at .coefficients) ≡ false ⌝ }
+    ensures { λ l. ⌜ meaning l ≡ lineOf positive negative (some (reduced (constraintAt (now (input .entry)) r at))) ⌝ }
     ensures { λ l. ⌜ Ready l ⌝ }
 {
-    reduce(constraint_line(q, at, r, positive, negative))
+    reduce(constraint_line(input, at, r, positive, negative))
 }
 
 // Behind the part whose constraint is the first of these.
-fn rest(q: &[u8], r: u8, parts: Parts, from: ConstraintsAt) -> Parts
-    requires { ⌜ SoundParts (now q) r parts ⌝ }
-    requires { ⌜ Skipped (now q) r (parts .at) (parts .left) from ⌝ }
+fn rest(input: &[u8], r: u8, parts: Parts, from: ConstraintsAt) -> Parts
+    requires { ⌜ SoundParts (now input) r parts ⌝ }
+    requires { ⌜ Skipped (now input) r (parts .at) (parts .left) from ⌝ }
     requires { ⌜ (parts .more ≡ true) × (0 < parts .stay) ⌝ }
-    ensures { λ p. ⌜ partsFrom (now (q .entry)) r p ≡ partsBehind (now (q .entry)) r parts from ⌝ }
-    ensures { λ p. ⌜ SoundParts (now (q .entry)) r p ⌝ }
+    ensures { λ p. ⌜ partsFrom (now (input .entry)) r p ≡ partsBehind (now (input .entry)) r parts from ⌝ }
+    ensures { λ p. ⌜ SoundParts (now (input .entry)) r p ⌝ }
 {
     let size = constraint_bytes(r);
     Parts {
@@ -147,13 +147,13 @@ fn rest(q: &[u8], r: u8, parts: Parts, from: ConstraintsAt) -> Parts
 }
 
 // The next part, and those behind it.
-pub fn next(q: &[u8], r: u8, parts: Parts) -> Part
+pub fn next(input: &[u8], r: u8, parts: Parts) -> Part
     requires { ⌜ r ≤ rationals ⌝ }
-    requires { ⌜ SoundParts (now q) r parts ⌝ }
+    requires { ⌜ SoundParts (now input) r parts ⌝ }
     requires { ⌜ parts .more ≡ true ⌝ }
-    ensures { λ p. ⌜ partsFrom (now (q .entry)) r parts ≡ meaning (p .line) ∷ partsFrom (now (q .entry)) r (p .rest) ⌝ }
+    ensures { λ p. ⌜ partsFrom (now (input .entry)) r parts ≡ meaning (p .line) ∷ partsFrom (now (input .entry)) r (p .rest) ⌝ }
     ensures { λ p. ⌜ Ready (p .line) ⌝ }
-    ensures { λ p. ⌜ SoundParts (now (q .entry)) r (p .rest) ⌝ }
+    ensures { λ p. ⌜ SoundParts (now (input .entry)) r (p .rest) ⌝ }
 {
     if parts.stay == 0 {
         let mut ended = parts;
@@ -163,9 +163,9 @@ pub fn next(q: &[u8], r: u8, parts: Parts) -> Part
             rest: ended,
         };
     }
-    let first = skip(q, parts.at, r, parts.left, parts.stay);
+    let first = skip(input, parts.at, r, parts.left, parts.stay);
     Part {
-        line: reduced_line(q, first.at, r, own(parts), parts.negative),
-        rest: rest(q, r, parts, first),
+        line: reduced_line(input, first.at, r, own(parts), parts.negative),
+        rest: rest(input, r, parts, first),
     }
 }

@@ -21,24 +21,24 @@ pub struct ConstraintsAt {
     pub left: u8,
 }
 
-fn stays(q: &[u8], at: usize, r: u8) -> bool
-    requires { ⌜ SoundConstraint (now q) r at ⌝ }
-    ensures { λ t. ⌜ t ≡ not (all isZero (constraintAt (now (q .entry)) r at .coefficients)) ⌝ }
+fn stays(input: &[u8], at: usize, r: u8) -> bool
+    requires { ⌜ SoundConstraint (now input) r at ⌝ }
+    ensures { λ t. ⌜ t ≡ not (all isZero (constraintAt (now (input .entry)) r at .coefficients)) ⌝ }
 {
-    weight(settled(q, at, r)) == 1
+    weight(settled(input, at, r)) == 1
 }
 
 // The first of so many constraints that stays, where some do.
-pub fn skip(q: &[u8], from: usize, r: u8, count: u8, stay: u8) -> ConstraintsAt
-    requires { ⌜ Each (SoundConstraint (now q) r) (constraintBytes r) count from ⌝ }
-    requires { ⌜ counted 0 (settledAll (constraintsAt (now q) r count from)) ≡ Count stay ⌝ }
+pub fn skip(input: &[u8], from: usize, r: u8, count: u8, stay: u8) -> ConstraintsAt
+    requires { ⌜ Each (SoundConstraint (now input) r) (constraintBytes r) count from ⌝ }
+    requires { ⌜ counted 0 (settledAll (constraintsAt (now input) r count from)) ≡ Count stay ⌝ }
     requires { ⌜ 0 < stay ⌝ }
-    ensures { λ p. ⌜ Skipped (now (q .entry)) r from count p ⌝ }
+    ensures { λ p. ⌜ Skipped (now (input .entry)) r from count p ⌝ }
 {
     let size = constraint_bytes(r);
     let mut at = from;
     let mut left = count;
-    while !stays(q, at, r) {
+    while !stays(input, at, r) {
         at += size;
         left -= 1;
     }

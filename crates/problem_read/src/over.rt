@@ -16,16 +16,16 @@ pub enum Excess {
 }
 
 // Of so many clauses.
-pub fn over(q: &[u8], from: usize, r: u8, count: u64) -> Excess
-    requires { ⌜ clausesEnd (now q) r count from ≤ length (now q) ⌝ }
-    ensures { λ e. ⌜ e ≡ excess (overSplit 0 (clausesAt (now (q .entry)) r count from)) ⌝ }
+pub fn over(input: &[u8], from: usize, r: u8, count: u64) -> Excess
+    requires { ⌜ clausesEnd (now input) r count from ≤ length (now input) ⌝ }
+    ensures { λ e. ⌜ e ≡ excess (overSplit 0 (clausesAt (now (input .entry)) r count from)) ⌝ }
 {
     let mut at = from;
     let mut left = count;
     let mut total: usize = 0;
     while 0 < left {
-        let behind = next(q, at, r);
-        total += splits(q, at, r) as usize;
+        let behind = next(input, at, r);
+        total += splits(input, at, r) as usize;
         if Limits::SPLITS < total {
             return Excess::At(at);
         }

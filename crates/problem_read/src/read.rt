@@ -9,14 +9,14 @@ ghost use mathlib.Core.Path.{_≡_};
 ghost use Rattle.rules.specs.Calls.{read};
 ghost use Rattle.problem_read.specs.ScanOf.{scanOf};
 
-pub fn read(q: &[u8]) -> Scan
-    ensures { λ s. ⌜ s ≡ scanOf (read (now (q .entry))) ⌝ }
+pub fn read(input: &[u8]) -> Scan
+    ensures { λ s. ⌜ s ≡ scanOf (read (now (input .entry))) ⌝ }
 {
-    let s = scan(q);
+    let s = scan(input);
     let Scan::Sound(sizes) = s else {
         return s;
     };
-    let e = over(q, FIRST_CLAUSE, sizes.rationals, sizes.clauses);
+    let e = over(input, FIRST_CLAUSE, sizes.rationals, sizes.clauses);
     match e {
         Excess::Within => Scan::Sound(sizes),
         Excess::At(place) => Scan::Fault(Refusal::Splits, place),

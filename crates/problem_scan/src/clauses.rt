@@ -12,17 +12,17 @@ ghost use Rattle.problem_scan.specs.Seen.{seen};
 ghost use Rattle.problem_scan.specs.Clauses.{constraintList, clausesOf};
 
 // So many literals: "mark not below b; its byte".
-fn literals(q: &[u8], from: usize, b: u8, count: u8) -> Cursor
-    requires { ⌜ from ≤ length (now q) ⌝ }
-    ensures { λ c. ⌜ c ≡ seen (repeat count (literal b) (drop from (now (q .entry))) from) ⌝ }
+fn literals(input: &[u8], from: usize, b: u8, count: u8) -> Cursor
+    requires { ⌜ from ≤ length (now input) ⌝ }
+    ensures { λ c. ⌜ c ≡ seen (repeat count (literal b) (drop from (now (input .entry))) from) ⌝ }
 {
     let mut at = from;
     let mut left = count;
     while 0 < left {
-        if q.len() <= at {
-            return Cursor::Fault(Refusal::Truncated, q.len());
+        if input.len() <= at {
+            return Cursor::Fault(Refusal::Truncated, input.len());
         }
-        if b <= q[at] % 128 {
+        if b <= input[at] % 128 {
             return Cursor::Fault(Refusal::Literal, at);
         }
         at += 1;
@@ -32,48 +32,48 @@ fn literals(q: &[u8], from: usize, b: u8, count: u8) -> Cursor
 }
 
 // "a byte t, 0 to 8, then t conditions"
-fn constraint_list(q: &[u8], at: usize, r: u8) -> Cursor
-    requires { ⌜ at ≤ length (now q) ⌝ }
-    ensures { λ c. ⌜ c ≡ seen (constraintList r (drop at (now (q .entry))) at) ⌝ }
+fn constraint_list(input: &[u8], at: usize, r: u8) -> Cursor
+    requires { ⌜ at ≤ length (now input) ⌝ }
+    ensures { λ c. ⌜ c ≡ seen (constraintList r (drop at (now (input .entry))) at) ⌝ }
 {
-    if q.len() <= at {
-        return Cursor::Fault(Refusal::Truncated, q.len());
+    if input.len() <= at {
+        return Cursor::Fault(Refusal::Truncated, input.len());
     }
-    let count = q[at];
+    let count = input[at];
     if Limits::CONSTRAINTS < count as usize {
         return Cursor::Fault(Refusal::Constraints, at);
     }
-    constraints(q, at + 1, r, count)
+    constraints(input, at + 1, r, count)
 }
 
 // "a byte m, 0 to 32, then m literals", and the constraints
-fn clause(q: &[u8], at: usize, b: u8, r: u8) -> Cursor
-    requires { ⌜ at ≤ length (now q) ⌝ }
-    ensures { λ c. ⌜ c ≡ seen (clause b r (drop at (now (q .entry))) at) ⌝ }
+fn clause(input: &[u8], at: usize, b: u8, r: u8) -> Cursor
+    requires { ⌜ at ≤ length (now input) ⌝ }
+    ensures { λ c. ⌜ c ≡ seen (clause b r (drop at (now (input .entry))) at) ⌝ }
 {
-    if q.len() <= at {
-        return Cursor::Fault(Refusal::Truncated, q.len());
+    if input.len() <= at {
+        return Cursor::Fault(Refusal::Truncated, input.len());
     }
-    let count = q[at];
+    let count = input[at];
     if Limits::LITERALS < count as usize {
         return Cursor::Fault(Refusal::Literal, at);
     }
-    let read = literals(q, at + 1, b, count);
+    let read = literals(input, at + 1, b, count);
     let Cursor::Next(next) = read else {
         return read;
     };
-    constraint_list(q, next, r)
+    constraint_list(input, next, r)
 }
 
 // All clauses of a problem of these sizes.
-pub fn clauses(q: &[u8], from: usize, sizes: Sizes) -> Cursor
-    requires { ⌜ from ≤ length (now q) ⌝ }
-    ensures { λ c. ⌜ c ≡ seen (clausesOf sizes (drop from (now (q .entry))) from) ⌝ }
+pub fn clauses(input: &[u8], from: usize, sizes: Sizes) -> Cursor
+    requires { ⌜ from ≤ length (now input) ⌝ }
+    ensures { λ c. ⌜ c ≡ seen (clausesOf sizes (drop from (now (input .entry))) from) ⌝ }
 {
     let mut at = from;
     let mut left = sizes.clauses;
     while 0 < left {
-        let one = clause(q, at, sizes.booleans, sizes.rationals);
+        let one = clause(input, at, sizes.booleans, sizes.rationals);
         let Cursor::Next(next) = one else {
             return one;
         };

@@ -11,28 +11,28 @@ ghost use Rattle.rules.specs.Problem.{repeat, amount, constraint};
 ghost use Rattle.problem_scan.specs.Seen.{seen};
 ghost use Rattle.problem_scan.specs.Constraints.{isRelation};
 
-fn amount(q: &[u8], at: usize) -> Cursor
-    requires { ⌜ at ≤ length (now q) ⌝ }
-    ensures { λ r. ⌜ r ≡ seen (amount Refusal.Amount (drop at (now (q .entry))) at) ⌝ }
+fn amount(input: &[u8], at: usize) -> Cursor
+    requires { ⌜ at ≤ length (now input) ⌝ }
+    ensures { λ r. ⌜ r ≡ seen (amount Refusal.Amount (drop at (now (input .entry))) at) ⌝ }
 {
-    if q.len() - at < 4 {
-        return Cursor::Fault(Refusal::Truncated, q.len());
+    if input.len() - at < 4 {
+        return Cursor::Fault(Refusal::Truncated, input.len());
     }
-    if in_range(amount_at(q, at)) {
+    if in_range(amount_at(input, at)) {
         return Cursor::Next(at + 4);
     }
     Cursor::Fault(Refusal::Amount, at)
 }
 
 // So many of them.
-fn amounts(q: &[u8], from: usize, count: u8) -> Cursor
-    requires { ⌜ from ≤ length (now q) ⌝ }
-    ensures { λ r. ⌜ r ≡ seen (repeat count (amount Refusal.Amount) (drop from (now (q .entry))) from) ⌝ }
+fn amounts(input: &[u8], from: usize, count: u8) -> Cursor
+    requires { ⌜ from ≤ length (now input) ⌝ }
+    ensures { λ r. ⌜ r ≡ seen (repeat count (amount Refusal.Amount) (drop from (now (input .entry))) from) ⌝ }
 {
     let mut at = from;
     let mut left = count;
     while 0 < left {
-        let one = amount(q, at);
+        let one = amount(input, at);
         let Cursor::Next(next) = one else {
             return one;
         };
@@ -50,33 +50,33 @@ fn is_relation(code: u8) -> bool
 }
 
 // The bytes of a constraint: its relation, r coefficients and the bound.
-fn constraint(q: &[u8], at: usize, r: u8) -> Cursor
-    requires { ⌜ at ≤ length (now q) ⌝ }
-    ensures { λ c. ⌜ c ≡ seen (constraint r (drop at (now (q .entry))) at) ⌝ }
+fn constraint(input: &[u8], at: usize, r: u8) -> Cursor
+    requires { ⌜ at ≤ length (now input) ⌝ }
+    ensures { λ c. ⌜ c ≡ seen (constraint r (drop at (now (input .entry))) at) ⌝ }
 {
-    if q.len() <= at {
-        return Cursor::Fault(Refusal::Truncated, q.len());
+    if input.len() <= at {
+        return Cursor::Fault(Refusal::Truncated, input.len());
     }
-    let relation = q[at];
+    let relation = input[at];
     if !is_relation(relation) {
         return Cursor::Fault(Refusal::Relation, at);
     }
-    let coefficients = amounts(q, at + CONSTRAINT_COEFFICIENTS, r);
+    let coefficients = amounts(input, at + CONSTRAINT_COEFFICIENTS, r);
     let Cursor::Next(bound) = coefficients else {
         return coefficients;
     };
-    amount(q, bound)
+    amount(input, bound)
 }
 
 // So many of them.
-pub fn constraints(q: &[u8], from: usize, r: u8, count: u8) -> Cursor
-    requires { ⌜ from ≤ length (now q) ⌝ }
-    ensures { λ c. ⌜ c ≡ seen (repeat count (constraint r) (drop from (now (q .entry))) from) ⌝ }
+pub fn constraints(input: &[u8], from: usize, r: u8, count: u8) -> Cursor
+    requires { ⌜ from ≤ length (now input) ⌝ }
+    ensures { λ c. ⌜ c ≡ seen (repeat count (constraint r) (drop from (now (input .entry))) from) ⌝ }
 {
     let mut at = from;
     let mut left = count;
     while 0 < left {
-        let one = constraint(q, at, r);
+        let one = constraint(input, at, r);
         let Cursor::Next(next) = one else {
             return one;
         };

@@ -18,15 +18,15 @@ ghost use Rattle.rules.specs.Problem.{problem};
 ghost use Rattle.problem_scan.specs.Scans.{outline, body, scanned};
 
 // The clauses, and 12: "bytes follow the last clause; the first".
-fn body(q: &[u8], sizes: Sizes) -> Scan
-    requires { ⌜ firstClause ≤ length (now q) ⌝ }
-    ensures { λ s. ⌜ s ≡ outline (body sizes (drop firstClause (now (q .entry))) firstClause) ⌝ }
+fn body(input: &[u8], sizes: Sizes) -> Scan
+    requires { ⌜ firstClause ≤ length (now input) ⌝ }
+    ensures { λ s. ⌜ s ≡ outline (body sizes (drop firstClause (now (input .entry))) firstClause) ⌝ }
 {
-    let read = clauses(q, FIRST_CLAUSE, sizes);
+    let read = clauses(input, FIRST_CLAUSE, sizes);
     match read {
         Cursor::Fault(f, place) => Scan::Fault(f, place),
         Cursor::Next(at) => {
-            if at < q.len() {
+            if at < input.len() {
                 return Scan::Fault(Refusal::Trailing, at);
             }
             Scan::Sound(sizes)
@@ -35,27 +35,27 @@ fn body(q: &[u8], sizes: Sizes) -> Scan
 }
 
 // 4 to 12.
-fn problem(q: &[u8]) -> Scan
-    ensures { λ s. ⌜ s ≡ outline (problem (now (q .entry)) 0) ⌝ }
+fn problem(input: &[u8]) -> Scan
+    ensures { λ s. ⌜ s ≡ outline (problem (now (input .entry)) 0) ⌝ }
 {
-    if q.len() <= PROBLEM_BOOLEANS {
-        return Scan::Fault(Refusal::Truncated, q.len());
+    if input.len() <= PROBLEM_BOOLEANS {
+        return Scan::Fault(Refusal::Truncated, input.len());
     }
-    let b = q[PROBLEM_BOOLEANS];
+    let b = input[PROBLEM_BOOLEANS];
     if Limits::BOOLEANS < b as usize {
         return Scan::Fault(Refusal::Booleans, PROBLEM_BOOLEANS);
     }
-    if q.len() <= PROBLEM_RATIONALS {
-        return Scan::Fault(Refusal::Truncated, q.len());
+    if input.len() <= PROBLEM_RATIONALS {
+        return Scan::Fault(Refusal::Truncated, input.len());
     }
-    let r = q[PROBLEM_RATIONALS];
+    let r = input[PROBLEM_RATIONALS];
     if Limits::RATIONALS < r as usize {
         return Scan::Fault(Refusal::Rationals, PROBLEM_RATIONALS);
     }
-    if q.len() < FIRST_CLAUSE {
-        return Scan::Fault(Refusal::Truncated, q.len());
+    if input.len() < FIRST_CLAUSE {
+        return Scan::Fault(Refusal::Truncated, input.len());
     }
-    let n = u16_at(q, PROBLEM_CLAUSES);
+    let n = u16_at(input, PROBLEM_CLAUSES);
     if (Limits::CLAUSES as u64) < n {
         return Scan::Fault(Refusal::Clauses, PROBLEM_CLAUSES);
     }
@@ -64,15 +64,15 @@ fn problem(q: &[u8]) -> Scan
         rationals: r,
         clauses: n,
     };
-    body(q, sizes)
+    body(input, sizes)
 }
 
 // 3, before them: "question over 32,768 bytes; 32,768".
-pub fn scan(q: &[u8]) -> Scan
-    ensures { λ s. ⌜ s ≡ scanned (now (q .entry)) ⌝ }
+pub fn scan(input: &[u8]) -> Scan
+    ensures { λ s. ⌜ s ≡ scanned (now (input .entry)) ⌝ }
 {
-    if Limits::PROBLEM_BYTES < q.len() {
+    if Limits::PROBLEM_BYTES < input.len() {
         return Scan::Fault(Refusal::LongProblem, Limits::PROBLEM_BYTES);
     }
-    problem(q)
+    problem(input)
 }

@@ -10,21 +10,21 @@ ghost use Rattle.problem_read.specs.Parsed.{problemAt};
 ghost use Rattle.proof_check.specs.Index.{Known};
 
 pub fn check_steps(
-    q: &[u8],
+    input: &[u8],
     sizes: Sizes,
     places: &[u16],
     variables: &[u8],
     proof: &[u8],
 ) -> Checked
-    requires { ⌜ Known (now q) sizes (now places) (now variables) ⌝ }
-    ensures { λ c. ⌜ c ≡ checkProof (problemAt (now (q .entry)) sizes) (now (proof .entry)) ⌝ }
+    requires { ⌜ Known (now input) sizes (now places) (now variables) ⌝ }
+    ensures { λ c. ⌜ c ≡ checkProof (problemAt (now (input .entry)) sizes) (now (proof .entry)) ⌝ }
 {
     let count = proof.len() / Limits::STEP_BYTES;
     let mut ends = false;
     let mut i: usize = 0;
     while i < count {
         let bytes = get(proof, i);
-        let s = line_stated(q, sizes, places, variables, proof, i, bytes);
+        let s = line_stated(input, sizes, places, variables, proof, i, bytes);
         if !s.found {
             return Checked::Fails(i);
         }

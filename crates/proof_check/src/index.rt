@@ -9,11 +9,11 @@ ghost use Rattle.rules_types.specs.Limits.{clauses};
 ghost use Rattle.problem_read.specs.Readable.{Readable};
 ghost use Rattle.proof_check.specs.Index.{Known};
 
-pub fn index(q: &[u8], sizes: Sizes, places: &mut [u16], variables: &mut [u8])
-    requires { ⌜ Readable (now q) sizes ⌝ }
+pub fn index(input: &[u8], sizes: Sizes, places: &mut [u16], variables: &mut [u8])
+    requires { ⌜ Readable (now input) sizes ⌝ }
     requires { ⌜ length (now places) ≡ clauses ⌝ }
     requires { ⌜ length (now variables) ≡ clauses ⌝ }
-    ensures { λ _. ⌜ Known (now (q .entry)) sizes (now (places .exit)) (now (variables .exit)) ⌝ }
+    ensures { λ _. ⌜ Known (now (input .entry)) sizes (now (places .exit)) (now (variables .exit)) ⌝ }
 {
     let r = sizes.rationals;
     let n = sizes.clauses as usize;
@@ -23,8 +23,8 @@ pub fn index(q: &[u8], sizes: Sizes, places: &mut [u16], variables: &mut [u8])
     while c < n {
         places[c] = at as u16;
         variables[c] = variable;
-        variable += splits(q, at, r);
-        at = next(q, at, r);
+        variable += splits(input, at, r);
+        at = next(input, at, r);
         c += 1;
     }
 }

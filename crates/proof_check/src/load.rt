@@ -15,14 +15,14 @@ ghost use Rattle.step_check.specs.Stated.{States};
 ghost use Rattle.proof_check.specs.Index.{Known};
 
 pub fn loaded(
-    q: &[u8],
+    input: &[u8],
     sizes: Sizes,
     places: &[u16],
     variables: &[u8],
     bytes: [u8; Limits::STEP_BYTES],
 ) -> Stated
-    requires { ⌜ Known (now q) sizes (now places) (now variables) ⌝ }
-    ensures { λ s. ⌜ States (lineAmong (loadableOf (problemAt (now (q .entry)) sizes)) bytes) bytes s ⌝ }
+    requires { ⌜ Known (now input) sizes (now places) (now variables) ⌝ }
+    ensures { λ s. ⌜ States (lineAmong (loadableOf (problemAt (now (input .entry)) sizes)) bytes) bytes s ⌝ }
 {
     let clause = first_at(&bytes, 0);
     let number = second_at(&bytes, 0);
@@ -31,7 +31,7 @@ pub fn loaded(
     }
     let c = clause as usize;
     let f = part(
-        q,
+        input,
         places[c] as usize,
         sizes.rationals,
         variables[c] as usize,

@@ -17,7 +17,7 @@ ghost use Rattle.proof_check.specs.Index.{Known};
 
 // The line that these bytes state as step i of the proof. How is 0 of a loaded part, and of no resolvent.
 pub fn line_stated(
-    q: &[u8],
+    input: &[u8],
     sizes: Sizes,
     places: &[u16],
     variables: &[u8],
@@ -25,13 +25,13 @@ pub fn line_stated(
     i: usize,
     bytes: [u8; Limits::STEP_BYTES],
 ) -> Stated
-    requires { ⌜ Known (now q) sizes (now places) (now variables) ⌝ }
+    requires { ⌜ Known (now input) sizes (now places) (now variables) ⌝ }
     requires { ⌜ stepBytes * i ≤ length (now proof) ⌝ }
     requires { ⌜ ReadyLines (now proof) i ⌝ }
-    ensures { λ s. ⌜ States (statedLine (loadableOf (problemAt (now (q .entry)) sizes)) (linesIn (now (proof .entry)) i) bytes) bytes s ⌝ }
+    ensures { λ s. ⌜ States (statedLine (loadableOf (problemAt (now (input .entry)) sizes)) (linesIn (now (proof .entry)) i) bytes) bytes s ⌝ }
 {
     if how_at(&bytes, 0) == 0 {
-        return loaded(q, sizes, places, variables, bytes);
+        return loaded(input, sizes, places, variables, bytes);
     }
     derived(proof, i, bytes)
 }

@@ -129,7 +129,8 @@ module _ {limits : Limits} {p : Problem} (w : WellFormed p) {before after : List
         (zeroModel model) (decidedBy Unsatisfiable c)
     leaves-empty h = leaves-decided Unsatisfiable noModel (zeroModel model) (concludes-at Empty h) no-model
 
-    pub leaves-saturated : (filled : List ℕ) (s : Solved) → c .progress ≡ Running → Written (p .booleans) (p .rationals) c after model filled s
+    pub leaves-saturated : (filled : List ℕ) (s : Solved) → c .progress ≡ Running
+        → Written (p .booleans) (p .rationals) c after model filled s
         → Leaves limits (concluded p state) before model (zeroed (c .steps) (limits .steps) after) filled s
     leaves-saturated filled s h = by (written (p .booleans) (p .rationals) (walk order (linesIn after (c .steps)))) refl
       where

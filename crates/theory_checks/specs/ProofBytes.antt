@@ -40,7 +40,8 @@ Named (boolean i) = i < 256
 
 order-named : All Named order
 unfolding order
-order-named = all-append Named (tabulate limit.rationals rational) (tabulate limit.allBooleans boolean) (all-tabulate Named limit.rationals rational (λ i h. omega arith))
+order-named = all-append Named (tabulate limit.rationals rational) (tabulate limit.allBooleans boolean)
+    (all-tabulate Named limit.rationals rational (λ i h. omega arith))
     (all-tabulate Named limit.allBooleans boolean (λ i h. omega arith))
 
 resolvent-which : (v : Variable) (a b : ℕ) → Named v → header (resolved v a b) .which < 256

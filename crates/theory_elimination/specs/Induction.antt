@@ -47,7 +47,8 @@ module _ (variables : List Variable) (v : Variable) (t : ℕ) (ps : List Pair) w
       (pair-append variables v t steps (resolventOf v p l ∷ [])) h)
 
 -- ---- the stages
-module _ (stops : Stops) (variables : List Variable) (parts : List Step) (P : State → Type 0) (kept : Preserved stops variables parts P) where
+module _ (stops : Stops) (variables : List Variable) (parts : List Step) (P : State → Type 0)
+    (kept : Preserved stops variables parts P) where
   load-keeps : (ss : List Step) (state : State) → All (λ s. Any (λ x. x ≡ s) parts) ss → P state → P (load stops ss state)
   unfolding load
   load-keeps [] state h q = q

@@ -25,7 +25,8 @@ rational-at j h = drop-at order j (rational j) (drop (suc j) order) (order-ratio
 
 boolean-late : (t i : ℕ) → At order t (boolean i) → limit.rationals ≤ t
 boolean-late t i a = ⊎-elim (λ h. leb→le limit.rationals t h)
-    (λ h. absurd (no (at-unique order t (rational t) (boolean i) (rational-at t (nleb→lt limit.rationals t h)) a))) (split (leb limit.rationals t))
+    (λ h. absurd (no (at-unique order t (rational t) (boolean i) (rational-at t (nleb→lt limit.rationals t h)) a)))
+    (split (leb limit.rationals t))
   where
     no : rational t ≡ boolean i → ⊥
     no e = let z : _≡_ {A = ℕ} 0 1 = cc in omega arith

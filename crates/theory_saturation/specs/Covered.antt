@@ -68,7 +68,8 @@ module _ (variables : List Variable) (t : ℕ) (v : Variable) (a : At variables 
   resolve-later = dropped-map Derived (λ r. t < roundOf variables r) (resolve v u l) later resolve-derived
 
   -- a line of a later round, which holds
-  covered-holds : (S : List Line) (χ : Assignment) → 1 ≤ χ .denominator → HoldFrom variables (suc t) χ S → AccountedFor Covers S (resolve v u l)
+  covered-holds : (S : List Line) (χ : Assignment) → 1 ≤ χ .denominator → HoldFrom variables (suc t) χ S
+      → AccountedFor Covers S (resolve v u l)
       → T (lineHolds χ (resolvent v u l))
   unfolding resolve
   covered-holds S χ z h c =

@@ -48,7 +48,8 @@ nonzero-place (c ∷ cs) h =
     ⊎-elim (λ k. record { at = 0; below = omega arith; holds = k }) (λ k. next (nonzero-place cs k)) (and-no (isZero c) (all isZero cs) h)
 
 -- ---- in the order
-in-order : (l : Line) → Any (λ v. T (contains v l)) (tabulate limit.rationals rational) ⊎ Any (λ v. T (contains v l)) (tabulate limit.allBooleans boolean)
+in-order : (l : Line) → Any (λ v. T (contains v l)) (tabulate limit.rationals rational)
+    ⊎ Any (λ v. T (contains v l)) (tabulate limit.allBooleans boolean)
     → T (any (λ v. contains v l) order)
 unfolding order
 in-order l h =
@@ -62,7 +63,8 @@ by-boolean l i b h = in-order l (inr (any-tabulate (λ v. T (contains v l)) limi
 by-rational : (l : Line) (i : ℕ) → i < limit.rationals → T (nonzero (coefficient i (l .constraint))) → T (any (λ v. contains v l) order)
 by-rational l i b h = in-order l (inl (any-tabulate (λ v. T (contains v l)) limit.rationals rational i b (rw (contains-rational i l) h)))
 
-pub constraint-place : (k : Option Constraint) → Eight k → Proper k → T (not (noConstraint k)) → Witness (λ i. nonzero (coefficient i k)) limit.rationals
+pub constraint-place : (k : Option Constraint) → Eight k → Proper k → T (not (noConstraint k))
+    → Witness (λ i. nonzero (coefficient i k)) limit.rationals
 unfolding noConstraint coefficient
 constraint-place none e n h = absurd h
 constraint-place (some c) e n h = let p = nonzero-place (c .coefficients) n in record {

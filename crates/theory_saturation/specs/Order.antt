@@ -25,7 +25,8 @@ order-from t h = drop-cons order t (rational 0) (omega (arith, length-order))
 -- ---- a rational variable's round
 pub rational-at : (t : ℕ) → t < limit.rationals → variableAt t ≡ rational t
 unfolding variableAt order
-rational-at t h = List·getD-append (tabulate limit.rationals rational) (tabulate limit.allBooleans boolean) (rational 0) t (omega (arith, length-tabulate limit.rationals rational))
+rational-at t h = List·getD-append (tabulate limit.rationals rational) (tabulate limit.allBooleans boolean) (rational 0) t
+    (omega (arith, length-tabulate limit.rationals rational))
     ∙ getD-tabulate limit.rationals rational t (rational 0) h
 
 pub order-rational : (t : ℕ) → t < limit.rationals → drop t order ≡ rational t ∷ drop (suc t) order
@@ -35,9 +36,12 @@ order-rational t h = order-from t (omega arith) ∙ ap (λ (v : Variable). v ∷
 pub boolean-at : (i : ℕ) → i < limit.allBooleans → variableAt (limit.rationals + i) ≡ boolean i
 unfolding variableAt order
 boolean-at i h =
-    let at : limit.rationals + i ≡ length (tabulate limit.rationals rational) + i = omega (arith, length-tabulate limit.rationals rational) in
-    ap (λ (k : ℕ). getD order k (rational 0)) at ∙ getD-append-add (tabulate limit.rationals rational) (tabulate limit.allBooleans boolean) i (rational 0)
+    let at : limit.rationals + i ≡ length (tabulate limit.rationals rational) + i =
+    omega (arith, length-tabulate limit.rationals rational) in
+    ap (λ (k : ℕ). getD order k (rational 0)) at
+    ∙ getD-append-add (tabulate limit.rationals rational) (tabulate limit.allBooleans boolean) i (rational 0)
     ∙ getD-tabulate limit.allBooleans boolean i (rational 0) h
 
 pub order-boolean : (i : ℕ) → i < limit.allBooleans → drop (limit.rationals + i) order ≡ boolean i ∷ drop (suc (limit.rationals + i)) order
-order-boolean i h = order-from (limit.rationals + i) (omega arith) ∙ ap (λ (v : Variable). v ∷ drop (suc (limit.rationals + i)) order) (boolean-at i h)
+order-boolean i h = order-from (limit.rationals + i) (omega arith)
+    ∙ ap (λ (v : Variable). v ∷ drop (suc (limit.rationals + i)) order) (boolean-at i h)

@@ -27,7 +27,8 @@ normalHolds χ n = (someYes (n .positive) (χ .booleans) || someYes (n .negative
     || any (constraintHolds χ) (n .constraints)
 
 -- ---- literals
-length-step : (i : ℕ) (a : Bool) (s : Booleans) → length s ≡ limit.allBooleans → length {A = Bool} (elim a [ true ↦ including i s | false ↦ s ]) ≡ limit.allBooleans
+length-step : (i : ℕ) (a : Bool) (s : Booleans) → length s ≡ limit.allBooleans
+    → length {A = Bool} (elim a [ true ↦ including i s | false ↦ s ]) ≡ limit.allBooleans
 length-step i true s h = length-including i s ∙ h
 length-step i false s h = h
 

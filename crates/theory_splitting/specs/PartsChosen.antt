@@ -115,7 +115,8 @@ chain-chosen χ k p n c (d ∷ ds) e z wp wn h =
       );
     }
 
-parts-of : (χ : Assignment) (k : ℕ) (p n : Booleans) (cs : List Constraint) → length p ≡ limit.allBooleans → k + (length cs - 1) ≤ limit.allBooleans → Below k p
+parts-of : (χ : Assignment) (k : ℕ) (p n : Booleans) (cs : List Constraint) → length p ≡ limit.allBooleans
+    → k + (length cs - 1) ≤ limit.allBooleans → Below k p
     → Below k n → T (normalHolds χ (whole p n cs))
     → Chosen χ k (k + (length cs - 1)) (λ ψ. All (λ l. T (lineHolds ψ l)) (parts k (whole p n cs)))
 unfolding parts any

@@ -43,7 +43,8 @@ including-apart k p n a w = not-T (meet (including k p) n) (λ m. no (member-mee
 none-apart : (n : Booleans) → T (not (meet noBooleans n))
 none-apart n = not-T (meet noBooleans n) (λ m. let c = member-meet noBooleans n m in none-has (c .member) (c .left))
 
-chain-form : (P : ℕ → Type 0) (k : ℕ) (p n : Booleans) (c : Constraint) (cs : List Constraint) → length p ≡ limit.allBooleans → length n ≡ limit.allBooleans
+chain-form : (P : ℕ → Type 0) (k : ℕ) (p n : Booleans) (c : Constraint) (cs : List Constraint) → length p ≡ limit.allBooleans
+    → length n ≡ limit.allBooleans
     → T (not (meet p n)) → Below k n → Within P p → Within P n
     → ((i : ℕ) → k ≤ i → i < k + length cs → P i)
     → All Kept (c ∷ cs) → All (LineForm P) (chain k p n c cs)

@@ -60,7 +60,8 @@ module _ (b r : ℕ) (c : Clause) (w : WellFormedClause b r c) where
   clause-normal : b ≤ limit.allBooleans → (χ : Assignment) → 0 < χ .denominator → T (clauseHolds χ c)
       ↔ DroppedOr (λ n. T (normalHolds χ n)) (normalClause c)
   clause-normal z χ d =
-      normal-clause-holds χ d c (all-map (λ l. l .boolean < b) (λ l. l .boolean < limit.allBooleans) (c .literals) (λ l h. omega arith) (w .literals))
+      normal-clause-holds χ d c
+      (all-map (λ l. l .boolean < b) (λ l. l .boolean < limit.allBooleans) (c .literals) (λ l h. omega arith) (w .literals))
 
   pub clause-chosen : (χ : Assignment) → 0 < χ .denominator → (k : ℕ) → b ≤ k → k + splitsOf c ≤ limit.allBooleans → T (clauseHolds χ c)
       → Chosen χ k (k + splitsOf c) (λ ψ. AllHold ψ (partsOf k c))

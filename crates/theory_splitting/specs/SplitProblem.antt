@@ -88,7 +88,8 @@ module _ (b r : ℕ) where
       }
 
   -- ---- the lines give the clauses
-  loadable-given : (χ : Assignment) → 0 < χ .denominator → b ≤ limit.allBooleans → (c k : ℕ) (xs : List Clause) → All (WellFormedClause b r) xs
+  loadable-given : (χ : Assignment) → 0 < χ .denominator → b ≤ limit.allBooleans → (c k : ℕ) (xs : List Clause)
+      → All (WellFormedClause b r) xs
       → StepsHold χ (loadable c k xs)
       → All (λ x. T (clauseHolds χ x)) xs
   unfolding loadable

@@ -71,7 +71,8 @@ loop-again c =
     let o = k .before .before in
     let n = o .before .before in
     parts-next (n .before .before .loop .inv) (n .next .result .line) (n .next .result .rest) (n .next .ensures .0)
-    (rw (o .loaded .ensures) at (k .admit .ensures)) (sym (e .before .is-running .ensures) ∙ not-false _ (e .if1 .left)) (n .next .ensures .1 .1)
+    (rw (o .loaded .ensures) at (k .admit .ensures))
+    (sym (e .before .is-running .ensures) ∙ not-false _ (e .if1 .left)) (n .next .ensures .1 .1)
 
 same-length-2 : tie.Need-same-length-2 Inv-loop μ-loop
 same-length-2 c = search needs

@@ -18,7 +18,7 @@ rounds-requires c κs =
     let s = k .before .before .before .before in
     let a = s .args in (
       k .load .ensures .leads .standing,
-      (s .pre .1 .1, omega (arith, no-pairs (loadableOf (problemAt (a .q .now) (a .sizes))) (k .load .ensures))),
+      (s .pre .1 .1, omega (arith, no-pairs (loadableOf (problemAt (a .input .now) (a .sizes))) (k .load .ensures))),
     )
 
 same-length : tie.Need-same-length
@@ -30,8 +30,8 @@ returns c =
     let k = t .before .before .before .before in
     let s = k .before .before .before .before in
     let a = s .args in
-    let p = problemAt (a .q .now) (a .sizes) in
-    eliminated p (k .load .ensures) (t .rounds .ensures) (read-well-formed (a .q .now) p (s .pre .0 .is-read))
+    let p = problemAt (a .input .now) (a .sizes) in
+    eliminated p (k .load .ensures) (t .rounds .ensures) (read-well-formed (a .input .now) p (s .pre .0 .is-read))
 
 pub eliminate-spec : {M : Type 1} → statement M
 eliminate-spec =

@@ -29,7 +29,7 @@ loop-holds c = let s = c .before .before .before in clauses-start (s .pre .0) (s
 
 -- the clause at hand
 sound : (c : tie.In-loop Inv-loop μ-loop) → let s = c .before .before .before .before .before in
-    SoundClause (s .args .q .now) (s .args .sizes .rationals) (c .before .loop .at)
+    SoundClause (s .args .input .now) (s .args .sizes .rationals) (c .before .loop .at)
 sound c = clause-sound (c .before .loop .inv) (c .loop-test .taken)
 
 begin-requires : tie.Need-begin-requires Inv-loop μ-loop
@@ -44,7 +44,7 @@ load-parts-requires c κs =
     let i = k .before in
     let l = i .before .loop in
     let s = i .before .before .before .before .before in
-    let c = clauseAt (s .args .q .now) (s .args .sizes .rationals) (l .at) in
+    let c = clauseAt (s .args .input .now) (s .args .sizes .rationals) (l .at) in
     let few : length (partsOf (l .split) c) ≤ limit.splits + 1 =
     omega (arith, parts-length (l .split) c, clause-splits (l .inv) (i .loop-test .taken)) in (
       s .pre .0 .parsed .rationals,

@@ -31,7 +31,7 @@ constraint-holds-requires c κs =
     let s = c .before .before .before .before in (
       s .pre .0,
       (
-        each-first (SoundConstraint (s .args .q .now) (s .args .r)) (constraintBytes (s .args .r)) (l .left) (l .at)
+        each-first (SoundConstraint (s .args .input .now) (s .args .r)) (constraintBytes (s .args .r)) (l .left) (l .at)
             (c .loop-test .taken) (l .inv .1),
         s .pre .1 .1 .1,
       ),
@@ -71,7 +71,7 @@ loop-again c =
     let s = b .before .before in
     rw (b .constraint-bytes .ensures) (
       asking-next (l .inv .0) t (a .constraint-holds .result) (a .constraint-holds .ensures) (c .if1 .left),
-      each-rest (SoundConstraint (s .args .q .now) (s .args .r)) (constraintBytes (s .args .r)) (l .left) (l .at) t (l .inv .1),
+      each-rest (SoundConstraint (s .args .input .now) (s .args .r)) (constraintBytes (s .args .r)) (l .left) (l .at) t (l .inv .1),
     )
 
 returns-2 : tie.Need-returns-2 Inv-loop μ-loop

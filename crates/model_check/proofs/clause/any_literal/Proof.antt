@@ -22,7 +22,7 @@ loop-holds : tie.Need-loop-holds Inv-loop μ-loop
 loop-holds c = record { end = refl; same = refl }
 
 -- the byte is within the slice
-within : (c : tie.In-loop Inv-loop μ-loop) → c .before .loop .at + 1 ≤ length (c .before .before .before .args .q .now)
+within : (c : tie.In-loop Inv-loop μ-loop) → c .before .loop .at + 1 ≤ length (c .before .before .before .args .input .now)
 within c =
     let l = c .before .loop in
     let s = c .before .before .before in
@@ -34,7 +34,7 @@ within c =
 
 -- the test that was called is the definition's
 tested : (c : tie.After-literal-holds Inv-loop μ-loop) → let a = c .before .before .before in c .literal-holds .result
-    ≡ literalHolds (assignment (a .before .before .args .model)) (literalAt (a .before .before .args .q .now) (a .loop .at))
+    ≡ literalHolds (assignment (a .before .before .args .model)) (literalAt (a .before .before .args .input .now) (a .loop .at))
 unfolding literalAt literalOf
 tested c = c .literal-holds .ensures
 

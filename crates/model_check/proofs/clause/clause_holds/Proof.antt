@@ -10,11 +10,11 @@ use Rattle.model_check.proofs.clause.clause_holds.Statement.{statement}
 use Rattle.model_check.proofs.clause.clause_holds.Tie as tie
 
 -- the count of constraints and the byte behind the first are in the slice
-counted : (s : tie.Start) → countOf (s .args .q .now) (s .args .at) < length (s .args .q .now)
-counted s = count-within (s .args .q .now) (s .args .r) (s .args .at) (s .pre .1 .0 .within)
+counted : (s : tie.Start) → countOf (s .args .input .now) (s .args .at) < length (s .args .input .now)
+counted s = count-within (s .args .input .now) (s .args .r) (s .args .at) (s .pre .1 .0 .within)
 
-within : (s : tie.Start) → s .args .at + 1 < length (s .args .q .now)
-within s = clause-within (s .args .q .now) (s .args .r) (s .args .at) (s .pre .1 .0 .within)
+within : (s : tie.Start) → s .args .at + 1 < length (s .args .input .now)
+within s = clause-within (s .args .input .now) (s .args .r) (s .args .at) (s .pre .1 .0 .within)
 
 count-place-requires : tie.Need-count-place-requires
 count-place-requires c κs = counted (c .before)

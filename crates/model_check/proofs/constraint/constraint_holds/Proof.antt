@@ -34,7 +34,7 @@ bound-of-requires c κs = search needs
 
 -- the bound that was read
 read-is : (c : tie.After-bound-of) → let a = c .before .before .before .before .args in
-    toZ w64 (ofZ w64 (c .bound-of .result)) ≡ constraintAt (a .q .now) (a .r) (a .at) .bound
+    toZ w64 (ofZ w64 (c .bound-of .result)) ≡ constraintAt (a .input .now) (a .r) (a .at) .bound
 read-is c = toZ-ofZ {w = w64} (sfits-of (c .bound-of .ok)) ∙ c .bound-of .ensures
 
 scaled-requires : tie.Need-scaled-requires
@@ -48,12 +48,12 @@ is-strict-requires c κs = search needs
 compared : (c : tie.After-is-strict) (t : Bool) → c .is-strict .result ≡ t
     → let b = c .before in let s = b .before .before .before .before .before in
     related t (toZ w64 (ofZ w64 (b .before .before .sum .result))) (toZ w64 (ofZ w64 (b .scaled .result)))
-    ≡ constraintHolds (assignment (s .args .model)) (constraintAt (s .args .q .now) (s .args .r) (s .args .at))
+    ≡ constraintHolds (assignment (s .args .model)) (constraintAt (s .args .input .now) (s .args .r) (s .args .at))
 compared c t e =
     let b = c .before in
     let a = b .before in
     let s = a .before .before .before .before in
-    holds-is (s .args .q .now) (s .args .r) (s .args .at) (s .args .model) (toZ w64 (ofZ w64 (a .before .sum .result)))
+    holds-is (s .args .input .now) (s .args .r) (s .args .at) (s .args .model) (toZ w64 (ofZ w64 (a .before .sum .result)))
     (toZ w64 (ofZ w64 (a .bound-of .result))) (toZ w64 (ofZ w64 (b .scaled .result)))
     (toZ-ofZ {w = w64} (sfits-of (a .before .sum .ok)) ∙ a .before .sum .ensures) (read-is a)
     (toZ-ofZ {w = w64} (sfits-of (b .scaled .ok)) ∙ b .scaled .ensures) t (sym (c .is-strict .ensures) ∙ e)

@@ -24,7 +24,7 @@ abbrev μ-loop : tie.MeasureT-loop
 loop-holds : tie.Need-loop-holds Inv-loop μ-loop
 loop-holds c =
     let s = c .before in
-    summing-start (s .args .q .now) (s .args .t4) (s .args .from) (s .args .count) (s .pre .1 .1 .0)
+    summing-start (s .args .input .now) (s .args .t4) (s .args .from) (s .args .count) (s .pre .1 .1 .0)
 
 amount-at-requires : tie.Need-amount-at-requires Inv-loop μ-loop
 amount-at-requires c κs =
@@ -32,7 +32,7 @@ amount-at-requires c κs =
     let s = c .before .before .before in
     omega (
       arith,
-      summing-within (s .args .q .now) (s .args .t4) (s .args .from) (s .args .count) (l .at) (l .left) (l .i)
+      summing-within (s .args .input .now) (s .args .t4) (s .args .from) (s .args .count) (l .at) (l .left) (l .i)
           (toZ w64 (l .total)) (l .inv) (c .loop-test .taken),
       s .pre .1 .0,
     )
@@ -46,16 +46,18 @@ array-copy-out-x c = let l = c .before .before .loop in
 
 -- the amount that was read
 read-is : (c : tie.After-amount-at Inv-loop μ-loop)
-    → toZ w64 (ofZ w64 (c .amount-at .result)) ≡ amountAt (c .before .before .before .before .args .q .now) (c .before .before .loop .at)
+    → toZ w64 (ofZ w64 (c .amount-at .result))
+    ≡ amountAt (c .before .before .before .before .args .input .now) (c .before .before .loop .at)
 unfolding amountAt
 read-is c = toZ-ofZ {w = w64} (sfits-of (c .amount-at .ok)) ∙ c .amount-at .ensures
 
 amount-here : (c : tie.After-amount-at Inv-loop μ-loop)
-    → Amount (c .before .before .before .before .args .q .now) (c .before .before .loop .at)
+    → Amount (c .before .before .before .before .args .input .now) (c .before .before .loop .at)
 amount-here c =
     let l = c .before .before .loop in
     let s = c .before .before .before .before in
-    summing-amount (s .args .q .now) (s .args .t4) (s .args .from) (s .args .count) (l .at) (l .left) (l .i) (toZ w64 (l .total)) (l .inv)
+    summing-amount (s .args .input .now) (s .args .t4) (s .args .from) (s .args .count) (l .at) (l .left) (l .i)
+    (toZ w64 (l .total)) (l .inv)
     (c .before .loop-test .taken)
 
 plus-product-requires : tie.Need-plus-product-requires Inv-loop μ-loop
@@ -75,7 +77,7 @@ add-at c =
     let s = t .before .before .before in
     omega (
       arith,
-      summing-within (s .args .q .now) (s .args .t4) (s .args .from) (s .args .count) (l .at) (l .left) (l .i)
+      summing-within (s .args .input .now) (s .args .t4) (s .args .from) (s .args .count) (l .at) (l .left) (l .i)
           (toZ w64 (l .total)) (l .inv) (t .loop-test .taken),
       s .pre .1 .0,
       s .good,
@@ -99,17 +101,17 @@ loop-again c =
     let s = a .before .before .before .before in
     let x = s .pre .1 .1 .1 .small (l .i) in
     let e : toZ w64 (ofZ w64 (c .plus-product .result))
-    ≡ toZ w64 (l .total) +ℤ amountAt (s .args .q .now) (l .at) *ℤ getD (s .args .t4) (l .i) (pos 0) =
+    ≡ toZ w64 (l .total) +ℤ amountAt (s .args .input .now) (l .at) *ℤ getD (s .args .t4) (l .i) (pos 0) =
     toZ-ofZ {w = w64} (sfits-of (c .plus-product .ok))
     ∙ (rw (read-is a, amount-bits (getD (s .args .t4) (l .i) (pos 0)) x) at (c .plus-product .ensures)) in
-    rw e (summing-next (s .args .q .now) (s .args .t4) (s .args .from) (s .args .count) (l .at) (l .left) (l .i) (toZ w64 (l .total))
+    rw e (summing-next (s .args .input .now) (s .args .t4) (s .args .from) (s .args .count) (l .at) (l .left) (l .i) (toZ w64 (l .total))
     (l .inv) (a .before .loop-test .taken) x)
 
 returns : tie.Need-returns Inv-loop μ-loop
 returns c =
     let l = c .before .loop in
     let s = c .before .before .before in
-    summing-done (s .args .q .now) (s .args .t4) (s .args .from) (s .args .count) (l .at) (l .left) (l .i) (toZ w64 (l .total))
+    summing-done (s .args .input .now) (s .args .t4) (s .args .from) (s .args .count) (l .at) (l .left) (l .i) (toZ w64 (l .total))
     (l .inv) (c .loop-test .left)
 
 pub sum-spec : {M : Type 1} → statement M

@@ -24,8 +24,8 @@ returns c =
     let b = c .before in
     let a = b .before .before .args in
     toZ-ofZ {w = w64} (sfits-of (c .amount-at .ok)) ∙ c .amount-at .ensures
-    ∙ ap (λ (i : ℕ). fromUnsigned (fieldAt (a .at + i) 4 (a .q .now))) (b .constraint-bound .ensures)
-    ∙ sym (bound-at (a .q .now) (a .r) (a .at))
+    ∙ ap (λ (i : ℕ). fromUnsigned (fieldAt (a .at + i) 4 (a .input .now))) (b .constraint-bound .ensures)
+    ∙ sym (bound-at (a .input .now) (a .r) (a .at))
 
 pub bound-of-spec : {M : Type 1} → statement M
 bound-of-spec = tie.close (tie.spec constraint-bound-requires add-amount-at amount-at-requires returns)

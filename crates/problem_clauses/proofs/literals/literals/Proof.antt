@@ -13,7 +13,7 @@ abbrev μ-loop : tie.MeasureT-loop
 μ-loop q from count left₀ l₀ left l = left
 
 loop-holds : tie.Need-loop-holds Inv-loop μ-loop
-loop-holds c = let s = c .before in gathered-start (s .args .q .now) (s .args .from) (s .args .count)
+loop-holds c = let s = c .before in gathered-start (s .args .input .now) (s .args .from) (s .args .count)
 
 sub-left : tie.Need-sub-left Inv-loop μ-loop
 sub-left c = search needs

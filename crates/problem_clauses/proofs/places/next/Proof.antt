@@ -11,15 +11,15 @@ use Rattle.problem_clauses.proofs.places.next.Statement.{statement}
 use Rattle.problem_clauses.proofs.places.next.Tie as tie
 
 count-place-requires : tie.Need-count-place-requires
-count-place-requires c κs = let s = c .before in count-within (s .args .q .now) (s .args .r) (s .args .at) (s .pre)
+count-place-requires c κs = let s = c .before in count-within (s .args .input .now) (s .args .r) (s .args .at) (s .pre)
 
 -- the end, by the place that the call gave
 end-is : (c : tie.After-count-place)
     → let s = c .before .before in
-    clauseEnd (s .args .q .now) (s .args .r) (s .args .at)
-    ≡ c .count-place .result + 1 + getD (s .args .q .now) (c .count-place .result) 0 * constraintBytes (s .args .r)
+    clauseEnd (s .args .input .now) (s .args .r) (s .args .at)
+    ≡ c .count-place .result + 1 + getD (s .args .input .now) (c .count-place .result) 0 * constraintBytes (s .args .r)
 end-is c = let s = c .before .before in
-    clauseEnd-is (s .args .q .now) (s .args .r) (s .args .at) (c .count-place .result) (c .count-place .ensures)
+    clauseEnd-is (s .args .input .now) (s .args .r) (s .args .at) (c .count-place .result) (c .count-place .ensures)
 
 add-result : tie.Need-add-result
 add-result c = let s = c .before .before in omega (arith, end-is c, s .pre, s .good)

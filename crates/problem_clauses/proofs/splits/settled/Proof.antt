@@ -26,7 +26,7 @@ zeros-requires c κs = let s = c .before in omega (arith, behind-is 4 (s .args .
 
 returns : tie.Need-returns
 returns c = let s = c .before .before .before in
-    sym (fate-kept (s .args .q .now) (s .args .r) (s .args .at) (sym (c .before .zeros .ensures) ∙ not-true _ (c .if1 .taken)))
+    sym (fate-kept (s .args .input .now) (s .args .r) (s .args .at) (sym (c .before .zeros .ensures) ∙ not-true _ (c .if1 .taken)))
 
 is-strict-requires : tie.Need-is-strict-requires
 is-strict-requires c κs = search needs
@@ -38,13 +38,14 @@ zero-related-requires : tie.Need-zero-related-requires
 zero-related-requires c κs = search needs
 
 zeros-hold : (c : tie.Else1) → let s = c .before .before .before in
-    all isZero (valuesAt (amountAt (s .args .q .now)) 4 (s .args .r) (s .args .at + layout.constraintCoefficients)) ≡ true
+    all isZero (valuesAt (amountAt (s .args .input .now)) 4 (s .args .r) (s .args .at + layout.constraintCoefficients)) ≡ true
 zeros-hold c = sym (c .before .zeros .ensures) ∙ not-false _ (c .if1 .left)
 
 -- the test is the definition's
 test-is : (c : tie.After-zero-related) → let s = c .before .before .before .before .before .before in
     c .zero-related .result
-    ≡ related (eqb (getD (s .args .q .now) (s .args .at) 0) 2) (pos 0) (constraintAt (s .args .q .now) (s .args .r) (s .args .at) .bound)
+    ≡ related (eqb (getD (s .args .input .now) (s .args .at) 0) 2) (pos 0)
+    (constraintAt (s .args .input .now) (s .args .r) (s .args .at) .bound)
 test-is c =
     let b = c .before in
     let bound = toZ-ofZ {w = w64} (sfits-of (b .bound-of .ok)) ∙ b .bound-of .ensures in
@@ -55,14 +56,14 @@ returns-2 c =
     let z = c .before in
     let e = z .before .before .before in
     let s = e .before .before .before in
-    sym (fate-always (s .args .q .now) (s .args .r) (s .args .at) (zeros-hold e) (z .zero-related .result) (test-is z) (c .if2 .taken))
+    sym (fate-always (s .args .input .now) (s .args .r) (s .args .at) (zeros-hold e) (z .zero-related .result) (test-is z) (c .if2 .taken))
 
 returns-3 : tie.Need-returns-3
 returns-3 c =
     let z = c .before in
     let e = z .before .before .before in
     let s = e .before .before .before in
-    sym (fate-never (s .args .q .now) (s .args .r) (s .args .at) (zeros-hold e) (z .zero-related .result) (test-is z) (c .if2 .left))
+    sym (fate-never (s .args .input .now) (s .args .r) (s .args .at) (zeros-hold e) (z .zero-related .result) (test-is z) (c .if2 .left))
 
 pub settled-spec : {M : Type 1} → statement M
 settled-spec =

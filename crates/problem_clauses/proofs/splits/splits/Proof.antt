@@ -15,17 +15,18 @@ use Rattle.problem_clauses.proofs.splits.splits.Statement.{statement}
 use Rattle.problem_clauses.proofs.splits.splits.Tie as tie
 
 count-place-requires : tie.Need-count-place-requires
-count-place-requires c κs = let s = c .before in count-within (s .args .q .now) (s .args .r) (s .args .at) (s .pre)
+count-place-requires c κs = let s = c .before in count-within (s .args .input .now) (s .args .r) (s .args .at) (s .pre)
 
 add-literals : tie.Need-add-literals
-add-literals c = let s = c .before .before in omega (arith, clause-within (s .args .q .now) (s .args .r) (s .args .at) (s .pre), s .good)
+add-literals c = let s = c .before .before in
+    omega (arith, clause-within (s .args .input .now) (s .args .r) (s .args .at) (s .pre), s .good)
 
 shared-slice-read-literals : tie.Need-shared-slice-read-literals
 shared-slice-read-literals c = let s = c .before .before .before in
-    omega (arith, clause-within (s .args .q .now) (s .args .r) (s .args .at) (s .pre))
+    omega (arith, clause-within (s .args .input .now) (s .args .r) (s .args .at) (s .pre))
 
 literals-requires : tie.Need-literals-requires
-literals-requires c κs = let s = c .before .before .before in literals-within (s .args .q .now) (s .args .r) (s .args .at) (s .pre)
+literals-requires c κs = let s = c .before .before .before in literals-within (s .args .input .now) (s .args .r) (s .args .at) (s .pre)
 
 meets-requires : tie.Need-meets-requires
 meets-requires c κs = search needs
@@ -33,23 +34,23 @@ meets-requires c κs = search needs
 -- the clause's split variables, by what the test of its literals gave
 known : (c : tie.After-meets) (m : Bool) → c .meets .result ≡ m
     → let p = c .before .before .before in let s = p .before .before in
-    splitsOf (clauseAt (s .args .q .now) (s .args .r) (s .args .at))
-    ≡ splitsBy m (counted 0 (settledAll (constraintsAt (s .args .q .now) (s .args .r)
-    (getD (s .args .q .now) (p .count-place .result) 0) (p .count-place .result + 1))))
+    splitsOf (clauseAt (s .args .input .now) (s .args .r) (s .args .at))
+    ≡ splitsBy m (counted 0 (settledAll (constraintsAt (s .args .input .now) (s .args .r)
+    (getD (s .args .input .now) (p .count-place .result) 0) (p .count-place .result + 1))))
 known c m e =
     let l = c .before in
     let p = l .before .before in
     let s = p .before .before in
-    splits-at (s .args .q .now) (s .args .r) (s .args .at) (l .literals .result .positive) (l .literals .result .negative)
+    splits-at (s .args .input .now) (s .args .r) (s .args .at) (l .literals .result .positive) (l .literals .result .negative)
     (l .literals .ensures .0) (l .literals .ensures .1) m (p .count-place .result)
     (sym (c .meets .ensures) ∙ e) (p .count-place .ensures)
 
 returns : tie.Need-returns
 returns c = sym (known (c .before) true (c .if1 .taken))
 
-place-within : (c : tie.After-count-place) → c .count-place .result < length (c .before .before .args .q .now)
+place-within : (c : tie.After-count-place) → c .count-place .result < length (c .before .before .args .input .now)
 place-within c = let s = c .before .before in
-    omega (arith, count-within (s .args .q .now) (s .args .r) (s .args .at) (s .pre), c .count-place .ensures)
+    omega (arith, count-within (s .args .input .now) (s .args .r) (s .args .at) (s .pre), c .count-place .ensures)
 
 add-remaining : tie.Need-add-remaining
 add-remaining c = let p = c .before .before .before .before in omega (arith, place-within p, p .before .before .good)
@@ -61,7 +62,7 @@ remaining-requires : tie.Need-remaining-requires
 remaining-requires c κs =
     let p = c .before .before .before .before .before in
     let s = p .before .before in
-    constraints-within (s .args .q .now) (s .args .r) (s .args .at) (s .pre) (p .count-place .result) (p .count-place .ensures)
+    constraints-within (s .args .input .now) (s .args .r) (s .args .at) (s .pre) (p .count-place .result) (p .count-place .ensures)
 
 between-requires : tie.Need-between-requires
 between-requires c κs = search needs

@@ -32,7 +32,7 @@ shared-slice-read-t10 c = search needs
 
 -- the bound that was read
 read-is : (c : tie.After-bound-of) → let a = c .before .before .before .args in
-    toZ w64 (ofZ w64 (c .bound-of .result)) ≡ constraintAt (a .q .now) (a .r) (a .at) .bound
+    toZ w64 (ofZ w64 (c .bound-of .result)) ≡ constraintAt (a .input .now) (a .r) (a .at) .bound
 read-is c = toZ-ofZ {w = w64} (sfits-of (c .bound-of .ok)) ∙ c .bound-of .ensures
 
 returns : tie.Need-returns
@@ -40,7 +40,7 @@ unfolding meaning constraintAt
 returns c =
     let a = c .before in
     let s = a .before .before .before in
-    let q = s .args .q .now in
+    let q = s .args .input .now in
     let r = s .args .r in
     let at = s .args .at in
     let h = s .pre .1 in

@@ -27,7 +27,7 @@ amount-at-requires c κs =
     let s = c .before .before .before in
     omega (
       arith,
-      row-within (s .args .q .now) (s .args .from) (s .args .count) (l .out) (l .at) (l .i) (l .inv)
+      row-within (s .args .input .now) (s .args .from) (s .args .count) (l .out) (l .at) (l .i) (l .inv)
           (c .loop-test .taken),
       s .pre .1,
     )
@@ -45,7 +45,7 @@ add-at c =
     let s = t .before .before .before in
     omega (
       arith,
-      row-within (s .args .q .now) (s .args .from) (s .args .count) (l .out) (l .at) (l .i) (l .inv)
+      row-within (s .args .input .now) (s .args .from) (s .args .count) (l .out) (l .at) (l .i) (l .inv)
           (t .loop-test .taken),
       s .pre .1,
       s .good,
@@ -63,7 +63,8 @@ loop-again c =
     let t = c .before in
     let l = t .before .loop in
     let s = t .before .before .before in
-    row-more (s .args .q .now) (s .args .from) (s .args .count) (l .out) (l .at) (l .i) (l .inv) (toZ w64 (ofZ w64 (c .amount-at .result)))
+    row-more (s .args .input .now) (s .args .from) (s .args .count) (l .out) (l .at) (l .i) (l .inv)
+    (toZ w64 (ofZ w64 (c .amount-at .result)))
     (t .loop-test .taken) (s .pre .0)
     (toZ-ofZ {w = w64} (sfits-of (c .amount-at .ok)) ∙ c .amount-at .ensures)
 
@@ -71,7 +72,7 @@ returns : tie.Need-returns Inv-loop μ-loop
 returns c =
     let l = c .before .loop in
     let s = c .before .before .before in
-    row-done (s .args .q .now) (s .args .from) (s .args .count) (l .out) (l .at) (l .i) (l .inv) (c .loop-test .left)
+    row-done (s .args .input .now) (s .args .from) (s .args .count) (l .out) (l .at) (l .i) (l .inv) (c .loop-test .left)
 
 pub row-spec : {M : Type 1} → statement M
 row-spec =

@@ -22,7 +22,8 @@ returns-2 : tie.Need-returns-2
 unfolding partOf
 returns-2 c =
     let s = c .before .before .before in (
-      sym (ap (λ (ls : List rules.Line). getElem? ls 0) (from-none (s .args .q .now) (s .args .r) (s .args .parts) (c .before .if1 .left))),
+      sym (ap (λ (ls : List rules.Line). getElem? ls 0)
+          (from-none (s .args .input .now) (s .args .r) (s .args .parts) (c .before .if1 .left))),
       c .bare .ensures .1,
     )
 

@@ -21,7 +21,7 @@ abbrev μ-loop : tie.MeasureT-loop
 
 -- the part that is looked for
 abbrev wanted : tie.Start Inv-loop μ-loop → Option rules.Line
-wanted s = getElem? (partsOf (s .args .split) (clauseAt (s .args .q .now) (s .args .r) (s .args .at))) (s .args .j)
+wanted s = getElem? (partsOf (s .args .split) (clauseAt (s .args .input .now) (s .args .r) (s .args .at))) (s .args .j)
 
 begin-requires : tie.Need-begin-requires Inv-loop μ-loop
 begin-requires c κs = (c .before .pre .1 .0, c .before .pre .1 .1)
@@ -39,7 +39,7 @@ returns : tie.Need-returns Inv-loop μ-loop
 returns c =
     let l = c .before .before .before .before .loop in
     let s = c .before .before .before .before .before .before .before in (
-      c .first .ensures .0 ∙ looking-none (s .args .q .now) (s .args .r) (wanted s) (l .parts) (l .left) (l .inv)
+      c .first .ensures .0 ∙ looking-none (s .args .input .now) (s .args .r) (wanted s) (l .parts) (l .left) (l .inv)
           (not-true _ (c .before .if1 .taken)),
       c .first .ensures .1,
     )
@@ -60,7 +60,8 @@ loop-again c =
     let t = c .before .before .before .before in
     let l = t .before .loop in
     let s = t .before .before .before .before in
-    looking-next (s .args .q .now) (s .args .r) (wanted s) (l .parts) (l .left) (l .inv) (t .loop-test .taken) (meaning (n .result .line))
+    looking-next (s .args .input .now) (s .args .r) (wanted s) (l .parts) (l .left) (l .inv) (t .loop-test .taken)
+    (meaning (n .result .line))
     (n .result .rest) (n .ensures .0) (n .ensures .1 .1)
 
 first-requires-2 : tie.Need-first-requires-2 Inv-loop μ-loop
@@ -70,7 +71,7 @@ returns-2 : tie.Need-returns-2 Inv-loop μ-loop
 returns-2 c =
     let l = c .before .before .loop in
     let s = c .before .before .before .before .before in (
-      c .first2 .ensures .0 ∙ looking-here (s .args .q .now) (s .args .r) (wanted s) (l .parts) (l .left) (l .inv)
+      c .first2 .ensures .0 ∙ looking-here (s .args .input .now) (s .args .r) (wanted s) (l .parts) (l .left) (l .inv)
           (c .before .loop-test .left),
       c .first2 .ensures .1,
     )

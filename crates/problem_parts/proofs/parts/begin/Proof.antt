@@ -20,11 +20,11 @@ use Rattle.problem_parts.proofs.parts.begin.Statement.{statement}
 use Rattle.problem_parts.proofs.parts.begin.Tie as tie
 
 -- the count of constraints and the byte behind the first are in the slice
-counted : (s : tie.Start) → countOf (s .args .q .now) (s .args .at) < length (s .args .q .now)
-counted s = count-within (s .args .q .now) (s .args .r) (s .args .at) (s .pre .0 .within)
+counted : (s : tie.Start) → countOf (s .args .input .now) (s .args .at) < length (s .args .input .now)
+counted s = count-within (s .args .input .now) (s .args .r) (s .args .at) (s .pre .0 .within)
 
-within : (s : tie.Start) → s .args .at + 1 < length (s .args .q .now)
-within s = clause-within (s .args .q .now) (s .args .r) (s .args .at) (s .pre .0 .within)
+within : (s : tie.Start) → s .args .at + 1 < length (s .args .input .now)
+within s = clause-within (s .args .input .now) (s .args .r) (s .args .at) (s .pre .0 .within)
 
 count-place-requires : tie.Need-count-place-requires
 count-place-requires c κs = counted (c .before)
@@ -61,7 +61,7 @@ first c m n =
     record {
       more = m;
       at = p .count-place .result + 1;
-      left = getD (s .args .q .now) (p .count-place .result) 0;
+      left = getD (s .args .input .now) (p .count-place .result) 0;
       stay = n;
       positive = l .positive;
       negative = l .negative;
@@ -69,7 +69,7 @@ first c m n =
     }
 
 started : (c : tie.After-shared-slice-known3) (m : Bool) (n : ℕ) → let s = c .before .before .before .before .before in
-    Started (s .args .q .now) (s .args .r) (s .args .at) (first c m n)
+    Started (s .args .input .now) (s .args .r) (s .args .at) (first c m n)
 unfolding first
 started c m n =
     let l = c .before .literals in
@@ -77,18 +77,18 @@ started c m n =
     let s = c .before .before .before .before .before in
     record {
       place = ap (λ (i : ℕ). i + 1) (p .ensures);
-      count = ap (λ (i : ℕ). getD (s .args .q .now) i 0) (p .ensures);
+      count = ap (λ (i : ℕ). getD (s .args .input .now) i 0) (p .ensures);
       positive = l .ensures .0;
       negative = l .ensures .1;
     }
 
 -- those of a clause that is dropped
 dropped : (c : tie.After-shared-slice-known3) → let s = c .before .before .before .before .before in
-    SoundParts (s .args .q .now) (s .args .r) (first c false 0)
+    SoundParts (s .args .input .now) (s .args .r) (first c false 0)
 unfolding first
 dropped c =
     let s = c .before .before .before .before .before in
-    begin-sound (s .args .q .now) (s .args .r) (s .args .at) (first c false 0) (started c false 0) (s .pre .0)
+    begin-sound (s .args .input .now) (s .args .r) (s .args .at) (first c false 0) (started c false 0) (s .pre .0)
     (λ e. absurd (of-true false e)) (omega (arith, s .pre .1))
 
 returns : tie.Need-returns
@@ -96,11 +96,11 @@ unfolding first
 returns c =
     let k = c .before .before in
     let s = k .before .before .before .before .before in (
-      begin-clash (s .args .q .now) (s .args .r) (s .args .at) (first k false 0) (started k false 0) refl
+      begin-clash (s .args .input .now) (s .args .r) (s .args .at) (first k false 0) (started k false 0) refl
           (sym (c .before .meets .ensures) ∙ c .if1 .taken),
       (
         dropped k,
-        begin-splits (s .args .q .now) (s .args .r) (s .args .at) (first k false 0) (started k false 0) true _
+        begin-splits (s .args .input .now) (s .args .r) (s .args .at) (first k false 0) (started k false 0) true _
             (sym (c .before .meets .ensures) ∙ c .if1 .taken) refl,
       ),
     )
@@ -130,11 +130,12 @@ returns-2 c =
     let a = c .before .before in
     let k = a .before .before .before in
     let s = k .before .before .before .before .before in (
-      begin-dropped (s .args .q .now) (s .args .r) (s .args .at) (first k false 0) (started k false 0) (apart (a .before)) refl
+      begin-dropped (s .args .input .now) (s .args .r) (s .args .at) (first k false 0) (started k false 0) (apart (a .before)) refl
           (sym (a .remaining .ensures) ∙ c .enum-told .given .1),
       (
         dropped k,
-        begin-splits (s .args .q .now) (s .args .r) (s .args .at) (first k false 0) (started k false 0) false Dropped (apart (a .before))
+        begin-splits (s .args .input .now) (s .args .r) (s .args .at) (first k false 0) (started k false 0) false
+            Dropped (apart (a .before))
             (sym (c .enum-told .given .1) ∙ a .remaining .ensures),
       ),
     )
@@ -147,11 +148,12 @@ returns-3 c =
     let k = a .before .before .before in
     let s = k .before .before .before .before .before in
     let f : n < 256 = search (needs, c .known-told, c .before .k) in (
-      begin-kept (s .args .q .now) (s .args .r) (s .args .at) (first k true n) (started k true n) (apart (a .before)) refl,
+      begin-kept (s .args .input .now) (s .args .r) (s .args .at) (first k true n) (started k true n) (apart (a .before)) refl,
       (
-        begin-sound (s .args .q .now) (s .args .r) (s .args .at) (first k true n) (started k true n) (s .pre .0)
+        begin-sound (s .args .input .now) (s .args .r) (s .args .at) (first k true n) (started k true n) (s .pre .0)
             (λ e. sym (a .remaining .ensures) ∙ c .before .k .given .1) (omega (arith, s .pre .1, f)),
-        begin-splits (s .args .q .now) (s .args .r) (s .args .at) (first k true n) (started k true n) false (Count n) (apart (a .before))
+        begin-splits (s .args .input .now) (s .args .r) (s .args .at) (first k true n) (started k true n) false
+            (Count n) (apart (a .before))
             (sym (c .before .k .given .1) ∙ a .remaining .ensures),
       ),
     )

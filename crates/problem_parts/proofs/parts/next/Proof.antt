@@ -28,7 +28,7 @@ unfolding partsFrom partsIf
 returns c =
     let s = c .before .before .before .before in
     let k = s .pre .1 .0 in (
-      from-bare (s .args .q .now) (s .args .r) (s .args .parts) k (s .pre .1 .1) (c .before .if1 .taken)
+      from-bare (s .args .input .now) (s .args .r) (s .args .parts) k (s .pre .1 .1) (c .before .if1 .taken)
           ∙ ap (λ (l : rules.Line). l ∷ []) (sym (c .bare .ensures .0)),
       (c .bare .ensures .1, record { each = k .each; stays = λ e. absurd (of-true false e); few = k .few }),
     )
@@ -48,7 +48,7 @@ reduced-line-requires c κs =
     let p = c .before .skip in (
       s .pre .0,
       (
-        each-first (SoundConstraint (s .args .q .now) (s .args .r)) (constraintBytes (s .args .r)) (p .result .left) (p .result .at)
+        each-first (SoundConstraint (s .args .input .now) (s .args .r)) (constraintBytes (s .args .r)) (p .result .left) (p .result .at)
             (p .ensures .more) (p .ensures .each),
         p .ensures .stays,
       ),
@@ -70,11 +70,11 @@ returns-2 c =
       positive = withSplit (ltb 1 (parts .stay)) (parts .split) (bits allBooleans (parts .positive));
       negative =
           bits allBooleans (parts .negative);
-      constraint = some (reduced (constraintAt (s .args .q .now) (s .args .r) (p .skip .result .at)));
+      constraint = some (reduced (constraintAt (s .args .input .now) (s .args .r) (p .skip .result .at)));
     }
     ≡ meaning (k .reduced-line .result) =
     rw (← k .before .own .ensures) (sym (k .reduced-line .ensures .0)) in (
-      from-kept (s .args .q .now) (s .args .r) parts (s .pre .1 .0) (s .pre .1 .1) (p .skip .result) (p .skip .ensures)
+      from-kept (s .args .input .now) (s .args .r) parts (s .pre .1 .0) (s .pre .1 .1) (p .skip .result) (p .skip .ensures)
           ∙ (λ i. line i ∷ sym (c .rest .ensures .0) i),
       (k .reduced-line .ensures .1, c .rest .ensures .1),
     )

@@ -11,11 +11,11 @@ constraint-bytes-requires : tie.Need-constraint-bytes-requires
 constraint-bytes-requires c κs = search needs
 
 -- the constraint at the place
-sound : (s : tie.Start) → SoundConstraint (s .args .q .now) (s .args .r) (s .args .from .at)
+sound : (s : tie.Start) → SoundConstraint (s .args .input .now) (s .args .r) (s .args .from .at)
 sound s =
     let a = s .args in
     let k = s .pre .1 .0 in
-    each-first (SoundConstraint (a .q .now) (a .r)) (constraintBytes (a .r)) (a .from .left) (a .from .at) (k .more) (k .each)
+    each-first (SoundConstraint (a .input .now) (a .r)) (constraintBytes (a .r)) (a .from .left) (a .from .at) (k .more) (k .each)
 
 add-t7 : tie.Need-add-t7
 add-t7 c =
@@ -44,9 +44,9 @@ returns c =
     let k = s .pre .1 .0 in (
       rw (w .with .ensures, zero-bits, b .constraint-bytes .ensures),
       rw (b .constraint-bytes .ensures) (record {
-        each = each-rest (SoundConstraint (s .args .q .now) (s .args .r)) (constraintBytes (s .args .r)) (s .args .from .left)
+        each = each-rest (SoundConstraint (s .args .input .now) (s .args .r)) (constraintBytes (s .args .r)) (s .args .from .left)
             (s .args .from .at) (k .more) (k .each);
-        stays = λ e. behind-count (s .args .q .now) (s .args .r) (s .args .parts) (s .pre .0) (s .pre .1 .1 .0) (s .args .from) k;
+        stays = λ e. behind-count (s .args .input .now) (s .args .r) (s .args .parts) (s .pre .0) (s .pre .1 .1 .0) (s .args .from) k;
         few = omega (arith, s .pre .0 .few, s .pre .1 .1 .1);
       }),
     )

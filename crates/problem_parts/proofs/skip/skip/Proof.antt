@@ -29,14 +29,16 @@ more : (c : tie.At-loop Inv-loop μ-loop) → 0 < c .loop .left
 more c =
     let l = c .loop in
     let s = c .before .before .before in
-    skipping-more (s .args .q .now) (s .args .r) (s .args .from) (s .args .count) (s .args .stay) (l .at) (l .left) (l .inv) (s .pre .1 .1)
+    skipping-more (s .args .input .now) (s .args .r) (s .args .from) (s .args .count) (s .args .stay) (l .at)
+    (l .left) (l .inv) (s .pre .1 .1)
 
 sound : (c : tie.At-loop Inv-loop μ-loop) → let s = c .before .before .before in
-    SoundConstraint (s .args .q .now) (s .args .r) (c .loop .at)
+    SoundConstraint (s .args .input .now) (s .args .r) (c .loop .at)
 sound c =
     let l = c .loop in
     let s = c .before .before .before in
-    skipping-sound (s .args .q .now) (s .args .r) (s .args .from) (s .args .count) (s .args .stay) (l .at) (l .left) (l .inv) (s .pre .1 .1)
+    skipping-sound (s .args .input .now) (s .args .r) (s .args .from) (s .args .count) (s .args .stay) (l .at)
+    (l .left) (l .inv) (s .pre .1 .1)
 
 stays-requires : tie.Need-stays-requires Inv-loop μ-loop
 stays-requires c κs = sound c
@@ -44,7 +46,7 @@ stays-requires c κs = sound c
 -- the test that was called is the definition's
 zeros-are : (c : tie.After-stays Inv-loop μ-loop) (t : Bool) → not (c .stays .result) ≡ t
     → let s = c .before .before .before .before in
-    all isZero (constraintAt (s .args .q .now) (s .args .r) (c .before .loop .at) .coefficients) ≡ t
+    all isZero (constraintAt (s .args .input .now) (s .args .r) (c .before .loop .at) .coefficients) ≡ t
 zeros-are c t e = sym (Bool·not-not _) ∙ sym (ap not (c .stays .ensures)) ∙ e
 
 add-at : tie.Need-add-at Inv-loop μ-loop
@@ -65,7 +67,8 @@ loop-again c =
     let b = c .before .before .before in
     let s = b .before .before in
     rw (b .constraint-bytes .ensures)
-    (skipping-next (s .args .q .now) (s .args .r) (s .args .from) (s .args .count) (s .args .stay) (l .at) (l .left) (l .inv) (s .pre .1 .1)
+    (skipping-next (s .args .input .now) (s .args .r) (s .args .from) (s .args .count) (s .args .stay) (l .at)
+    (l .left) (l .inv) (s .pre .1 .1)
     (zeros-are (c .before) true (c .if1 .taken)))
 
 returns : tie.Need-returns Inv-loop μ-loop

@@ -21,11 +21,11 @@ loop-holds c = record { end = refl; few = omega arith; same = refl }
 
 -- the clause at hand ends in the slice
 inside : (c : tie.In-loop Inv-loop μ-loop) → let s = c .before .before .before in
-    clauseEnd (s .args .q .now) (s .args .r) (c .before .loop .at) ≤ length (s .args .q .now)
+    clauseEnd (s .args .input .now) (s .args .r) (c .before .loop .at) ≤ length (s .args .input .now)
 inside c =
     let l = c .before .loop in
     let s = c .before .before .before in
-    omega (arith, end-within (s .args .q .now) (s .args .r) (l .left) (l .at) (c .loop-test .taken), l .inv .end, s .pre)
+    omega (arith, end-within (s .args .input .now) (s .args .r) (l .left) (l .at) (c .loop-test .taken), l .inv .end, s .pre)
 
 next-requires : tie.Need-next-requires Inv-loop μ-loop
 next-requires c κs = inside c

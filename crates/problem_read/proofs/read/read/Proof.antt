@@ -19,12 +19,12 @@ returns : tie.Need-returns
 returns c =
     let a = c .before .before in
     let s = a .before .before in
-    c .enum-told .given .1 ∙ sym (scanOf-fault (s .args .q .now) _ _ (sym (a .scan .ensures) ∙ c .enum-told .given .1))
+    c .enum-told .given .1 ∙ sym (scanOf-fault (s .args .input .now) _ _ (sym (a .scan .ensures) ∙ c .enum-told .given .1))
 
 -- what the scan gave
 parsed : (c : tie.After-s) → let a = c .before .before in
-    Parsed (a .before .before .args .q .now) (c .s .given .0 .0)
-parsed c = let a = c .before .before in scan-parsed (a .before .before .args .q .now) _ (sym (a .scan .ensures) ∙ c .s .given .1)
+    Parsed (a .before .before .args .input .now) (c .s .given .0 .0)
+parsed c = let a = c .before .before in scan-parsed (a .before .before .args .input .now) _ (sym (a .scan .ensures) ∙ c .s .given .1)
 
 over-requires : tie.Need-over-requires
 over-requires c κs = parsed (c .before) .within

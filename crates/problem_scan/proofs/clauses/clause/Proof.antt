@@ -8,7 +8,7 @@ use Rattle.problem_scan.proofs.clauses.clause.Tie as tie
 
 returns : tie.Need-returns
 returns c = let s = c .before .before in
-    sym (clause-short (s .args .q .now) (s .args .at) (s .args .b) (s .args .r) (s .pre) (c .if1 .taken))
+    sym (clause-short (s .args .input .now) (s .args .at) (s .args .b) (s .args .r) (s .pre) (c .if1 .taken))
 
 shared-slice-read-count : tie.Need-shared-slice-read-count
 shared-slice-read-count c = search needs
@@ -20,7 +20,7 @@ returns-2 : tie.Need-returns-2
 returns-2 c =
     let t = c .before .before in
     let s = t .before .before in
-    sym (clause-bad (s .args .q .now) (s .args .at) (s .args .b) (s .args .r) (t .if1 .left) (c .if2 .taken))
+    sym (clause-bad (s .args .input .now) (s .args .at) (s .args .b) (s .args .r) (t .if1 .left) (c .if2 .taken))
 
 add-literals : tie.Need-add-literals
 add-literals c = search needs
@@ -39,7 +39,7 @@ returns-3 c =
     let a = c .before .before in
     let t = a .before .before .before in
     let s = t .before .before in
-    clause-fault (s .args .q .now) (s .args .at) (s .args .b) (s .args .r) (t .if1 .left) (a .before .if2 .left) (a .literals .result)
+    clause-fault (s .args .input .now) (s .args .at) (s .args .b) (s .args .r) (t .if1 .left) (a .before .if2 .left) (a .literals .result)
     (a .literals .ensures) _ _ (c .enum-told .given .1)
 
 constraint-list-requires : tie.Need-constraint-list-requires
@@ -47,7 +47,7 @@ constraint-list-requires c κs =
     let a = c .before .before .before in
     let t = a .before .before .before in
     let s = t .before .before in
-    clause-within (s .args .q .now) (s .args .at) (s .args .b) (s .args .r) (t .if1 .left) (a .before .if2 .left) (a .literals .result)
+    clause-within (s .args .input .now) (s .args .at) (s .args .b) (s .args .r) (t .if1 .left) (a .before .if2 .left) (a .literals .result)
     (a .literals .ensures) _ (c .before .read .given .1)
 
 returns-4 : tie.Need-returns-4
@@ -56,7 +56,7 @@ returns-4 c =
     let a = k .before .before .before in
     let t = a .before .before .before in
     let s = t .before .before in
-    c .constraint-list .ensures ∙ sym (clause-rest (s .args .q .now) (s .args .at) (s .args .b) (s .args .r) (t .if1 .left)
+    c .constraint-list .ensures ∙ sym (clause-rest (s .args .input .now) (s .args .at) (s .args .b) (s .args .r) (t .if1 .left)
     (a .before .if2 .left) (a .literals .result) (a .literals .ensures) _ (k .before .read .given .1))
 
 pub clause-spec : {M : Type 1} → statement M

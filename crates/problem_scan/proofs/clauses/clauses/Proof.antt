@@ -15,7 +15,7 @@ abbrev μ-loop : tie.MeasureT-loop
 loop-holds : tie.Need-loop-holds Inv-loop μ-loop
 loop-holds c =
     let s = c .before in
-    run-start (s .args .q .now) (clauseOf (s .args .sizes)) (s .args .from) (s .args .sizes .clauses) (s .pre)
+    run-start (s .args .input .now) (clauseOf (s .args .sizes)) (s .args .from) (s .args .sizes .clauses) (s .pre)
 
 clause-requires : tie.Need-clause-requires Inv-loop μ-loop
 clause-requires c κs = search needs
@@ -31,7 +31,7 @@ returns c =
     let a = c .before .before in
     let l = a .before .before .loop in
     let s = a .before .before .before .before in
-    run-stop (s .args .q .now) (clauseOf (s .args .sizes)) (s .args .from) (s .args .sizes .clauses) (l .at) (l .left) (l .inv)
+    run-stop (s .args .input .now) (clauseOf (s .args .sizes)) (s .args .from) (s .args .sizes .clauses) (l .at) (l .left) (l .inv)
     (a .clause .result) (a .before .loop-test .taken) (a .clause .ensures) _ _ (c .enum-told .given .1)
 
 sub-left : tie.Need-sub-left Inv-loop μ-loop
@@ -45,16 +45,16 @@ loop-again c =
     let a = c .before .before .before in
     let l = a .before .before .loop in
     let s = a .before .before .before .before in
-    run-next (s .args .q .now) (clauseOf (s .args .sizes)) (s .args .from) (s .args .sizes .clauses) (l .at) (l .left) (l .inv)
+    run-next (s .args .input .now) (clauseOf (s .args .sizes)) (s .args .from) (s .args .sizes .clauses) (l .at) (l .left) (l .inv)
     (a .clause .result) (a .before .loop-test .taken) (a .clause .ensures)
-    (steady-clause (s .args .q .now) (s .args .sizes .booleans) (s .args .sizes .rationals)) _
+    (steady-clause (s .args .input .now) (s .args .sizes .booleans) (s .args .sizes .rationals)) _
     (c .before .one .given .1)
 
 returns-2 : tie.Need-returns-2 Inv-loop μ-loop
 returns-2 c =
     let l = c .before .loop in
     let s = c .before .before .before in
-    run-done (s .args .q .now) (clauseOf (s .args .sizes)) (s .args .from) (s .args .sizes .clauses) (l .at) (l .left)
+    run-done (s .args .input .now) (clauseOf (s .args .sizes)) (s .args .from) (s .args .sizes .clauses) (l .at) (l .left)
     (l .inv) (c .loop-test .left)
 
 pub clauses-spec : {M : Type 1} → statement M

@@ -7,7 +7,7 @@ use Rattle.problem_scan.proofs.clauses.constraint_list.Statement.{state
 use Rattle.problem_scan.proofs.clauses.constraint_list.Tie as tie
 
 returns : tie.Need-returns
-returns c = let s = c .before .before in sym (list-short (s .args .q .now) (s .args .at) (s .args .r) (s .pre) (c .if1 .taken))
+returns c = let s = c .before .before in sym (list-short (s .args .input .now) (s .args .at) (s .args .r) (s .pre) (c .if1 .taken))
 
 shared-slice-read-count : tie.Need-shared-slice-read-count
 shared-slice-read-count c = search needs
@@ -19,7 +19,7 @@ returns-2 : tie.Need-returns-2
 returns-2 c =
     let t = c .before .before in
     let s = t .before .before in
-    sym (list-bad (s .args .q .now) (s .args .at) (s .args .r) (t .if1 .left) (c .if2 .taken))
+    sym (list-bad (s .args .input .now) (s .args .at) (s .args .r) (t .if1 .left) (c .if2 .taken))
 
 add-constraints : tie.Need-add-constraints
 add-constraints c = search needs
@@ -31,7 +31,7 @@ returns-3 : tie.Need-returns-3
 returns-3 c =
     let t = c .before .before .before in
     let s = t .before .before in
-    c .constraints .ensures ∙ sym (list-good (s .args .q .now) (s .args .at) (s .args .r) (t .if1 .left) (c .before .if2 .left))
+    c .constraints .ensures ∙ sym (list-good (s .args .input .now) (s .args .at) (s .args .r) (t .if1 .left) (c .before .if2 .left))
 
 pub constraint-list-spec : {M : Type 1} → statement M
 constraint-list-spec =

@@ -15,14 +15,14 @@ abbrev μ-loop : tie.MeasureT-loop
 μ-loop q from b count at₀ left₀ at left = left
 
 loop-holds : tie.Need-loop-holds Inv-loop μ-loop
-loop-holds c = run-start (c .args .q .now) (literal (c .args .b)) (c .args .from) (c .args .count) (c .pre)
+loop-holds c = run-start (c .args .input .now) (literal (c .args .b)) (c .args .from) (c .args .count) (c .pre)
 
 returns : tie.Need-returns Inv-loop μ-loop
 returns c =
     let t = c .before in
     let l = t .before .loop in
     let s = t .before .before in
-    let q = s .args .q .now in
+    let q = s .args .input .now in
     run-stop q (literal (s .args .b)) (s .args .from) (s .args .count) (l .at) (l .left) (l .inv) _ (t .loop-test .taken)
     (sym (literal-short q (l .at) (s .args .b) (l .inv .within) (c .if1 .taken))) _ _ refl
 
@@ -34,7 +34,7 @@ returns-2 c =
     let e = c .before .before in
     let l = e .before .before .loop in
     let s = e .before .before .before in
-    let q = s .args .q .now in
+    let q = s .args .input .now in
     run-stop q (literal (s .args .b)) (s .args .from) (s .args .count) (l .at) (l .left) (l .inv) _ (e .before .loop-test .taken)
     (sym (literal-bad q (l .at) (s .args .b) (e .if1 .left) (c .if2 .taken))) _ _ refl
 
@@ -52,7 +52,7 @@ loop-again c =
     let e = c .before .before in
     let l = e .before .before .loop in
     let s = e .before .before .before in
-    let q = s .args .q .now in
+    let q = s .args .input .now in
     run-next q (literal (s .args .b)) (s .args .from) (s .args .count) (l .at) (l .left) (l .inv) _ (e .before .loop-test .taken)
     (sym (literal-good q (l .at) (s .args .b) (e .if1 .left) (c .if2 .left))) (steady-literal q (s .args .b)) _ refl
 
@@ -60,7 +60,7 @@ returns-3 : tie.Need-returns-3 Inv-loop μ-loop
 returns-3 c =
     let l = c .before .loop in
     let s = c .before .before in
-    run-done (s .args .q .now) (literal (s .args .b)) (s .args .from) (s .args .count) (l .at) (l .left) (l .inv) (c .loop-test .left)
+    run-done (s .args .input .now) (literal (s .args .b)) (s .args .from) (s .args .count) (l .at) (l .left) (l .inv) (c .loop-test .left)
 
 pub literals-spec : {M : Type 1} → statement M
 literals-spec =

@@ -12,14 +12,14 @@ use Rattle.problem_scan.proofs.numbers.amount.Tie as tie
 
 -- the test that was called is the definition's
 tested-is : (c : tie.After-in-range) → let s = c .before .before .before .before in
-    inRange (fromUnsigned (fieldAt (s .args .at) 4 (s .args .q .now))) ≡ c .in-range .result
+    inRange (fromUnsigned (fieldAt (s .args .at) 4 (s .args .input .now))) ≡ c .in-range .result
 tested-is c = let a = c .before .amount-at in sym (c .in-range .ensures ∙ ap inRange (toZ-ofZ {w = w64} (sfits-of (a .ok)) ∙ a .ensures))
 
 sub-if1 : tie.Need-sub-if1
 sub-if1 c = search needs
 
 returns : tie.Need-returns
-returns c = let s = c .before .before in sym (amount-short (s .args .q .now) (s .args .at) (s .pre) (omega arith))
+returns c = let s = c .before .before in sym (amount-short (s .args .input .now) (s .args .at) (s .pre) (omega arith))
 
 amount-at-requires : tie.Need-amount-at-requires
 amount-at-requires c κs = search needs
@@ -33,12 +33,12 @@ add-t10 c = search needs
 returns-2 : tie.Need-returns-2
 returns-2 c =
     let s = c .before .before .before .before .before in
-    sym (amount-good (s .args .q .now) (s .args .at) (omega arith) (tested-is (c .before) ∙ c .if2 .taken))
+    sym (amount-good (s .args .input .now) (s .args .at) (omega arith) (tested-is (c .before) ∙ c .if2 .taken))
 
 returns-3 : tie.Need-returns-3
 returns-3 c =
     let s = c .before .before .before .before .before in
-    sym (amount-bad (s .args .q .now) (s .args .at) (omega arith) (tested-is (c .before) ∙ c .if2 .left))
+    sym (amount-bad (s .args .input .now) (s .args .at) (omega arith) (tested-is (c .before) ∙ c .if2 .left))
 
 pub amount-spec : {M : Type 1} → statement M
 amount-spec =

@@ -14,7 +14,7 @@ abbrev μ-loop : tie.MeasureT-loop
 μ-loop q from count at₀ left₀ at left = left
 
 loop-holds : tie.Need-loop-holds Inv-loop μ-loop
-loop-holds c = let s = c .before in run-start (s .args .q .now) (amount refusal.Amount) (s .args .from) (s .args .count) (s .pre)
+loop-holds c = let s = c .before in run-start (s .args .input .now) (amount refusal.Amount) (s .args .from) (s .args .count) (s .pre)
 
 amount-requires : tie.Need-amount-requires Inv-loop μ-loop
 amount-requires c κs = search needs
@@ -30,7 +30,7 @@ returns c =
     let a = c .before .before in
     let l = a .before .before .loop in
     let s = a .before .before .before .before in
-    run-stop (s .args .q .now) (amount refusal.Amount) (s .args .from) (s .args .count) (l .at) (l .left) (l .inv) (a .amount .result)
+    run-stop (s .args .input .now) (amount refusal.Amount) (s .args .from) (s .args .count) (l .at) (l .left) (l .inv) (a .amount .result)
     (a .before .loop-test .taken) (a .amount .ensures) _ _ (c .enum-told .given .1)
 
 sub-left : tie.Need-sub-left Inv-loop μ-loop
@@ -44,14 +44,14 @@ loop-again c =
     let a = c .before .before .before in
     let l = a .before .before .loop in
     let s = a .before .before .before .before in
-    run-next (s .args .q .now) (amount refusal.Amount) (s .args .from) (s .args .count) (l .at) (l .left) (l .inv) (a .amount .result)
-    (a .before .loop-test .taken) (a .amount .ensures) (steady-amount (s .args .q .now) refusal.Amount) _ (c .before .one .given .1)
+    run-next (s .args .input .now) (amount refusal.Amount) (s .args .from) (s .args .count) (l .at) (l .left) (l .inv) (a .amount .result)
+    (a .before .loop-test .taken) (a .amount .ensures) (steady-amount (s .args .input .now) refusal.Amount) _ (c .before .one .given .1)
 
 returns-2 : tie.Need-returns-2 Inv-loop μ-loop
 returns-2 c =
     let l = c .before .loop in
     let s = c .before .before .before in
-    run-done (s .args .q .now) (amount refusal.Amount) (s .args .from) (s .args .count) (l .at) (l .left) (l .inv) (c .loop-test .left)
+    run-done (s .args .input .now) (amount refusal.Amount) (s .args .from) (s .args .count) (l .at) (l .left) (l .inv) (c .loop-test .left)
 
 pub amounts-spec : {M : Type 1} → statement M
 amounts-spec =

@@ -11,11 +11,11 @@ use Rattle.problem_scan.proofs.numbers.constraint.Tie as tie
 
 -- src/numbers.rt:58:9
 relation-is : (c : tie.Else2) → let s = c .before .before .before .before .before in
-    isRelation (getD (s .args .q .now) (s .args .at) 0) ≡ true
+    isRelation (getD (s .args .input .now) (s .args .at) 0) ≡ true
 relation-is c = sym (c .before .is-relation .ensures) ∙ not-false _ (c .if2 .left)
 
 returns : tie.Need-returns
-returns c = let s = c .before .before in sym (constraint-short (s .args .q .now) (s .args .at) (s .args .r) (s .pre) (c .if1 .taken))
+returns c = let s = c .before .before in sym (constraint-short (s .args .input .now) (s .args .at) (s .args .r) (s .pre) (c .if1 .taken))
 
 -- src/numbers.rt:60:20
 shared-slice-read-relation : tie.Need-shared-slice-read-relation
@@ -30,7 +30,7 @@ returns-2 : tie.Need-returns-2
 returns-2 c =
     let t = c .before .before .before in
     let s = t .before .before in
-    sym (constraint-bad (s .args .q .now) (s .args .at) (s .args .r) (t .if1 .left)
+    sym (constraint-bad (s .args .input .now) (s .args .at) (s .args .r) (t .if1 .left)
     (sym (c .before .is-relation .ensures) ∙ not-true _ (c .if2 .taken)))
 
 -- src/numbers.rt:64:35
@@ -55,7 +55,7 @@ returns-3 c =
     let a = c .before .before in
     let t = a .before .before .before .before in
     let s = t .before .before in
-    constraint-fault (s .args .q .now) (s .args .at) (s .args .r) (t .if1 .left) (relation-is (a .before)) (a .amounts .result)
+    constraint-fault (s .args .input .now) (s .args .at) (s .args .r) (t .if1 .left) (relation-is (a .before)) (a .amounts .result)
     (a .amounts .ensures) _ _ (c .enum-told .given .1)
 
 -- src/numbers.rt:68:5
@@ -64,7 +64,7 @@ amount-requires c κs =
     let a = c .before .before .before in
     let t = a .before .before .before .before in
     let s = t .before .before in
-    constraint-within (s .args .q .now) (s .args .at) (s .args .r) (t .if1 .left) (relation-is (a .before)) (a .amounts .result)
+    constraint-within (s .args .input .now) (s .args .at) (s .args .r) (t .if1 .left) (relation-is (a .before)) (a .amounts .result)
     (a .amounts .ensures) _ (c .before .coefficients .given .1)
 
 -- src/numbers.rt:53:1
@@ -74,7 +74,7 @@ returns-4 c =
     let a = k .before .before .before in
     let t = a .before .before .before .before in
     let s = t .before .before in
-    c .amount .ensures ∙ sym (constraint-bound (s .args .q .now) (s .args .at) (s .args .r) (t .if1 .left) (relation-is (a .before))
+    c .amount .ensures ∙ sym (constraint-bound (s .args .input .now) (s .args .at) (s .args .r) (t .if1 .left) (relation-is (a .before))
     (a .amounts .result) (a .amounts .ensures) _ (k .before .coefficients .given .1))
 
 pub constraint-spec : {M : Type 1} → statement M

@@ -13,7 +13,7 @@ abbrev μ-loop : tie.MeasureT-loop
 μ-loop q from r count at₀ left₀ at left = left
 
 loop-holds : tie.Need-loop-holds Inv-loop μ-loop
-loop-holds c = let s = c .before in run-start (s .args .q .now) (constraint (s .args .r)) (s .args .from) (s .args .count) (s .pre)
+loop-holds c = let s = c .before in run-start (s .args .input .now) (constraint (s .args .r)) (s .args .from) (s .args .count) (s .pre)
 
 constraint-requires : tie.Need-constraint-requires Inv-loop μ-loop
 constraint-requires c κs = search needs
@@ -29,7 +29,8 @@ returns c =
     let a = c .before .before in
     let l = a .before .before .loop in
     let s = a .before .before .before .before in
-    run-stop (s .args .q .now) (constraint (s .args .r)) (s .args .from) (s .args .count) (l .at) (l .left) (l .inv) (a .constraint .result)
+    run-stop (s .args .input .now) (constraint (s .args .r)) (s .args .from) (s .args .count) (l .at) (l .left)
+    (l .inv) (a .constraint .result)
     (a .before .loop-test .taken) (a .constraint .ensures) _ _ (c .enum-told .given .1)
 
 sub-left : tie.Need-sub-left Inv-loop μ-loop
@@ -43,15 +44,17 @@ loop-again c =
     let a = c .before .before .before in
     let l = a .before .before .loop in
     let s = a .before .before .before .before in
-    run-next (s .args .q .now) (constraint (s .args .r)) (s .args .from) (s .args .count) (l .at) (l .left) (l .inv) (a .constraint .result)
-    (a .before .loop-test .taken) (a .constraint .ensures) (steady-constraint (s .args .q .now) (s .args .r)) _
+    run-next (s .args .input .now) (constraint (s .args .r)) (s .args .from) (s .args .count) (l .at) (l .left)
+    (l .inv) (a .constraint .result)
+    (a .before .loop-test .taken) (a .constraint .ensures) (steady-constraint (s .args .input .now) (s .args .r)) _
     (c .before .one .given .1)
 
 returns-2 : tie.Need-returns-2 Inv-loop μ-loop
 returns-2 c =
     let l = c .before .loop in
     let s = c .before .before .before in
-    run-done (s .args .q .now) (constraint (s .args .r)) (s .args .from) (s .args .count) (l .at) (l .left) (l .inv) (c .loop-test .left)
+    run-done (s .args .input .now) (constraint (s .args .r)) (s .args .from) (s .args .count) (l .at) (l .left)
+    (l .inv) (c .loop-test .left)
 
 pub constraints-spec : {M : Type 1} → statement M
 constraints-spec =

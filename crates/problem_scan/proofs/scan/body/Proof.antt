@@ -17,21 +17,21 @@ returns : tie.Need-returns
 returns c =
     let a = c .before .before .before .before in
     let s = a .before .before in
-    body-trailing (s .args .q .now) (s .args .sizes) (s .pre) (a .clauses .result) (a .clauses .ensures) _
+    body-trailing (s .args .input .now) (s .args .sizes) (s .pre) (a .clauses .result) (a .clauses .ensures) _
     (c .before .before .read2 .given .1) (c .if1 .taken)
 
 returns-2 : tie.Need-returns-2
 returns-2 c =
     let a = c .before .before .before in
     let s = a .before .before in
-    body-fault (s .args .q .now) (s .args .sizes) (s .pre) (a .clauses .result) (a .clauses .ensures) _ _
+    body-fault (s .args .input .now) (s .args .sizes) (s .pre) (a .clauses .result) (a .clauses .ensures) _ _
     (c .before .read .given .1)
 
 returns-3 : tie.Need-returns-3
 returns-3 c =
     let a = c .before .before .before .before in
     let s = a .before .before in
-    body-end (s .args .q .now) (s .args .sizes) (s .pre) (a .clauses .result) (a .clauses .ensures) _
+    body-end (s .args .input .now) (s .args .sizes) (s .pre) (a .clauses .result) (a .clauses .ensures) _
     (c .before .before .read2 .given .1) (c .if1 .left)
 
 pub body-spec : {M : Type 1} → statement M

@@ -11,7 +11,7 @@ use Rattle.problem_scan.proofs.scan.problem.Statement.{statement}
 use Rattle.problem_scan.proofs.scan.problem.Tie as tie
 
 returns : tie.Need-returns
-returns c = sym (problem-short-b (c .before .before .args .q .now) (c .if1 .taken))
+returns c = sym (problem-short-b (c .before .before .args .input .now) (c .if1 .taken))
 
 shared-slice-read-b : tie.Need-shared-slice-read-b
 shared-slice-read-b c = search needs
@@ -23,14 +23,14 @@ returns-2 : tie.Need-returns-2
 returns-2 c =
     let t1 = c .before .before in
     let s = t1 .before .before in
-    sym (problem-bad-b (s .args .q .now) (t1 .if1 .left) (c .if2 .taken))
+    sym (problem-bad-b (s .args .input .now) (t1 .if1 .left) (c .if2 .taken))
 
 returns-3 : tie.Need-returns-3
 returns-3 c =
     let t2 = c .before in
     let t1 = t2 .before .before in
     let s = t1 .before .before in
-    sym (problem-short-r (s .args .q .now) (t1 .if1 .left) (t2 .if2 .left) (c .if3 .taken))
+    sym (problem-short-r (s .args .input .now) (t1 .if1 .left) (t2 .if2 .left) (c .if3 .taken))
 
 shared-slice-read-r : tie.Need-shared-slice-read-r
 shared-slice-read-r c = search needs
@@ -44,7 +44,7 @@ returns-4 c =
     let t2 = t3 .before in
     let t1 = t2 .before .before in
     let s = t1 .before .before in
-    sym (problem-bad-r (s .args .q .now) (t1 .if1 .left) (t2 .if2 .left) (t3 .if3 .left) (c .if4 .taken))
+    sym (problem-bad-r (s .args .input .now) (t1 .if1 .left) (t2 .if2 .left) (t3 .if3 .left) (c .if4 .taken))
 
 returns-5 : tie.Need-returns-5
 returns-5 c =
@@ -53,13 +53,13 @@ returns-5 c =
     let t2 = t3 .before in
     let t1 = t2 .before .before in
     let s = t1 .before .before in
-    sym (problem-short-n (s .args .q .now) (t1 .if1 .left) (t2 .if2 .left) (t3 .if3 .left) (t4 .if4 .left) (c .if5 .taken))
+    sym (problem-short-n (s .args .input .now) (t1 .if1 .left) (t2 .if2 .left) (t3 .if3 .left) (t4 .if4 .left) (c .if5 .taken))
 
 u16-at-requires : tie.Need-u16-at-requires
 u16-at-requires c κs = search needs
 
 -- the tests passed when n is known
-header : (u : tie.After-u16-at) → Header (u .before .before .before .before .before .before .before .before .before .args .q .now)
+header : (u : tie.After-u16-at) → Header (u .before .before .before .before .before .before .before .before .before .args .input .now)
 header u =
     let t5 = u .before in
     let t4 = t5 .before in
@@ -75,7 +75,7 @@ returns-7 : tie.Need-returns-7
 returns-7 c =
     let t6 = c .before in
     let u = t6 .before in
-    let q = u .before .before .before .before .before .before .before .before .before .args .q .now in
+    let q = u .before .before .before .before .before .before .before .before .before .args .input .now in
     c .body .ensures
     ∙ ap (λ (n : ℕ). outline (body (record {
       booleans = sizesAt q .booleans;

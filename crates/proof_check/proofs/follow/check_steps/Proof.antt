@@ -25,7 +25,7 @@ abbrev μ-loop : tie.MeasureT-loop
 
 loop-holds : tie.Need-loop-holds Inv-loop μ-loop
 loop-holds c = let s = c .before .before .before .before in
-    following-start (loadableOf (problemAt (s .args .q .now) (s .args .sizes))) (s .args .proof .now) _
+    following-start (loadableOf (problemAt (s .args .input .now) (s .args .sizes))) (s .args .proof .now) _
 
 get-requires : tie.Need-get-requires Inv-loop μ-loop
 get-requires c κs = omega (arith, c .loop-test .taken)
@@ -42,12 +42,12 @@ line-stated-requires c κs =
 -- what step i states
 stated : (c : tie.After-line-stated Inv-loop μ-loop) → let l = c .before .before .before .loop in let a =
     start (c .before .before .before) .args in
-    States (statedLine (loadableOf (problemAt (a .q .now) (a .sizes))) (linesIn (a .proof .now) (l .i)) (stepAt (a .proof .now) (l .i)))
+    States (statedLine (loadableOf (problemAt (a .input .now) (a .sizes))) (linesIn (a .proof .now) (l .i)) (stepAt (a .proof .now) (l .i)))
     (stepAt (a .proof .now) (l .i)) (c .line-stated .result)
 stated c =
     let l = c .before .before .before .loop in
     let a = start (c .before .before .before) .args in
-    subst (λ (b : List ℕ). States (statedLine (loadableOf (problemAt (a .q .now) (a .sizes))) (linesIn (a .proof .now) (l .i)) b) b
+    subst (λ (b : List ℕ). States (statedLine (loadableOf (problemAt (a .input .now) (a .sizes))) (linesIn (a .proof .now) (l .i)) b) b
     (c .line-stated .result)) (c .before .get .ensures) (c .line-stated .ensures)
 
 returns : tie.Need-returns Inv-loop μ-loop

@@ -24,7 +24,7 @@ loop-holds c = let s = c .before .before .before in
 
 -- the clause at hand stands in the slice, and so does what is behind it
 inside : (c : tie.In-loop Inv-loop μ-loop) → let s = c .before .before .before .before .before in
-    clauseEnd (s .args .q .now) (s .args .sizes .rationals) (c .before .loop .at) ≤ length (s .args .q .now)
+    clauseEnd (s .args .input .now) (s .args .sizes .rationals) (c .before .loop .at) ≤ length (s .args .input .now)
 inside c = indexing-within (c .before .loop .inv .2) (c .loop-test .taken)
 
 room : (c : tie.In-loop Inv-loop μ-loop) → (c .before .loop .c < length (c .before .loop .places))

@@ -52,7 +52,7 @@ cast-part-2 c = omega (arith, c .shared-slice-known5 .given (c .before .before .
 -- the entry of the clause that the bytes name
 entry : (c : tie.Else1) → let k = c .before .before in let a = start k .args in let n =
     k .before .before .first-at .result in
-    Entry (a .q .now) (a .sizes) (getD (a .places .now) n 0)
+    Entry (a .input .now) (a .sizes) (getD (a .places .now) n 0)
     (getD (a .variables .now) n 0) n
 entry c = let k = c .before .before in start k .pre .entries
     (k .before .before .first-at .result) (omega (arith, c .if1 .left))

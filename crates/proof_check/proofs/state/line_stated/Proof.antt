@@ -26,7 +26,7 @@ returns c =
     let k = c .before .before in
     let s = start k in
     let a = s .args in
-    states-same (stated-loaded (loadableOf (problemAt (a .q .now) (a .sizes))) (linesIn (a .proof .now) (a .i)) (a .t7)
+    states-same (stated-loaded (loadableOf (problemAt (a .input .now) (a .sizes))) (linesIn (a .proof .now) (a .i)) (a .t7)
     (sym (k .how-at .ensures) ∙ c .before .if1 .taken)) (c .loaded .ensures)
 
 derived-requires : tie.Need-derived-requires
@@ -38,7 +38,7 @@ returns-2 c =
     let s = start k in
     let a = s .args in
     let none-loaded = loaded-other (s .pre .0 .readable) (a .t7) (λ e. c .before .if1 .left (k .how-at .ensures ∙ e)) in
-    states-same (stated-derived (loadableOf (problemAt (a .q .now) (a .sizes))) (linesIn (a .proof .now) (a .i)) (a .t7)
+    states-same (stated-derived (loadableOf (problemAt (a .input .now) (a .sizes))) (linesIn (a .proof .now) (a .i)) (a .t7)
     none-loaded) (c .derived .ensures)
 
 pub line-stated-spec : {M : Type 1} → statement M
