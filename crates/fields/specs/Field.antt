@@ -10,7 +10,7 @@ use borrow.Author.Tests.{ltb-true}
 use lib.IntN.{ℤ, pos, negsuc, natAbs, _-ℤ_}
 use lib.Signed.{ltZ}
 use lib.Dec.{T}
-use lib.ListN.{length, set, take, drop, length-append, length-take, length-drop, take-append-drop}
+use lib.ListN.{length, set, take, drop, length-append, length-take, length-drop, take-append-drop, length-set}
 use lib.Seq.{drop-drop, take-at, drop-at, length-take-le, sets-eq}
 use Rattle.theory_integers.specs.Difference.{v, #, _⊖_, ≡-by}
 use Rattle.rules.specs.Bytes.{toBytes, fromUnsigned, toUnsigned}
@@ -33,6 +33,10 @@ pub toUnsigned-negative : (z : ℤ) → ltZ z (pos 0) ≡ true → toUnsigned z 
 unfolding toUnsigned
 toUnsigned-negative (pos n) t = absurd (omega (arith, ltb-true n 0 t))
 toUnsigned-negative (negsuc n) t = omega arith
+
+-- two bytes set leave the length
+pub length-sets : (s : List ℕ) (i x j y : ℕ) → length (set (set s i x) j y) ≡ length s
+length-sets s i x j y = length-set (set s i x) j y ∙ length-set s i x
 
 -- ---- the stores, one byte each
 module _ (at n : ℕ) (s : List ℕ) where

@@ -3,21 +3,19 @@ use crate::numbers::widened;
 use crate::text::Text;
 use crate::text::print_count;
 use rules_types::limits::Limits;
-use steps::access::first_at;
-use steps::access::how_at;
-use steps::access::second_at;
-use steps::access::which_at;
+use steps::access::origin_at;
 ghost use Rattle.steps.specs.Places.{HasStep};
 
 // The origin of step i.
 fn print_step(proof: &[u8], i: usize)
     requires { ⌜ HasStep (now proof) i ⌝ }
 {
+    let origin = origin_at(proof, i);
     let start = Text::empty();
-    let how = start.decimal(widened(how_at(proof, i)));
-    let which = how.then(widened(which_at(proof, i)));
-    let first = which.then(first_at(proof, i));
-    let second = first.then(second_at(proof, i));
+    let how = start.decimal(widened(origin.how));
+    let which = how.then(widened(origin.which));
+    let first = which.then(origin.first);
+    let second = first.then(origin.second);
     second.print();
 }
 

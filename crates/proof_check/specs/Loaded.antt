@@ -24,6 +24,7 @@ use Rattle.problem_scan.specs.Values.{clauseAt}
 use Rattle.problem_read.specs.Clauses.{length-clausesAt}
 use Rattle.problem_read.specs.Parsed.{allClauses, problemAt}
 use Rattle.steps.specs.Origin.{headerOf, loadedBy}
+use Rattle.steps.specs.Lines.{linesIn}
 use Rattle.problem_read.specs.Readable.{Readable, ahead-start}
 use Rattle.problem_parts.specs.declared.part.Found.{Found}
 use Rattle.problem_parts.specs.Part.{partOf}
@@ -105,6 +106,10 @@ module _ {q : List ℕ} {sizes : Sizes} (read : Readable q sizes) (bytes : List 
       ∙ (λ t. ownStep bytes (sym x t) (sym y t) (namedIn q sizes (sym x t) (sym y t)))
       ∙ own-matched bytes c k (namedIn q sizes c k)
       ∙ ap (matched (headerOf (loadedBy c k)) bytes) (entry .named k ∙ sym e ∙ sym (found-part f))
+
+-- the line that these bytes state as step i of a proof of the problem in the input
+abbrev pub lineStatedAt : List ℕ → Sizes → List ℕ → ℕ → List ℕ → Option Line
+lineStatedAt input sizes proof i bytes = statedLine (loadableOf (problemAt input sizes)) (linesIn proof i) bytes
 
 -- ---- a part, or else a resolvent
 module _ (parts : List Step) (earlier : List Line) (bytes : List ℕ) where

@@ -5,8 +5,7 @@ use rules_types::limits::Limits;
 use step_check::compare::Stated;
 use step_check::compare::compared;
 use step_check::compare::unstated;
-use steps::access::first_at;
-use steps::access::second_at;
+use steps::access::origin_at;
 use steps::origin::Origin;
 ghost use Rattle.rules.specs.Elimination.{loadableOf};
 ghost use Rattle.rules.specs.Checker.{lineAmong};
@@ -24,8 +23,9 @@ pub fn loaded(
     requires { ⌜ Known (now input) sizes (now places) (now variables) ⌝ }
     ensures { λ s. ⌜ States (lineAmong (loadableOf (problemAt (now (input .entry)) sizes)) bytes) bytes s ⌝ }
 {
-    let clause = first_at(&bytes, 0);
-    let number = second_at(&bytes, 0);
+    let origin = origin_at(&bytes, 0);
+    let clause = origin.first;
+    let number = origin.second;
     if sizes.clauses <= clause {
         return unstated();
     }

@@ -4,16 +4,14 @@ use problem_scan::cursor::Sizes;
 use rules_types::limits::Limits;
 use step_check::compare::Stated;
 use step_check::derive::derived;
-use steps::access::how_at;
+use steps::access::origin_at;
 ghost use Prim.Native.Nat.{_*_, _≤_};
 ghost use lib.ListN.{length};
 ghost use Rattle.rules_types.specs.Limits.{stepBytes};
-ghost use Rattle.rules.specs.Elimination.{loadableOf};
-ghost use Rattle.rules.specs.Checker.{statedLine};
-ghost use Rattle.problem_read.specs.Parsed.{problemAt};
-ghost use Rattle.steps.specs.Lines.{linesIn, ReadyLines};
+ghost use Rattle.steps.specs.Lines.{ReadyLines};
 ghost use Rattle.step_check.specs.Stated.{States};
 ghost use Rattle.proof_check.specs.Index.{Known};
+ghost use Rattle.proof_check.specs.Loaded.{lineStatedAt};
 
 // The line that these bytes state as step i of the proof. How is 0 of a loaded part, and of no resolvent.
 pub fn line_stated(
@@ -28,9 +26,10 @@ pub fn line_stated(
     requires { ⌜ Known (now input) sizes (now places) (now variables) ⌝ }
     requires { ⌜ stepBytes * i ≤ length (now proof) ⌝ }
     requires { ⌜ ReadyLines (now proof) i ⌝ }
-    ensures { λ s. ⌜ States (statedLine (loadableOf (problemAt (now (input .entry)) sizes)) (linesIn (now (proof .entry)) i) bytes) bytes s ⌝ }
+    ensures { λ s. ⌜ States (lineStatedAt (now (input .entry)) sizes (now (proof .entry)) i bytes) bytes s ⌝ }
 {
-    if how_at(&bytes, 0) == 0 {
+    let origin = origin_at(&bytes, 0);
+    if origin.how == 0 {
         return loaded(input, sizes, places, variables, bytes);
     }
     derived(proof, i, bytes)

@@ -2,7 +2,7 @@
 ghost use mathlib.Core.Path.{_≡_};
 ghost use Rattle.rules_types.specs.Layout.{constraintBound, constraintBytes, modelRationals, modelDenominator, modelNumerators};
 
-// Of a problem: b, r and n, then the clauses.
+// Of a problem: b, r and n, then the clauses. Of a constraint, behind its relation: the coefficients.
 pub const PROBLEM_BOOLEANS: usize = 0;
 
 pub const PROBLEM_RATIONALS: usize = 1;
@@ -11,21 +11,7 @@ pub const PROBLEM_CLAUSES: usize = 2;
 
 pub const FIRST_CLAUSE: usize = 4;
 
-// Of a constraint: its relation, its coefficients, its bound.
 pub const CONSTRAINT_COEFFICIENTS: usize = 1;
-
-pub fn constraint_bound(r: u8) -> usize
-    ensures { λ at. ⌜ at ≡ constraintBound r ⌝ }
-{
-    1 + (r as usize) * 4
-}
-
-// All bytes of a constraint.
-pub fn constraint_bytes(r: u8) -> usize
-    ensures { λ n. ⌜ n ≡ constraintBytes r ⌝ }
-{
-    5 + (r as usize) * 4
-}
 
 // Of a step: its origin, then its line.
 pub const STEP_HOW: usize = 0;
@@ -45,11 +31,27 @@ pub const STEP_NEGATIVE: usize = 12;
 pub const STEP_COEFFICIENTS: usize = 16;
 
 pub const STEP_BOUND: usize = 48;
-// Of a model with b Boolean variables: b, a byte for each, r, the denominator, the numerators.
+
+// Of a model: b, and a byte for each Boolean variable.
 pub const MODEL_BOOLEANS: usize = 0;
 
 pub const MODEL_FLAGS: usize = 1;
 
+// Of a constraint with r coefficients: its bound.
+pub fn constraint_bound(r: u8) -> usize
+    ensures { λ at. ⌜ at ≡ constraintBound r ⌝ }
+{
+    1 + (r as usize) * 4
+}
+
+// All bytes of such a constraint.
+pub fn constraint_bytes(r: u8) -> usize
+    ensures { λ n. ⌜ n ≡ constraintBytes r ⌝ }
+{
+    5 + (r as usize) * 4
+}
+
+// Of a model with b Boolean variables: r, the denominator, the numerators.
 pub fn model_rationals(b: u8) -> usize
     ensures { λ at. ⌜ at ≡ modelRationals b ⌝ }
 {

@@ -18,51 +18,24 @@ use rules_types::limits::Limits;
 ghost use mathlib.Core.Path.{_≡_};
 ghost use Prim.Native.Nat.{_+_, _*_, _≤_, _<_};
 ghost use Rattle.rules_types.specs.Limits.{stepBytes, rationals};
-ghost use Rattle.rules_types.specs.Layout.{stepHow, stepWhich, stepFirst, stepSecond, stepRelation, stepPositive, stepNegative};
-ghost use Rattle.rules_types.specs.Layout.{stepCoefficients, stepBound};
+ghost use Rattle.rules_types.specs.Layout.{stepRelation, stepPositive, stepNegative, stepCoefficients, stepBound};
 ghost use Rattle.rules.specs.Bytes.{fieldAt, fromUnsigned};
 ghost use Rattle.steps.specs.Places.{stepAt, HasStep};
 ghost use Rattle.steps.specs.Decoding.{amountsAt};
 ghost use Rattle.steps.specs.Origin.{originAt};
 ghost use Rattle.steps.specs.Lines.{lineAt};
 
-pub fn how_at(proof: &[u8], i: usize) -> u8
-    requires { ⌜ HasStep (now proof) i ⌝ }
-    ensures { λ r. ⌜ r ≡ fieldAt (stepBytes * i + stepHow) 1 (now (proof .entry)) ⌝ }
-{
-    u8_at(proof, Limits::STEP_BYTES * i + STEP_HOW)
-}
-
-pub fn which_at(proof: &[u8], i: usize) -> u8
-    requires { ⌜ HasStep (now proof) i ⌝ }
-    ensures { λ r. ⌜ r ≡ fieldAt (stepBytes * i + stepWhich) 1 (now (proof .entry)) ⌝ }
-{
-    u8_at(proof, Limits::STEP_BYTES * i + STEP_WHICH)
-}
-
-pub fn first_at(proof: &[u8], i: usize) -> u64
-    requires { ⌜ HasStep (now proof) i ⌝ }
-    ensures { λ r. ⌜ r ≡ fieldAt (stepBytes * i + stepFirst) 2 (now (proof .entry)) ⌝ }
-{
-    u16_at(proof, Limits::STEP_BYTES * i + STEP_FIRST)
-}
-
-pub fn second_at(proof: &[u8], i: usize) -> u64
-    requires { ⌜ HasStep (now proof) i ⌝ }
-    ensures { λ r. ⌜ r ≡ fieldAt (stepBytes * i + stepSecond) 2 (now (proof .entry)) ⌝ }
-{
-    u16_at(proof, Limits::STEP_BYTES * i + STEP_SECOND)
-}
-
+// Where it comes from: "how", "which", "first parent", "second parent".
 pub fn origin_at(proof: &[u8], i: usize) -> Origin
     requires { ⌜ HasStep (now proof) i ⌝ }
     ensures { λ o. ⌜ o ≡ originAt (now (proof .entry)) i ⌝ }
 {
+    let at = Limits::STEP_BYTES * i;
     Origin {
-        how: how_at(proof, i),
-        which: which_at(proof, i),
-        first: first_at(proof, i),
-        second: second_at(proof, i),
+        how: u8_at(proof, at + STEP_HOW),
+        which: u8_at(proof, at + STEP_WHICH),
+        first: u16_at(proof, at + STEP_FIRST),
+        second: u16_at(proof, at + STEP_SECOND),
     }
 }
 

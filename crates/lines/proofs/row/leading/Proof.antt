@@ -38,9 +38,7 @@ here c = ap not (told isZero (getD (c .before .before .before .before .args .t1)
     (search (needs, c .before)) (c .is-zero .ensures))
 
 returns : tie.Need-returns Inv-loop μ-loop
-returns c =
-    let a = c .before .before .before .before in
-    let n : length (a .before .args .t1) ≡ limit.rationals = search needs in
+returns c = let a = c .before .before .before .before in let n : length (a .before .args .t1) ≡ limit.rationals = search needs in
     sym (leading-at (a .before .args .t1) (a .loop .i) (a .before .args .rest) (a .loop .inv .none) (omega arith)
     (here (c .before) ∙ c .if1 .taken))
 

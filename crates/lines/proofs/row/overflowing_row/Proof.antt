@@ -38,9 +38,7 @@ here c = ap not (told inRange (getD (c .before .before .before .before .args .t1
     (search (needs, c .before)) (c .in-range .ensures))
 
 returns : tie.Need-returns Inv-loop μ-loop
-returns c =
-    let a = c .before .before .before .before in
-    let n : length (a .before .args .t1) ≡ limit.rationals = search needs in
+returns c = let a = c .before .before .before .before in let n : length (a .before .args .t1) ≡ limit.rationals = search needs in
     sym (any-at (pos 0) (λ z. not (inRange z)) (a .before .args .t1) (a .loop .i) (omega arith) (here (c .before) ∙ c .if1 .taken))
 
 add-i : tie.Need-add-i Inv-loop μ-loop

@@ -1,5 +1,6 @@
 -- `constraint::sum` meets its contract: the sum so far and that of what is left come to the same.
 use mathlib.Core.Path.{_≡_, _∙_}
+use Prim.Native.Nat.{_+_, _≤_}
 use native.Mathlib.Omega.{arith}
 use borrow.Author.Needs.{needs, sfits-of}
 use lib.IntN.{pos, _+ℤ_, _*ℤ_}
@@ -8,7 +9,7 @@ use mir.Syntax.{w64}
 use mir.Val.{toZ, ofZ}
 use mir.Facts.{toZ-ofZ}
 use Rattle.rows.specs.Products.{amount-bits}
-use Rattle.problem_scan.specs.Values.{amountAt}
+use Rattle.problem_scan.specs.Values.{amountAt, behind}
 use Rattle.problem_scan.specs.Sound.{Amount}
 use Rattle.models.specs.Model.{value}
 use Rattle.model_check.specs.Sum.{Summing, summing-start, summing-done, summing-within, summing-amount, summing-next}
@@ -26,16 +27,16 @@ loop-holds c =
     let s = c .before in
     summing-start (s .args .input .now) (s .args .t4) (s .args .from) (s .args .count) (s .pre .1 .1 .0)
 
-amount-at-requires : tie.Need-amount-at-requires Inv-loop μ-loop
-amount-at-requires c κs =
+-- the coefficient is one of them
+within : (c : tie.In-loop Inv-loop μ-loop) → let a = c .before .before .before .args in
+    c .before .loop .at + 4 ≤ behind 4 (a .count) (a .from)
+within c =
     let l = c .before .loop in
-    let s = c .before .before .before in
-    omega (
-      arith,
-      summing-within (s .args .input .now) (s .args .t4) (s .args .from) (s .args .count) (l .at) (l .left) (l .i)
-          (toZ w64 (l .total)) (l .inv) (c .loop-test .taken),
-      s .pre .1 .0,
-    )
+    let a = c .before .before .before .args in
+    summing-within (a .input .now) (a .t4) (a .from) (a .count) (l .at) (l .left) (l .i) (toZ w64 (l .total)) (l .inv) (c .loop-test .taken)
+
+amount-at-requires : tie.Need-amount-at-requires Inv-loop μ-loop
+amount-at-requires c κs = omega (arith, within c, c .before .before .before .pre .1 .0)
 
 mul-x : tie.Need-mul-x Inv-loop μ-loop
 mul-x c = let l = c .before .before .loop in omega (arith, l .inv .place, c .before .before .before .before .pre .0)
@@ -73,15 +74,8 @@ plus-product-requires c κs =
 add-at : tie.Need-add-at Inv-loop μ-loop
 add-at c =
     let t = c .before .before .before in
-    let l = t .before .loop in
     let s = t .before .before .before in
-    omega (
-      arith,
-      summing-within (s .args .input .now) (s .args .t4) (s .args .from) (s .args .count) (l .at) (l .left) (l .i)
-          (toZ w64 (l .total)) (l .inv) (t .loop-test .taken),
-      s .pre .1 .0,
-      s .good,
-    )
+    omega (arith, within t, s .pre .1 .0, s .good)
 
 sub-left : tie.Need-sub-left Inv-loop μ-loop
 sub-left c = search needs

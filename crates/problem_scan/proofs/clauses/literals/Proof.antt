@@ -21,10 +21,9 @@ returns : tie.Need-returns Inv-loop μ-loop
 returns c =
     let t = c .before in
     let l = t .before .loop in
-    let s = t .before .before in
-    let q = s .args .input .now in
-    run-stop q (literal (s .args .b)) (s .args .from) (s .args .count) (l .at) (l .left) (l .inv) _ (t .loop-test .taken)
-    (sym (literal-short q (l .at) (s .args .b) (l .inv .within) (c .if1 .taken))) _ _ refl
+    let a = t .before .before .args in
+    run-stop (a .input .now) (literal (a .b)) (a .from) (a .count) (l .at) (l .left) (l .inv) _ (t .loop-test .taken)
+    (sym (literal-short (a .input .now) (l .at) (a .b) (l .inv .within) (c .if1 .taken))) _ _ refl
 
 shared-slice-read-if2 : tie.Need-shared-slice-read-if2 Inv-loop μ-loop
 shared-slice-read-if2 c = search needs
@@ -33,10 +32,9 @@ returns-2 : tie.Need-returns-2 Inv-loop μ-loop
 returns-2 c =
     let e = c .before .before in
     let l = e .before .before .loop in
-    let s = e .before .before .before in
-    let q = s .args .input .now in
-    run-stop q (literal (s .args .b)) (s .args .from) (s .args .count) (l .at) (l .left) (l .inv) _ (e .before .loop-test .taken)
-    (sym (literal-bad q (l .at) (s .args .b) (e .if1 .left) (c .if2 .taken))) _ _ refl
+    let a = e .before .before .before .args in
+    run-stop (a .input .now) (literal (a .b)) (a .from) (a .count) (l .at) (l .left) (l .inv) _ (e .before .loop-test .taken)
+    (sym (literal-bad (a .input .now) (l .at) (a .b) (e .if1 .left) (c .if2 .taken))) _ _ refl
 
 add-at : tie.Need-add-at Inv-loop μ-loop
 add-at c = search needs
@@ -51,10 +49,9 @@ loop-again : tie.Need-loop-again Inv-loop μ-loop
 loop-again c =
     let e = c .before .before in
     let l = e .before .before .loop in
-    let s = e .before .before .before in
-    let q = s .args .input .now in
-    run-next q (literal (s .args .b)) (s .args .from) (s .args .count) (l .at) (l .left) (l .inv) _ (e .before .loop-test .taken)
-    (sym (literal-good q (l .at) (s .args .b) (e .if1 .left) (c .if2 .left))) (steady-literal q (s .args .b)) _ refl
+    let a = e .before .before .before .args in
+    run-next (a .input .now) (literal (a .b)) (a .from) (a .count) (l .at) (l .left) (l .inv) _ (e .before .loop-test .taken)
+    (sym (literal-good (a .input .now) (l .at) (a .b) (e .if1 .left) (c .if2 .left))) (steady-literal (a .input .now) (a .b)) _ refl
 
 returns-3 : tie.Need-returns-3 Inv-loop μ-loop
 returns-3 c =

@@ -23,22 +23,16 @@ long-enough c = le-leb limit.stepBytes (c .before .args .n) (c .if1 .left)
 returns-2 : tie.Need-returns-2
 unfolding wholeSteps
 returns-2 c =
-    let e = c .before .before in
-    let s = e .before in
-    rw (
-      long-enough e,
-      lt-leb (s .args .n) (limit.proofBytes (s .args .limits)) (omega (arith, c .if2 .taken, c .before .proof-bytes .ensures)),
-    )
+    let s = c .before .before .before in
+    let h = lt-leb (s .args .n) (limit.proofBytes (s .args .limits)) (omega (arith, c .if2 .taken, c .before .proof-bytes .ensures)) in
+    rw (long-enough (c .before .before), h)
 
 returns-3 : tie.Need-returns-3
 unfolding wholeSteps
 returns-3 c =
-    let e = c .before .before in
-    let s = e .before in
-    rw (
-      long-enough e,
-      le-leb (s .args .n) (limit.proofBytes (s .args .limits)) (omega (arith, c .if2 .left, c .before .proof-bytes .ensures)),
-    )
+    let s = c .before .before .before in
+    let h = le-leb (s .args .n) (limit.proofBytes (s .args .limits)) (omega (arith, c .if2 .left, c .before .proof-bytes .ensures)) in
+    rw (long-enough (c .before .before), h)
 
 pub whole-steps-spec : {M : Type 1} → statement M
 whole-steps-spec = tie.close (tie.spec returns proof-bytes-requires returns-2 returns-3)

@@ -1,6 +1,9 @@
 -- `load::loaded` meets its contract. Assumes nothing.
+use mathlib.Core.Path.{_≡_, ap}
 use native.Mathlib.Omega.{arith}
 use lib.ListN.{getD}
+use Rattle.steps.specs.declared.origin.Origin.{Origin}
+use Rattle.step_check.specs.Named.{clause, part}
 use Rattle.step_check.specs.Stated.{states-none}
 use Rattle.step_check.specs.Resolvents.{states-same}
 use Rattle.proof_check.specs.Index.{Entry}
@@ -9,20 +12,21 @@ use borrow.Author.Needs.{needs}
 use Rattle.proof_check.proofs.load.loaded.Statement.{statement}
 use Rattle.proof_check.proofs.load.loaded.Tie as tie
 
-slice-aggregate-first-at : tie.Need-slice-aggregate-first-at
-slice-aggregate-first-at c = search needs
+slice-aggregate-origin-at : tie.Need-slice-aggregate-origin-at
+slice-aggregate-origin-at c = search needs
 
-first-at-requires : tie.Need-first-at-requires
-first-at-requires c κs = search needs
+origin-at-requires : tie.Need-origin-at-requires
+origin-at-requires c κs = search needs
 
-slice-aggregate-second-at : tie.Need-slice-aggregate-second-at
-slice-aggregate-second-at c = search needs
+abbrev start : tie.After-origin-at → tie.Start
+start k = k .before .before .before .before .before
 
-second-at-requires : tie.Need-second-at-requires
-second-at-requires c κs = search needs
+-- the clause and the part that the bytes name
+named-clause : (k : tie.After-origin-at) → k .origin-at .result .first ≡ clause (start k .args .t5)
+named-clause k = ap (λ (o : Origin). o .first) (k .origin-at .ensures)
 
-abbrev start : tie.After-second-at → tie.Start
-start k = k .before .before .before .before .before .before .before
+named-part : (k : tie.After-origin-at) → k .origin-at .result .second ≡ part (start k .args .t5)
+named-part k = ap (λ (o : Origin). o .second) (k .origin-at .ensures)
 
 unstated-requires : tie.Need-unstated-requires
 unstated-requires c κs = search needs
@@ -32,7 +36,7 @@ returns c =
     let k = c .before .before .before in
     let s = start k in
     states-none (s .args .t5) (c .unstated .result) (c .unstated .ensures)
-    (loaded-beyond (s .pre .readable) (s .args .t5) (omega (arith, c .before .if1 .taken, k .before .before .first-at .ensures)))
+    (loaded-beyond (s .pre .readable) (s .args .t5) (omega (arith, c .before .if1 .taken, named-clause k)))
 
 mul-part : tie.Need-mul-part
 mul-part c = search needs
@@ -41,21 +45,21 @@ shared-slice-read-part : tie.Need-shared-slice-read-part
 shared-slice-read-part c = search needs
 
 cast-part : tie.Need-cast-part
-cast-part c = omega (arith, c .shared-slice-known4 .given (c .before .before .before .before .before .first-at .result))
+cast-part c = omega (arith, c .shared-slice-known4 .given (c .before .before .before .origin-at .result .first))
 
 shared-slice-read-part-2 : tie.Need-shared-slice-read-part-2
 shared-slice-read-part-2 c = search needs
 
 cast-part-2 : tie.Need-cast-part-2
-cast-part-2 c = omega (arith, c .shared-slice-known5 .given (c .before .before .before .before .before .before .first-at .result))
+cast-part-2 c = omega (arith, c .shared-slice-known5 .given (c .before .before .before .before .origin-at .result .first))
 
 -- the entry of the clause that the bytes name
 entry : (c : tie.Else1) → let k = c .before .before in let a = start k .args in let n =
-    k .before .before .first-at .result in
+    k .origin-at .result .first in
     Entry (a .input .now) (a .sizes) (getD (a .places .now) n 0)
     (getD (a .variables .now) n 0) n
 entry c = let k = c .before .before in start k .pre .entries
-    (k .before .before .first-at .result) (omega (arith, c .if1 .left))
+    (k .origin-at .result .first) (omega (arith, c .if1 .left))
 
 part-requires : tie.Need-part-requires
 part-requires c κs =
@@ -78,17 +82,15 @@ returns-2 c =
     let k = e .before .before in
     let s = start k in
     states-same (loaded-found (s .pre .readable) (s .args .t5) (p .part .result)
-    (k .before .before .first-at .ensures) (k .second-at .ensures)
+    (named-clause k) (named-part k)
     (entry e) (p .part .ensures .0)) (rw (o .loaded .ensures) at (c .compared .ensures))
 
 pub loaded-spec : {M : Type 1} → statement M
 loaded-spec =
     tie.close
     (tie.spec
-    slice-aggregate-first-at
-    first-at-requires
-    slice-aggregate-second-at
-    second-at-requires
+    slice-aggregate-origin-at
+    origin-at-requires
     unstated-requires
     returns
     mul-part

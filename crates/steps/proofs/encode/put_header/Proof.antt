@@ -3,11 +3,11 @@ use mathlib.Core.Path.{ap, _∙_}
 use mathlib.Core.List.{List}
 use Prim.Native.Nat.{ℕ}
 use native.Mathlib.Omega.{arith}
-use lib.ListN.{set, length-set}
+use lib.ListN.{length-set}
 use Rattle.rules_types.specs.Layout.{stepHow, stepWhich, stepSecond}
 use Rattle.rules.specs.Bytes.{toBytes}
 use Rattle.rules.specs.Steps.{headerBytes}
-use Rattle.fields.specs.Field.{stored}
+use Rattle.fields.specs.Field.{length-sets, stored}
 use Rattle.theory_bytes.specs.Bytes.{length-toBytes}
 use Rattle.steps.specs.Encoding.{fields-stored}
 use borrow.Author.Needs.{needs}
@@ -23,36 +23,25 @@ slice-write-s-2 c = simp length-set (omega arith)
 put-u16-requires : tie.Need-put-u16-requires
 put-u16-requires c κs = simp length-set (omega arith)
 
-abbrev start : tie.After-put-u16 → tie.Start
-start k = k .before .before .before
-
 put-u16-requires-2 : tie.Need-put-u16-requires-2
 put-u16-requires-2 c κs =
     let k = c .before .before .before in
-    let s = start k .args in
-    let first = set (s .s .now) stepHow (s .origin .how) in
-    omega (
-      arith,
-      k .put-u16 .kept .0,
-      length-set first stepWhich (s .origin .which),
-      length-set (s .s .now) stepHow (s .origin .how),
-    )
+    let s = k .before .before .before .args in
+    omega (arith, k .put-u16 .kept .0, length-sets (s .s .now) stepHow (s .origin .how) stepWhich (s .origin .which))
 
 same-length : tie.Need-same-length
 same-length c =
     let q = c .before .before in
     let k = q .before .before .before .before in
-    let s = start k .args in
-    let first = set (s .s .now) stepHow (s .origin .how) in
-    q .put-u162 .kept .0 ∙ k .put-u16 .kept .0
-    ∙ length-set first stepWhich (s .origin .which) ∙ length-set (s .s .now) stepHow (s .origin .how)
+    let s = k .before .before .before .args in
+    q .put-u162 .kept .0 ∙ k .put-u16 .kept .0 ∙ length-sets (s .s .now) stepHow (s .origin .how) stepWhich (s .origin .which)
 
 returns : tie.Need-returns
 unfolding headerBytes
 returns c =
     let q = c .before .before in
     let k = q .before .before .before .before in
-    let e = start k in
+    let e = k .before .before .before in
     let s = e .args in
     q .put-u162 .ensures
     ∙ ap (λ (t : List ℕ). stored stepSecond (toBytes 2 (s .origin .second)) t)

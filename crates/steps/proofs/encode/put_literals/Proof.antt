@@ -3,10 +3,10 @@ use mathlib.Core.Path.{ap, _∙_}
 use mathlib.Core.List.{List}
 use Prim.Native.Nat.{ℕ, _+_}
 use native.Mathlib.Omega.{arith}
-use lib.ListN.{set, length-set}
+use lib.ListN.{length-set}
 use Rattle.rules_types.specs.Layout.{stepRelation, stepNegative}
 use Rattle.rules.specs.Bytes.{toBytes}
-use Rattle.fields.specs.Field.{stored}
+use Rattle.fields.specs.Field.{length-sets, stored}
 use Rattle.theory_bytes.specs.Bytes.{length-toBytes}
 use Rattle.steps.specs.Encoding.{fields-stored}
 use borrow.Author.Needs.{needs}
@@ -25,35 +25,24 @@ slice-write-s-2 c = simp length-set (omega arith)
 put-u32-requires : tie.Need-put-u32-requires
 put-u32-requires c κs = simp length-set (omega arith)
 
-abbrev start : tie.After-put-u32 → tie.Start
-start k = k .before .before .before
-
 put-u32-requires-2 : tie.Need-put-u32-requires-2
 put-u32-requires-2 c κs =
     let k = c .before .before .before in
-    let s = start k .args in
-    let first = set (s .s .now) stepRelation (s .relation) in
-    omega (
-      arith,
-      k .put-u32 .kept .0,
-      length-set first (stepRelation + 1) 0,
-      length-set (s .s .now) stepRelation (s .relation),
-    )
+    let s = k .before .before .before .args in
+    omega (arith, k .put-u32 .kept .0, length-sets (s .s .now) stepRelation (s .relation) (stepRelation + 1) 0)
 
 same-length : tie.Need-same-length
 same-length c =
     let q = c .before .before in
     let k = q .before .before .before .before in
-    let s = start k .args in
-    let first = set (s .s .now) stepRelation (s .relation) in
-    q .put-u322 .kept .0 ∙ k .put-u32 .kept .0
-    ∙ length-set first (stepRelation + 1) 0 ∙ length-set (s .s .now) stepRelation (s .relation)
+    let s = k .before .before .before .args in
+    q .put-u322 .kept .0 ∙ k .put-u32 .kept .0 ∙ length-sets (s .s .now) stepRelation (s .relation) (stepRelation + 1) 0
 
 returns : tie.Need-returns
 returns c =
     let q = c .before .before in
     let k = q .before .before .before .before in
-    let e = start k in
+    let e = k .before .before .before in
     let s = e .args in
     q .put-u322 .ensures
     ∙ ap (λ (t : List ℕ). stored stepNegative (toBytes 4 (s .negative)) t)

@@ -55,13 +55,16 @@ returns c =
     let i = a .before in
     let l = i .before .loop in
     let s = entry (i .before) in
-    let ls = linesIn (s .args .proof .now) (s .args .n) in
     let next = a .assign-rational .result in
     let t : next .written ≡ false = search (needs, not-true, not-false) in
     let e = rw t at (a .assign-rational .ensures) in
     let z = narrow-lines (s .args .proof .now) (s .args .n) (s .args .r) (s .pre .1 .0) (s .pre .1 .1 .1) in
     let h : l .f - 1 < limit.rationals = omega (arith, l .inv .0, i .loop-test .taken) in
-    rw t (λ b. walking-stop ls (Rational (l .f - 1)) h (l .model) (walking i) (s .args .r) (s .pre .1 .1 .0) z (next .model) e b, tt)
+    rw t (
+      λ b. walking-stop (linesIn (s .args .proof .now) (s .args .n)) (Rational (l .f - 1)) h (l .model) (walking i) (s .args .r)
+          (s .pre .1 .1 .0) z (next .model) e b,
+      tt,
+    )
 
 loop-less : tie.Need-loop-less Inv-loop μ-loop
 loop-less c = search needs
@@ -73,12 +76,13 @@ loop-again c =
     let i = a .before in
     let l = i .before .loop in
     let s = entry (i .before) in
-    let ls = linesIn (s .args .proof .now) (s .args .n) in
     let next = a .assign-rational .result in
     let t : next .written ≡ true = search (needs, not-true, not-false) in
     let e = rw t at (a .assign-rational .ensures) in
-    let h : l .f - 1 < limit.rationals = omega (arith, l .inv .0, i .loop-test .taken) in
-    (omega (arith, h), walking-next ls (Rational (l .f - 1)) h (l .model) (walking i) (next .model) e)
+    let h : l .f - 1 < limit.rationals = omega (arith, l .inv .0, i .loop-test .taken) in (
+      omega (arith, h),
+      walking-next (linesIn (s .args .proof .now) (s .args .n)) (Rational (l .f - 1)) h (l .model) (walking i) (next .model) e,
+    )
 
 returns-2 : tie.Need-returns-2 Inv-loop μ-loop
 returns-2 c =

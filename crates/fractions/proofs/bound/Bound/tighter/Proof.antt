@@ -31,23 +31,15 @@ returns-3 : tie.Need-returns-3
 unfolding tighter
 returns-3 c =
     let e = c .before .before in
-    rw (
-      e .before .before .before .self .given .1,
-      sym (e .before .precedes .ensures)
-          ∙ e .if1 .left,
-      sym (c .before .precedes2 .ensures) ∙ c .if2 .taken,
-    )
+    let h = sym (e .before .precedes .ensures) ∙ e .if1 .left in
+    rw (e .before .before .before .self .given .1, h, sym (c .before .precedes2 .ensures) ∙ c .if2 .taken)
 
 returns-4 : tie.Need-returns-4
 unfolding tighter
 returns-4 c =
     let e = c .before .before in
-    rw (
-      e .before .before .before .self .given .1,
-      sym (e .before .precedes .ensures)
-          ∙ e .if1 .left,
-      sym (c .before .precedes2 .ensures) ∙ c .if2 .left,
-    )
+    let h = sym (e .before .precedes .ensures) ∙ e .if1 .left in
+    rw (e .before .before .before .self .given .1, h, sym (c .before .precedes2 .ensures) ∙ c .if2 .left)
 
 pub tighter-spec : {M : Type 1} → statement M
 tighter-spec =
