@@ -38,7 +38,8 @@ returns-2 c =
     let k = c .before .before .before in
     let s = start k in
     let a = s .args in
-    let none-loaded = loaded-other (s .pre .0 .readable) (a .t7) (λ e. c .before .if1 .left (ap (λ (o : Origin). o .how) (k .origin-at .ensures) ∙ e)) in
+    let none-loaded = loaded-other (s .pre .0 .readable) (a .t7)
+    (λ e. c .before .if1 .left (ap (λ (o : Origin). o .how) (k .origin-at .ensures) ∙ e)) in
     states-same (stated-derived (loadableOf (problemAt (a .input .now) (a .sizes))) (linesIn (a .proof .now) (a .i)) (a .t7)
     none-loaded) (c .derived .ensures)
 
