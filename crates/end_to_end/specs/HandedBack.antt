@@ -1,63 +1,86 @@
--- What `jemuling_hand_back` gives after `jemuling_solve`, with what that returned and left: the contracts (jemuling/src/calls.rt) are the
--- premises.
-use mathlib.Core.Path.{_≡_, refl, sym, ap, _∙_}
+-- What joins several calls: `jemuling_hand_back` with the number, the value and the buffers that `jemuling_solve` returned and left, and
+-- the check of what it hands back. The premises are the records of the calls' own `ensures` (jemuling/specs/Promised.antt).
+use mathlib.Core.Path.{_≡_, refl, sym, ap, _∙_, subst}
 use mathlib.Core.Logic.{_⊎_, ⊎-elim, inl, inr}
 use mathlib.Core.List.{List}
 use Prim.Native.Nat.{ℕ, _*_}
 use native.Mathlib.Omega.{arith}
 use lib.ListN.{take}
-use Rattle.rules_types.specs.Limits as limit
 use Rattle.rules_types.specs.declared.answers.Verdict.the-variants.{Satisfiable, Unsatisfiable}
+use Rattle.rules_types.specs.declared.answers.Answer.{Answer}
+use Rattle.rules_types.specs.declared.answers.Answer.the-variants.{Decided, Refused}
 use Rattle.rules_types.specs.declared.answers.Checked.the-variants.{Accepted}
 use Rattle.rules_types.specs.declared.answers.Evidence.{Evidence}
 use Rattle.rules_types.specs.declared.answers.Evidence.the-variants.{OfProof, OfModel}
+use Rattle.rules_types.specs.Limits as limit
 use Rattle.rules_types.specs.Limits.{standard}
-use Rattle.rules_types.specs.Answers.{verdictNumber, evidenceNumber, evidenceLength}
-use Rattle.rules.specs.Calls.{proofChecked, modelChecked, evidence, evidenceBytes}
+use Rattle.rules_types.specs.Answers.{verdictNumber, answerNumber, answerValue}
+use Rattle.rules.specs.Calls.{Solving, proofChecked, modelChecked}
+use Rattle.theory_checks.specs.ProofChecked.{CheckedProof, checked-proof}
+use Rattle.theory_checks.specs.ModelChecked.{CheckedModel, model-checked-satisfies}
+use Rattle.promises.specs.Words.{Comes, IsRefused}
+use Rattle.promises.specs.Handing.{Hands}
+use Rattle.promises.specs.HandedBack.{HandedBack, handed-after}
 use Rattle.jemuling.specs.declared.told.Told.{Told}
 use Rattle.jemuling.specs.declared.told.SolvedTold.{SolvedTold}
-use Rattle.jemuling.specs.Told.{evidenceTold}
-use Rattle.end_to_end.specs.Solving.{Delivered}
+use Rattle.jemuling.specs.Promised.{Delivered, BookChecked, SheetChecked, PartHanded}
 
 -- "Handing back gives the caller the sheet's 64 bytes after "agrees" and the used lines of the book after "cannot agree"", and demand 2:
--- the
--- check accepts "every non-empty part our solver hands back"
+-- the check accepts "every non-empty part our solver hands back"
 pub record Handed (input : List ℕ) (told : SolvedTold) (proof model : List ℕ) (t : Told) : Type 0 where
-  pub afterSatisfiable : told .number ≡ 64 → (t .number ≡ 70) × (t .value ≡ limit.modelBytes)
-  pub afterUnsatisfiable : told .number ≡ 65 → (t .number ≡ 69) × (t .value ≡ limit.stepBytes * told .value)
-  pub ofModel : t .number ≡ 70 → modelChecked input (take (t .value) model) ≡ Accepted
-  pub ofProof : t .number ≡ 69 → (t .value ≡ 0) ⊎ (proofChecked standard input (take (t .value) proof) ≡ Accepted)
+  pub afterSatisfiable : told .number ≡ verdictNumber Satisfiable → (t .number ≡ 70) × (t .value ≡ limit.modelBytes)
+  pub afterUnsatisfiable : told .number ≡ verdictNumber Unsatisfiable → (t .number ≡ 69) × (t .value ≡ limit.stepBytes * told .value)
+  pub ofModel : t .number ≡ 70 → (check : Told) → SheetChecked input (take (t .value) model) check → check .number ≡ 67
+  pub ofProof : t .number ≡ 69
+      → (t .value ≡ 0) ⊎ ((check : Told) → BookChecked input (take (t .value) proof) check → check .number ≡ 67)
 
 module _ {input lentProof lentModel : List ℕ} {told : SolvedTold} {proof model : List ℕ}
     (d : Delivered input lentProof lentModel told proof model) where
-  abbrev part : Evidence
-  part = d .back .part
+  abbrev ours : Solving
+  ours = d .ours
 
-  the-part : (t : Told) → t ≡ evidenceTold (evidence standard (told .number) (told .value) proof model) → t ≡ evidenceTold part
-  the-part t given = given ∙ (λ i. evidenceTold (evidence standard (d .number i) (d .value i) (d .leavesProof i) (d .leavesModel i)))
-      ∙ ap evidenceTold (sym (d .back .handed))
+  number-is : (a : Answer) → a ≡ ours .solved .answer → told .number ≡ answerNumber a
+  unfolding answerNumber
+  number-is (Decided v n) e = d .tells .verdict v .1 (subst (Comes v) e refl)
+  number-is (Refused f n) e = d .tells .refusal f .1 (subst (IsRefused f) e refl)
 
-  of-model : (e : Evidence) → part ≡ e → evidenceNumber e ≡ 70 → modelChecked input (take (evidenceLength e) model) ≡ Accepted
-  unfolding evidenceNumber evidenceLength evidenceBytes
-  of-model (OfProof n) i h = absurd (omega arith)
-  of-model (OfModel n) i h = ap (λ (s : List ℕ). modelChecked input (take n s)) (d .leavesModel) ∙ (rw i at (d .back .ofModel n i))
+  module _ {t : Told} (h : PartHanded (told .number) (told .value) proof model t) where
+    back : HandedBack standard input ours (h .part)
+    back =
+        handed-after standard input lentProof lentModel ours (d .first) (d .third) (h .part)
+        (subst (λ (n : ℕ). Hands standard n (answerValue (ours .solved .answer)) (ours .proof) (ours .model) (h .part))
+        (number-is (ours .solved .answer) refl)
+        (subst (λ (n : ℕ). Hands standard (told .number) n (ours .proof) (ours .model) (h .part)) (d .tells .value)
+        (subst (λ (s : List ℕ). Hands standard (told .number) (told .value) s (ours .model) (h .part)) (d .leavesProof)
+        (subst (λ (s : List ℕ). Hands standard (told .number) (told .value) proof s (h .part)) (d .leavesModel) (h .hands)))))
 
-  of-proof : (e : Evidence) → part ≡ e → evidenceNumber e ≡ 69 → (evidenceLength e ≡ 0)
-      ⊎ (proofChecked standard input (take (evidenceLength e) proof) ≡ Accepted)
-  unfolding evidenceNumber evidenceLength evidenceBytes
-  of-proof (OfProof n) i h = ⊎-elim (λ z. inl z)
-      (λ a. inr (ap (λ (s : List ℕ). proofChecked standard input (take n s)) (d .leavesProof) ∙ (rw i at a))) (d .back .ofProof n i)
-  of-proof (OfModel n) i h = absurd (omega arith)
+    model-checked : (n : ℕ) → h .part ≡ OfModel n → (check : Told) → SheetChecked input (take n model) check → check .number ≡ 67
+    model-checked n e check k =
+        let a = subst (λ (s : List ℕ). modelChecked input (take n s) ≡ Accepted) (sym (d .leavesModel)) (back .ofModel n e) in
+        let c : CheckedModel input (take n model) = model-checked-satisfies input (take n model) a in
+        k .tells .accepted .1 (k .checks .accepted (c .problem) (c .reads) .1
+        (d .second (c .problem) (c .reads) .model (take n model) .0 a))
 
-  pub handed : (t : Told) → t ≡ evidenceTold (evidence standard (told .number) (told .value) proof model) → Handed input told proof model t
-  unfolding evidenceTold evidenceNumber evidenceLength verdictNumber
-  handed t given =
-      let p = the-part t given in
-      record {
-        afterSatisfiable = λ e. let i = p ∙ ap evidenceTold (d .back .afterSatisfiable (d .verdict Satisfiable .0 e)) in
-            (ap (λ (t : Told). t .number) i, ap (λ (t : Told). t .value) i);
-        afterUnsatisfiable = λ e. let i = p ∙ ap evidenceTold (d .back .afterUnsatisfiable (d .verdict Unsatisfiable .0 e)) in
-            (ap (λ (t : Told). t .number) i, ap (λ (t : Told). t .value) i ∙ ap (λ (k : ℕ). limit.stepBytes * k) (sym (d .value)));
-        ofModel = λ e. rw p (of-model part refl (sym (ap (λ (t : Told). t .number) p) ∙ e));
-        ofProof = λ e. rw p (of-proof part refl (sym (ap (λ (t : Told). t .number) p) ∙ e));
-      }
+    proof-checked : (n : ℕ) → h .part ≡ OfProof n
+        → (n ≡ 0) ⊎ ((check : Told) → BookChecked input (take n proof) check → check .number ≡ 67)
+    proof-checked n e = ⊎-elim (λ z. inl z) (λ b. inr (accepted b)) (back .ofProof n e)
+      where
+        accepted : proofChecked standard input (take n (ours .proof)) ≡ Accepted → (check : Told) → BookChecked input (take n proof) check
+            → check .number ≡ 67
+        accepted b check k =
+            let a = subst (λ (s : List ℕ). proofChecked standard input (take n s) ≡ Accepted) (sym (d .leavesProof)) b in
+            let c : CheckedProof input (take n proof) = checked-proof standard input (take n proof) a in
+            k .tells .accepted .1 (k .checks .accepted (c .problem) (c .reads) .1
+            (d .second (c .problem) (c .reads) .proof standard (omega arith) (take n proof) .0 a))
+
+    pub handed : Handed input told proof model t
+    handed =
+        record {
+          afterSatisfiable = λ e. h .tells .ofModel limit.modelBytes .1 (back .afterSatisfiable (d .tells .verdict Satisfiable .0 e));
+          afterUnsatisfiable = λ e.
+              let i = h .tells .ofProof (limit.stepBytes * answerValue (ours .solved .answer)) .1
+              (back .afterUnsatisfiable (d .tells .verdict Unsatisfiable .0 e)) in
+              (i .0, i .1 ∙ ap (λ (k : ℕ). limit.stepBytes * k) (sym (d .tells .value)));
+          ofModel = λ e. model-checked (t .value) (h .tells .ofModel (t .value) .0 (e, refl));
+          ofProof = λ e. proof-checked (t .value) (h .tells .ofProof (t .value) .0 (e, refl));
+        }

@@ -1,3 +1,1 @@
-pub mod Checks
-pub mod Solving
 pub mod HandedBack

@@ -1,4 +1,5 @@
-// The calls. None has a `requires`: nothing checks C's arguments but the code itself.
+// The calls. None has a `requires`: nothing checks C's arguments but the code itself. Each is equal to document 01's definition, and
+// keeps what the demands promise of it (specs/Promised.antt).
 use crate::evidence::evidence;
 use crate::told::SolvedTold;
 use crate::told::Told;
@@ -13,6 +14,7 @@ ghost use mathlib.Core.Path.{_≡_};
 ghost use Rattle.rules_types.specs.Limits.{standard};
 ghost use Rattle.rules.specs.Calls.{solve, proofChecked, modelChecked, evidence};
 ghost use Rattle.jemuling.specs.Told.{solvedTold, checkedTold, evidenceTold};
+ghost use Rattle.jemuling.specs.Promised.{Delivered, BookChecked, SheetChecked, PartHanded};
 
 // Whether a problem can be satisfied, with a model or a proof that shows it.
 #[no_mangle]
@@ -20,6 +22,7 @@ pub extern "C" fn jemuling_solve(input: &[u8], proof: &mut [u8], model: &mut [u8
     ensures { λ t. ⌜ t ≡ solvedTold (solve standard (now (input .entry)) (now (proof .entry)) (now (model .entry)) .solved) ⌝ }
     ensures { λ _. ⌜ now (proof .exit) ≡ solve standard (now (input .entry)) (now (proof .entry)) (now (model .entry)) .proof ⌝ }
     ensures { λ _. ⌜ now (model .exit) ≡ solve standard (now (input .entry)) (now (proof .entry)) (now (model .entry)) .model ⌝ }
+    ensures { λ t. ⌜ Delivered (now (input .entry)) (now (proof .entry)) (now (model .entry)) t (now (proof .exit)) (now (model .exit)) ⌝ }
 {
     solved_told(solve(input, proof, model))
 }
@@ -28,6 +31,7 @@ pub extern "C" fn jemuling_solve(input: &[u8], proof: &mut [u8], model: &mut [u8
 #[no_mangle]
 pub extern "C" fn jemuling_check_book(input: &[u8], proof: &[u8]) -> Told
     ensures { λ t. ⌜ t ≡ checkedTold (proofChecked standard (now (input .entry)) (now (proof .entry))) ⌝ }
+    ensures { λ t. ⌜ BookChecked (now (input .entry)) (now (proof .entry)) t ⌝ }
 {
     checked_told(check_standard(input, proof))
 }
@@ -36,6 +40,7 @@ pub extern "C" fn jemuling_check_book(input: &[u8], proof: &[u8]) -> Told
 #[no_mangle]
 pub extern "C" fn jemuling_check_sheet(input: &[u8], model: &[u8]) -> Told
     ensures { λ t. ⌜ t ≡ checkedTold (modelChecked (now (input .entry)) (now (model .entry))) ⌝ }
+    ensures { λ t. ⌜ SheetChecked (now (input .entry)) (now (model .entry)) t ⌝ }
 {
     checked_told(check_model(input, model))
 }
@@ -44,6 +49,7 @@ pub extern "C" fn jemuling_check_sheet(input: &[u8], model: &[u8]) -> Told
 #[no_mangle]
 pub extern "C" fn jemuling_hand_back(number: u64, lines: usize, proof: &[u8], model: &[u8]) -> Told
     ensures { λ t. ⌜ t ≡ evidenceTold (evidence standard number lines (now (proof .entry)) (now (model .entry))) ⌝ }
+    ensures { λ t. ⌜ PartHanded number lines (now (proof .entry)) (now (model .entry)) t ⌝ }
 {
     evidence_told(evidence(Limits::standard(), number, lines, proof, model))
 }

@@ -1,29 +1,35 @@
 -- Demand 2, sentence by sentence, about the definitions of the elimination and of the checks.
-use mathlib.Core.Path.{_≡_, refl}
-use mathlib.Core.Logic.{_↔_, _⊎_}
+use mathlib.Core.Path.{_≡_}
+use mathlib.Core.Logic.{_↔_}
 use mathlib.Core.List.{List, []}
-use Prim.Native.Nat.{ℕ, _*_, _/_, _≤_}
+use Prim.Native.Nat.{ℕ, _≤_}
 use lib.Dec.{T}
 use lib.ListN.{length}
-use Rattle.rules_types.specs.declared.answers.Verdict.the-variants.{Satisfiable, Unsatisfiable}
 use Rattle.rules_types.specs.declared.answers.Checked.the-variants.{Accepted}
-use Rattle.rules_types.specs.declared.answers.Evidence.{Evidence}
-use Rattle.rules_types.specs.declared.answers.Evidence.the-variants.{OfProof, OfModel}
 use Rattle.rules_types.specs.declared.limits.Limits.{Limits}
 use Rattle.rules_types.specs.Limits as limit
 use Rattle.rules_types.specs.Answers.{answerNumber, answerValue}
 use Rattle.rules.specs.Problem.{Problem}
-use Rattle.rules.specs.Elimination.{Stops, order, loadableOf, elimination}
+use Rattle.rules.specs.Lines.{Line, Variable}
+use Rattle.rules.specs.Steps.{Step}
+use Rattle.rules.specs.Elimination.{Stops, State, order, covered, roundPairs, loadableOf, elimination}
 use Rattle.rules.specs.Needs.{stepsOf}
-use Rattle.rules.specs.Calls.{sound, read, Solving, solve, wholeSteps, proofChecked, modelChecked, evidence, evidenceBytes}
-use Rattle.theory_lists.specs.All.{All}
+use Rattle.rules.specs.Calls.{sound, read, solve, proofChecked, modelChecked, evidence}
+use Rattle.theory_lists.specs.All.{All, Any}
+use Rattle.theory_saturation.specs.Equal.{covered-exactly}
 use Rattle.theory_splitting.specs.Named.{PartAmong, loadable-parts}
 use Rattle.theory_elimination.specs.Origins.{Each, Justified, Fresh}
-use Rattle.theory_elimination.specs.Taken.{Complete}
-use Rattle.promises.specs.Words.{Comes, Refutes, WritesAssignment}
-use Rattle.promises.specs.Elimination.{elimination-lines, elimination-distinct, elimination-taken}
-use Rattle.promises.specs.Checked.{proof-exactly, model-exactly}
-use Rattle.promises.specs.HandedBack.{model-handed-back, proof-handed-back, satisfiable-handed, unsatisfiable-handed}
+use Rattle.theory_elimination.specs.InOrder.{InOrder, round-in-order}
+use Rattle.theory_elimination.specs.Exactly.{Exactly}
+use Rattle.theory_elimination.specs.Loaded.{AllLoaded}
+use Rattle.promises.specs.Words.{WholeLines, Refutes, WritesAssignment}
+use Rattle.promises.specs.Elimination.{elimination-lines, elimination-distinct, elimination-is, elimination-only, elimination-parts}
+use Rattle.promises.specs.Checked.{model-exactly}
+use Rattle.promises.specs.Whole.{accepted-lines}
+use Rattle.promises.specs.Handing.{hands}
+use Rattle.promises.specs.HandedBack.{HandedBack, handed-after}
+use Rattle.promises.specs.Demand1.{demand1}
+use Rattle.promises.specs.Demand3.{demand3}
 
 pub record Demand2 (input : List ℕ) (p : Problem) : Type 0 where
   -- "Our book is the course of the published Davis-Putnam and Fourier-Motzkin rules as 01 sets it out: each line is the clause or
@@ -31,12 +37,17 @@ pub record Demand2 (input : List ℕ) (p : Problem) : Type 0 where
   pub lines : (stops : Stops) → Each (Justified order (loadableOf p)) [] (stepsOf (elimination stops p))
   pub parts : All (PartAmong 0 (p .booleans) (p .clauses)) (loadableOf p)
   pub distinct : (stops : Stops) → Each Fresh [] (stepsOf (elimination stops p))
-  -- "and none is left out.": of all parts and all resolvents in 01's order, each before the one that ended the elimination is dropped by
-  -- normalizing or equals a line, and all are if none ended it; the pairs count the resolvents so far
-  pub complete : (stops : Stops) → Complete stops order (loadableOf p) (elimination stops p)
+  -- "and none is left out.": the lines are exactly the parts and resolvents in 01's order, without those that normalizing drops or an
+  -- earlier one equals, up to the one that ended it; the pairs are the resolvents counted; and no other proof is that
+  pub exactly : (stops : Stops) → Exactly stops order (loadableOf p) (elimination stops p)
+  pub only : (stops : Stops) (other : State) → Exactly stops order (loadableOf p) other → other ≡ elimination stops p
+  -- the words of that: the order of a round's pairs; which line an earlier one equals; every part before the end is loaded
+  pub inOrder : (v : Variable) (t : ℕ) (steps : List Step) → InOrder order v t steps (roundPairs order v t steps)
+  pub equal : (l : Line) (steps : List Step) → T (covered l steps) ↔ Any (λ s. s .line ≡ l) steps
+  pub loaded : (stops : Stops) → AllLoaded stops (loadableOf p) (elimination stops p)
   -- "The check accepts a book exactly if its lines follow and the last is empty, a sheet exactly if every clause holds,"
-  pub proof : (limits : Limits) → limits .steps ≤ 65536 → (bytes : List ℕ) → proofChecked limits input bytes ≡ Accepted
-      ↔ (T (wholeSteps limits (length bytes)) × Refutes (loadableOf p) (length bytes / limit.stepBytes) bytes)
+  pub proof : (limits : Limits) → limits .steps ≤ limit.mostSteps → (bytes : List ℕ) → proofChecked limits input bytes ≡ Accepted
+      ↔ ((k : ℕ) × WholeLines limits (length bytes) k × Refutes (loadableOf p) k bytes)
   pub model : (bytes : List ℕ) → modelChecked input bytes ≡ Accepted ↔ WritesAssignment p bytes
 
 pub demand2 : (input : List ℕ) (p : Problem) → read input ≡ sound p → Demand2 input p
@@ -44,30 +55,22 @@ demand2 input p e = record {
   lines = elimination-lines p;
   parts = loadable-parts p;
   distinct = elimination-distinct p;
-  complete = elimination-taken p;
-  proof = proof-exactly input p e;
+  exactly = elimination-is p;
+  only = elimination-only p;
+  inOrder = round-in-order order;
+  equal = covered-exactly;
+  loaded = elimination-parts p;
+  proof = λ limits few bytes. accepted-lines input p e limits bytes few;
   model = model-exactly input p e;
 }
 
 -- "so every non-empty part our solver hands back.": with its own answer, and what it left in the buffers
-pub record HandedBack (limits : Limits) (input : List ℕ) (ours : Solving) : Type 0 where
-  pub part : Evidence
-  pub handed : part ≡ evidence limits (answerNumber (ours .solved .answer)) (answerValue (ours .solved .answer)) (ours .proof) (ours .model)
-  pub afterSatisfiable : Comes Satisfiable (ours .solved .answer) → part ≡ OfModel limit.modelBytes
-  pub afterUnsatisfiable : Comes Unsatisfiable (ours .solved .answer)
-      → part ≡ OfProof (limit.stepBytes * answerValue (ours .solved .answer))
-  pub ofModel : (n : ℕ) → part ≡ OfModel n → modelChecked input (evidenceBytes part (ours .proof) (ours .model)) ≡ Accepted
-  pub ofProof : (n : ℕ) → part ≡ OfProof n → (n ≡ 0)
-      ⊎ (proofChecked limits input (evidenceBytes part (ours .proof) (ours .model)) ≡ Accepted)
-
-pub handed-back : (limits : Limits) → limits .steps ≤ 65536 → (input proof model : List ℕ)
-    → HandedBack limits input (solve limits input proof model)
+pub handed-back : (limits : Limits) → limits .steps ≤ limit.mostSteps → (input proof model : List ℕ)
+    → let ours = solve limits input proof model in
+    HandedBack limits input ours
+    (evidence limits (answerNumber (ours .solved .answer)) (answerValue (ours .solved .answer)) (ours .proof) (ours .model))
 handed-back limits few input proof model =
-    record {
-      part = _;
-      handed = refl;
-      afterSatisfiable = satisfiable-handed limits input proof model few;
-      afterUnsatisfiable = unsatisfiable-handed limits input proof model few;
-      ofModel = λ n e. rw e (model-handed-back limits input proof model n e);
-      ofProof = λ n e. rw e (proof-handed-back limits input proof model few n e);
-    }
+    let ours = solve limits input proof model in
+    handed-after limits input proof model ours (demand1 limits input proof model)
+    (λ p e full. demand3 limits few input p e proof model full) _
+    (hands limits (answerNumber (ours .solved .answer)) (answerValue (ours .solved .answer)) (ours .proof) (ours .model))

@@ -24,7 +24,7 @@ use Rattle.theory_saturation.specs.Aligned.{order-aligned}
 use Rattle.theory_saturation.specs.Unset.{walk-unset}
 use Rattle.theory_saturation.specs.Unbounded.{walk-zero}
 use Rattle.theory_saturation.specs.Least.{Over, over-zero, walk-least}
-use Rattle.theory_elimination.specs.Taken.{lines}
+use Rattle.theory_elimination.specs.Saturated.{lines}
 use Rattle.theory_elimination.specs.Narrow.{NarrowLine, elimination-narrow}
 use Rattle.theory_bytes.specs.Models.{readBack, back-numerator, back-denominator, model-back}
 use Rattle.theory_bytes.specs.Written.{written-fits}

@@ -2,6 +2,8 @@ pub mod Refuted
 pub mod Satisfied
 pub mod Decided
 pub mod Words
+pub mod Numbers
+pub mod Handing
 pub mod Outcomes
 pub mod Reported
 pub mod First
@@ -9,6 +11,7 @@ pub mod Evidence
 pub mod Elimination
 pub mod Checked
 pub mod Failing
+pub mod Whole
 pub mod Memory
 pub mod Left
 pub mod Denominator
@@ -16,3 +19,4 @@ pub mod Demand1
 pub mod Demand3
 pub mod HandedBack
 pub mod Demand2
+pub mod Checks

@@ -23,7 +23,7 @@ use Rattle.theory_saturation.specs.Saturation.{LinesHold, all-pairs-map}
 use Rattle.theory_saturation.specs.Formed.{saturation-formed}
 use Rattle.theory_elimination.specs.Sound.{Sound, elimination-sound}
 use Rattle.theory_elimination.specs.Ends.{EndsRight, elimination-ends}
-use Rattle.theory_elimination.specs.Taken.{lines}
+use Rattle.theory_elimination.specs.Saturated.{lines}
 use Rattle.theory_elimination.specs.Saturated.{elimination-loaded, elimination-saturated}
 
 -- the assignment of the walk over these lines

@@ -4,7 +4,7 @@ use mathlib.Core.Logic.{_⊎_}
 use mathlib.Core.Bool.{Bool, false}
 use mathlib.Core.List.{List, [], _∷_, _++_, map}
 use mathlib.Core.Option.{Option, none, some}
-use Prim.Native.Nat.{ℕ, zero, suc, _≤_}
+use Prim.Native.Nat.{ℕ, zero, suc, _*_, _≤_}
 use lib.Dec.{T}
 use lib.ListN.{length, take, drop}
 use Rattle.rules_types.specs.declared.answers.Refusal.{Refusal}
@@ -82,6 +82,12 @@ pub record WritesAssignment (p : Problem) (bytes : List ℕ) : Type 0 where
   pub place : ℕ
   pub stated : model (p .booleans) (p .rationals) bytes 0 ≡ got assignment rest place
   pub satisfies : Satisfies assignment p
+
+-- "64 to 65,536 by 64s": bytes of k whole lines, no more than the limit
+pub record WholeLines (limits : Limits) (bytes k : ℕ) : Type 0 where
+  pub count : bytes ≡ limit.stepBytes * k
+  pub some : 1 ≤ k
+  pub few : k ≤ limits .steps
 
 -- "its lines follow and the last is empty": k lines of 64 bytes, the first of them after `earlier`; `ends` says whether the last of
 -- those is empty

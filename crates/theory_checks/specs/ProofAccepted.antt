@@ -22,7 +22,7 @@ use Rattle.theory_lists.specs.Tests.{is-true}
 use Rattle.theory_lists.specs.All.{All, all-map, map-append}
 use Rattle.theory_lists.specs.Places.{place-below}
 use Rattle.theory_resolution.specs.Formed.{Formed}
-use Rattle.theory_elimination.specs.Taken.{lines}
+use Rattle.theory_elimination.specs.Saturated.{lines}
 use Rattle.theory_elimination.specs.Origins.{Each, Derived, Justified}
 use Rattle.theory_elimination.specs.Ends.{LastEmpty}
 use Rattle.theory_bytes.specs.Lines.{Encodable, AllEncodable}

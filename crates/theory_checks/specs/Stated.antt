@@ -22,7 +22,7 @@ use Rattle.theory_lists.specs.Equal.{same-yes, yes-same}
 use Rattle.theory_lists.specs.Dropped.{DroppedOr}
 use Rattle.theory_vectors.specs.Amounts.{overflows-no}
 use Rattle.theory_elimination.specs.Pairs.{LineAt}
-use Rattle.theory_elimination.specs.Taken.{lines}
+use Rattle.theory_elimination.specs.Saturated.{lines}
 use Rattle.theory_bytes.specs.Lines.{Encodable, AllEncodable}
 use Rattle.theory_bytes.specs.Steps.{step-injective}
 

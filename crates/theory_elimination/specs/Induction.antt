@@ -46,6 +46,11 @@ module _ (variables : List Variable) (v : Variable) (t : ℕ) (ps : List Pair) w
       (λ m e. all-map (PairOf variables v t steps) (PairOf variables v t (steps ++ (resolventOf v p l ∷ []))) ps
       (pair-append variables v t steps (resolventOf v p l ∷ [])) h)
 
+-- the parts are among themselves
+pub members : (xs : List Step) → All (λ s. Any (λ x. x ≡ s) xs) xs
+members [] = tt
+members (x ∷ xs) = (inl refl, all-map (λ s. Any (λ y. y ≡ s) xs) (λ s. Any (λ y. y ≡ s) (x ∷ xs)) xs (λ s h. inr h) (members xs))
+
 -- ---- the stages
 module _ (stops : Stops) (variables : List Variable) (parts : List Step) (P : State → Type 0)
     (kept : Preserved stops variables parts P) where
@@ -79,10 +84,6 @@ module _ (stops : Stops) (variables : List Variable) (parts : List Step) (P : St
       let ps = roundPairs variables v t steps in
       rounds-keeps (suc t) vs (tryAll stops v ps (running steps n)) (drop-next variables t v vs e)
       (try-keeps t v vs e ps (running steps n) (round-pairs variables v t steps) q)
-
-  members : (xs : List Step) → All (λ s. Any (λ x. x ≡ s) xs) xs
-  members [] = tt
-  members (x ∷ xs) = (inl refl, all-map (λ s. Any (λ y. y ≡ s) xs) (λ s. Any (λ y. y ≡ s) (x ∷ xs)) xs (λ s h. inr h) (members xs))
 
   pub elimination-induction : P (running [] 0) → P (eliminate stops variables parts)
   unfolding eliminate

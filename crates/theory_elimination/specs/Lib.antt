@@ -13,9 +13,13 @@ pub mod Closed
 pub mod Narrow
 pub mod Consistent
 pub mod PairBound
-pub mod Taken
-pub mod Stretches
-pub mod Complete
+pub mod InOrder
+pub mod Grown
+pub mod Exactly
+pub mod OneLoop
+pub mod Determined
+pub mod Kept
+pub mod Loaded
 pub mod Saturated
 pub mod Origins
 pub mod Ends

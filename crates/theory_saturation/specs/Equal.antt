@@ -1,19 +1,20 @@
 -- The tests decide whether lines are equal, and equal lines cover.
 use mathlib.Core.Path.{_≡_, refl, subst}
+use mathlib.Core.Logic.{_↔_}
 use mathlib.Core.Bool.{Bool, true, false, _&&_, Bool·beq}
-use mathlib.Core.List.{List, map}
+use mathlib.Core.List.{List}
 use mathlib.Core.Option.{Option, none, some}
 use lib.Dec.{T}
-use mir.Facts.{and-yes}
+use mir.Facts.{and-yes, yes-and}
 use Rattle.rules.specs.Lists.{same}
 use Rattle.rules.specs.Arithmetic.{equal}
 use Rattle.rules.specs.Problem.{Constraint}
 use Rattle.rules.specs.Lines.{Line, sameConstraint, sameLine}
 use Rattle.rules.specs.Steps.{Step}
 use Rattle.rules.specs.Elimination.{covered}
-use Rattle.theory_lists.specs.Equal.{same-yes}
-use Rattle.theory_lists.specs.All.{Any, any-map, any-yes, any-mapped}
-use Rattle.theory_vectors.specs.Sign.{equal-yes}
+use Rattle.theory_lists.specs.Equal.{same-yes, yes-same}
+use Rattle.theory_lists.specs.All.{Any, any-map, any-yes, yes-any}
+use Rattle.theory_vectors.specs.Sign.{equal-yes, equal-refl}
 use Rattle.theory_saturation.specs.Covered.{Covers}
 
 -- ---- the tests decide equality
@@ -49,6 +50,31 @@ sameLine-yes l m t =
       constraint = sameConstraint-yes (l .constraint) (m .constraint) (q .0) i;
     }
 
+-- ---- and back
+beq-self : (a : Bool) → T (Bool·beq a a)
+beq-self true = tt
+beq-self false = tt
+
+sameConstraint-self : (k : Option Constraint) → T (sameConstraint k k)
+unfolding sameConstraint
+sameConstraint-self none = tt
+sameConstraint-self (some c) =
+    yes-and (equal (c .bound) (c .bound) && Bool·beq (c .strict) (c .strict)) (same equal (c .coefficients) (c .coefficients))
+    (yes-and (equal (c .bound) (c .bound)) (Bool·beq (c .strict) (c .strict)) (equal-refl (c .bound)) (beq-self (c .strict)))
+    (yes-same equal equal-refl (c .coefficients) (c .coefficients) refl)
+
+sameLine-self : (l : Line) → T (sameLine l l)
+unfolding sameLine
+sameLine-self l =
+    yes-and (sameConstraint (l .constraint) (l .constraint) && same Bool·beq (l .positive) (l .positive))
+    (same Bool·beq (l .negative) (l .negative))
+    (yes-and (sameConstraint (l .constraint) (l .constraint)) (same Bool·beq (l .positive) (l .positive))
+    (sameConstraint-self (l .constraint)) (yes-same Bool·beq beq-self (l .positive) (l .positive) refl))
+    (yes-same Bool·beq beq-self (l .negative) (l .negative) refl)
+
+yes-sameLine : (l m : Line) → l ≡ m → T (sameLine l m)
+yes-sameLine l m e = subst (λ (x : Line). T (sameLine l x)) e (sameLine-self l)
+
 -- ---- so they cover
 covers-refl : (l : Line) → Covers l l
 covers-refl l = record { only = λ w h. h; gives = λ χ z h. h }
@@ -62,5 +88,10 @@ unfolding covered
 covered-steps r steps t = any-map (λ s. T (sameLine (s .line) r)) (λ s. s .line ≡ r) steps (λ s h. sameLine-yes (s .line) r h)
     (any-yes (λ s. sameLine (s .line) r) steps t)
 
-pub covered-yes : (r : Line) (steps : List Step) → T (covered r steps) → Any (λ j. j ≡ r) (map (λ s. s .line) steps)
-covered-yes r steps t = any-mapped (λ j. j ≡ r) (λ s. s .line) steps (covered-steps r steps t)
+pub covered-exactly : (r : Line) (steps : List Step) → T (covered r steps) ↔ Any (λ s. s .line ≡ r) steps
+unfolding covered
+covered-exactly r steps = (
+  covered-steps r steps,
+  λ h. yes-any (λ s. sameLine (s .line) r) steps
+      (any-map (λ s. s .line ≡ r) (λ s. T (sameLine (s .line) r)) steps (λ s e. yes-sameLine (s .line) r e) h),
+)

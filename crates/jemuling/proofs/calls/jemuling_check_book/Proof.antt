@@ -1,6 +1,7 @@
 -- `calls::jemuling_check_book` meets its contract. Assumes nothing.
 use mathlib.Core.Path.{ap, _∙_}
 use Rattle.jemuling.specs.Told.{checkedTold}
+use Rattle.jemuling.specs.Kept.{book-checked}
 use borrow.Author.Needs.{needs}
 use Rattle.jemuling.proofs.calls.jemuling_check_book.Statement.{statement}
 use Rattle.jemuling.proofs.calls.jemuling_check_book.Tie as tie
@@ -12,7 +13,7 @@ checked-told-requires : tie.Need-checked-told-requires
 checked-told-requires c κs = search needs
 
 returns : tie.Need-returns
-returns c = c .checked-told .ensures ∙ ap checkedTold (c .before .check-standard .ensures)
+returns c = let e = c .checked-told .ensures ∙ ap checkedTold (c .before .check-standard .ensures) in (e, book-checked _ _ _ e)
 
 pub jemuling-check-book-spec : {M : Type 1} → statement M
 jemuling-check-book-spec = tie.close (tie.spec check-standard-requires checked-told-requires returns)

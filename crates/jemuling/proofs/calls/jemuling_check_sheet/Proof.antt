@@ -1,6 +1,7 @@
 -- `calls::jemuling_check_sheet` meets its contract. Assumes nothing.
 use mathlib.Core.Path.{ap, _∙_}
 use Rattle.jemuling.specs.Told.{checkedTold}
+use Rattle.jemuling.specs.Kept.{sheet-checked}
 use borrow.Author.Needs.{needs}
 use Rattle.jemuling.proofs.calls.jemuling_check_sheet.Statement.{statement}
 use Rattle.jemuling.proofs.calls.jemuling_check_sheet.Tie as tie
@@ -12,7 +13,7 @@ checked-told-requires : tie.Need-checked-told-requires
 checked-told-requires c κs = search needs
 
 returns : tie.Need-returns
-returns c = c .checked-told .ensures ∙ ap checkedTold (c .before .check-model .ensures)
+returns c = let e = c .checked-told .ensures ∙ ap checkedTold (c .before .check-model .ensures) in (e, sheet-checked _ _ _ e)
 
 pub jemuling-check-sheet-spec : {M : Type 1} → statement M
 jemuling-check-sheet-spec = tie.close (tie.spec check-model-requires checked-told-requires returns)

@@ -1,6 +1,7 @@
 -- `calls::jemuling_solve` meets its contract. Assumes nothing.
 use mathlib.Core.Path.{ap, _∙_}
 use Rattle.jemuling.specs.Told.{solvedTold}
+use Rattle.jemuling.specs.Kept.{delivered}
 use borrow.Author.Needs.{needs}
 use Rattle.jemuling.proofs.calls.jemuling_solve.Statement.{statement}
 use Rattle.jemuling.proofs.calls.jemuling_solve.Tie as tie
@@ -20,7 +21,10 @@ same-length-2 c = search needs
 returns : tie.Need-returns
 returns c =
     let k = c .before .before .before .before .before in
-    (c .solved-told .ensures ∙ ap solvedTold (k .solve .ensures .0), (k .solve .ensures .1 .0, k .solve .ensures .1 .1))
+    let t = c .solved-told .ensures ∙ ap solvedTold (k .solve .ensures .0) in
+    let b = k .solve .ensures .1 .0 in
+    let s = k .solve .ensures .1 .1 in
+    (t, (b, (s, delivered _ _ _ _ _ _ t b s)))
 
 pub jemuling-solve-spec : {M : Type 1} → statement M
 jemuling-solve-spec =

@@ -1,0 +1,71 @@
+-- What the four calls promise: the demands, said of the numbers that they return and of the bytes that they leave. Each record stands in
+-- the `ensures` of its call (src/calls.rt), beside the equation with document 01's definition.
+use mathlib.Core.Path.{_≡_}
+use mathlib.Core.Logic.{_↔_}
+use mathlib.Core.List.{List}
+use Prim.Native.Nat.{ℕ}
+use Rattle.rules_types.specs.declared.answers.Refusal.{Refusal}
+use Rattle.rules_types.specs.declared.answers.Verdict.{Verdict}
+use Rattle.rules_types.specs.declared.answers.Solved.{Solved}
+use Rattle.rules_types.specs.declared.answers.Checked.{Checked}
+use Rattle.rules_types.specs.declared.answers.Checked.the-variants.{Accepted, Fails, Refused}
+use Rattle.rules_types.specs.declared.answers.Evidence.{Evidence}
+use Rattle.rules_types.specs.declared.answers.Evidence.the-variants.{OfProof, OfModel}
+use Rattle.rules_types.specs.Limits.{standard}
+use Rattle.rules_types.specs.Answers.{refusalNumber, verdictNumber, answerValue}
+use Rattle.rules.specs.Problem.{Problem}
+use Rattle.rules.specs.Calls.{sound, read, Solving}
+use Rattle.promises.specs.Words.{Comes, IsRefused, FullSize}
+use Rattle.promises.specs.Handing.{Hands}
+use Rattle.promises.specs.Checks.{ChecksProof, ChecksModel}
+use Rattle.promises.specs.Demand1.{Demand1}
+use Rattle.promises.specs.Demand2.{Demand2}
+use Rattle.promises.specs.Demand3.{Demand3}
+use Rattle.jemuling.specs.declared.told.Told.{Told}
+use Rattle.jemuling.specs.declared.told.SolvedTold.{SolvedTold}
+
+-- ---- numbers: each comes exactly when its answer does
+pub record TellsSolved (told : SolvedTold) (says : Solved) : Type 0 where
+  pub verdict : (v : Verdict) → (told .number ≡ verdictNumber v) ↔ Comes v (says .answer)
+  pub refusal : (f : Refusal) → (told .number ≡ refusalNumber f) ↔ IsRefused f (says .answer)
+  pub value : told .value ≡ answerValue (says .answer)
+  pub pairs : told .pairs ≡ says .pairs
+
+pub record TellsChecked (told : Told) (says : Checked) : Type 0 where
+  pub accepted : (told .number ≡ 67) ↔ (says ≡ Accepted)
+  pub fails : (n : ℕ) → ((told .number ≡ 68) × (told .value ≡ n)) ↔ (says ≡ Fails n)
+  pub refused : (f : Refusal) (place : ℕ) → ((told .number ≡ refusalNumber f) × (told .value ≡ place)) ↔ (says ≡ Refused f place)
+
+pub record TellsPart (told : Told) (part : Evidence) : Type 0 where
+  pub ofProof : (n : ℕ) → ((told .number ≡ 69) × (told .value ≡ n)) ↔ (part ≡ OfProof n)
+  pub ofModel : (n : ℕ) → ((told .number ≡ 70) × (told .value ≡ n)) ↔ (part ≡ OfModel n)
+
+-- ---- the calls
+-- `jemuling_solve`: `lentProof` and `lentModel` are the buffers before it, `proof` and `model` what it left in them
+pub record Delivered (input lentProof lentModel : List ℕ) (told : SolvedTold) (proof model : List ℕ) : Type 0 where
+  pub ours : Solving
+  pub tells : TellsSolved told (ours .solved)
+  pub leavesProof : proof ≡ ours .proof
+  pub leavesModel : model ≡ ours .model
+  pub first : Demand1 standard input lentProof lentModel ours
+  pub second : (p : Problem) → read input ≡ sound p → Demand2 input p
+  pub third : (p : Problem) → read input ≡ sound p → FullSize standard lentProof lentModel
+      → Demand3 standard input p lentProof lentModel ours
+
+-- `jemuling_check_book`
+pub record BookChecked (input proof : List ℕ) (told : Told) : Type 0 where
+  pub says : Checked
+  pub tells : TellsChecked told says
+  pub checks : ChecksProof standard input proof says
+
+-- `jemuling_check_sheet`
+pub record SheetChecked (input model : List ℕ) (told : Told) : Type 0 where
+  pub says : Checked
+  pub tells : TellsChecked told says
+  pub checks : ChecksModel input model says
+
+-- `jemuling_hand_back`, from a number and lines as the caller names them
+pub record PartHanded (number lines : ℕ) (proof model : List ℕ) (told : Told) : Type 0 where
+  pub part : Evidence
+  pub tells : TellsPart told part
+  pub hands : Hands standard number lines proof model part

@@ -1,0 +1,71 @@
+-- What the checks answer, for a problem, a proof and a model of arbitrary bytes; they write nothing.
+use mathlib.Core.Path.{_≡_}
+use mathlib.Core.Bool.{false}
+use mathlib.Core.Logic.{_↔_}
+use mathlib.Core.List.{List, []}
+use Prim.Native.Nat.{ℕ, _≤_, _<_}
+use lib.ListN.{length}
+use Rattle.rules_types.specs.declared.answers.Refusal.{Refusal}
+use Rattle.rules_types.specs.declared.answers.Refusal.the-variants.{ShortModel, ProofLength}
+use Rattle.rules_types.specs.declared.answers.Checked.{Checked}
+use Rattle.rules_types.specs.declared.answers.Checked.the-variants.{Accepted, Fails, Refused}
+use Rattle.rules_types.specs.declared.limits.Limits.{Limits}
+use Rattle.rules_types.specs.Limits as limit
+use Rattle.rules.specs.Problem.{Problem, fault, got}
+use Rattle.rules.specs.Meaning.{Assignment}
+use Rattle.rules.specs.Model.{model}
+use Rattle.rules.specs.Elimination.{loadableOf}
+use Rattle.rules.specs.Calls.{faulty, sound, read, proofChecked, modelChecked}
+use Rattle.theory_checks.specs.ProofChecked.{proof-checked-refutes}
+use Rattle.promises.specs.Decided.{NoAssignment}
+use Rattle.promises.specs.Words.{WholeLines, Refutes, WritesAssignment}
+use Rattle.promises.specs.Checked.{model-exactly, model-short-refused, model-field-refused, proof-refused, model-refused}
+use Rattle.promises.specs.Failing.{ClauseFails, LineFails, model-fails}
+use Rattle.promises.specs.Whole.{accepted-lines, failing-line, refused-length}
+
+-- "The check tests question faults (3 to 13), then 16"
+pub record ChecksProof (limits : Limits) (input proof : List ℕ) (says : Checked) : Type 0 where
+  pub faultyInput : (f : Refusal) (place : ℕ) → read input ≡ faulty f place → says ≡ Refused f place
+  pub proofLength : (p : Problem) → read input ≡ sound p → (place : ℕ) → (says ≡ Refused ProofLength place)
+      ↔ ((place ≡ length proof) × ((k : ℕ) → WholeLines limits (length proof) k → ⊥))
+  -- "The check accepts a book exactly if its lines follow and the last is empty"
+  pub accepted : (p : Problem) → read input ≡ sound p → (says ≡ Accepted)
+      ↔ ((k : ℕ) × WholeLines limits (length proof) k × Refutes (loadableOf p) k proof)
+  -- "the first failing line, the line count if only the empty end is missing"
+  pub fails : (p : Problem) → read input ≡ sound p → (k : ℕ) → WholeLines limits (length proof) k → (n : ℕ) → (says ≡ Fails n)
+      ↔ LineFails (loadableOf p) k [] false proof n
+  -- "whenever the check accepts a book for Q ... no choice satisfies Q, whoever wrote the book"
+  pub refutes : (p : Problem) → read input ≡ sound p → says ≡ Accepted → NoAssignment p
+
+-- "question faults (3 to 13), then ... 2 and 17"
+pub record ChecksModel (input bytes : List ℕ) (says : Checked) : Type 0 where
+  pub faultyInput : (f : Refusal) (place : ℕ) → read input ≡ faulty f place → says ≡ Refused f place
+  pub short : (p : Problem) → read input ≡ sound p → length bytes < limit.modelBytes → says ≡ Refused ShortModel 0
+  pub field : (p : Problem) → read input ≡ sound p → (f : Refusal) (place : ℕ) → limit.modelBytes ≤ length bytes
+      → model (p .booleans) (p .rationals) bytes 0 ≡ fault f place → says ≡ Refused f place
+  -- "a sheet exactly if every clause holds": the assignment on it satisfies Q
+  pub accepted : (p : Problem) → read input ≡ sound p → (says ≡ Accepted) ↔ WritesAssignment p bytes
+  -- "the first clause that fails"
+  pub fails : (p : Problem) → read input ≡ sound p → (χ : Assignment) (rest : List ℕ) (place : ℕ) → limit.modelBytes ≤ length bytes
+      → model (p .booleans) (p .rationals) bytes 0 ≡ got χ rest place → (n : ℕ) → (says ≡ Fails n) ↔ ClauseFails χ (p .clauses) n
+
+pub checks-proof : (limits : Limits) → limits .steps ≤ limit.mostSteps → (input proof : List ℕ)
+    → ChecksProof limits input proof (proofChecked limits input proof)
+checks-proof limits few input proof =
+    record {
+      faultyInput = λ f place e. proof-refused input f place e limits proof;
+      proofLength = λ p e. refused-length input p e limits proof;
+      accepted = λ p e. accepted-lines input p e limits proof few;
+      fails = λ p e. failing-line input p e limits proof few;
+      refutes = λ p e a. proof-checked-refutes limits input proof a p e;
+    }
+
+pub checks-model : (input bytes : List ℕ) → ChecksModel input bytes (modelChecked input bytes)
+checks-model input bytes =
+    record {
+      faultyInput = λ f place e. model-refused input f place e bytes;
+      short = λ p e. model-short-refused input p e bytes;
+      field = λ p e. model-field-refused input p e bytes;
+      accepted = λ p e. model-exactly input p e bytes;
+      fails = λ p e. model-fails input p e bytes;
+    }

@@ -1,0 +1,147 @@
+-- The numbers of answers: each says one answer, and nothing else does.
+use mathlib.Core.Path.{_≡_, refl, sym, ap, _∙_}
+use mathlib.Core.Logic.{_↔_}
+use mathlib.Core.List.{List, [], _∷_}
+use Prim.Native.Nat.{ℕ, _-_, _<_, _≤_}
+use native.Mathlib.Omega.{arith}
+use lib.ListN.{getD}
+use Rattle.rules_types.specs.declared.answers.Refusal.{Refusal}
+use Rattle.rules_types.specs.declared.answers.Refusal.the-variants.{ShortProof, ShortModel, LongProblem, Truncated, Booleans, Rationals}
+use Rattle.rules_types.specs.declared.answers.Refusal.the-variants.{Clauses, Literal, Constraints, Relation, Amount, Trailing, Splits}
+use Rattle.rules_types.specs.declared.answers.Refusal.the-variants.{Overflow, OutOfSteps, ProofLength, BadModel}
+use Rattle.rules_types.specs.declared.answers.Verdict.{Verdict}
+use Rattle.rules_types.specs.declared.answers.Verdict.the-variants.{Satisfiable, Unsatisfiable, Unwritten}
+use Rattle.rules_types.specs.declared.answers.Answer.{Answer}
+use Rattle.rules_types.specs.declared.answers.Answer.the-variants.{Decided, Refused}
+use Rattle.rules_types.specs.declared.answers.Checked.{Checked}
+use Rattle.rules_types.specs.declared.answers.Checked.the-variants as checked
+use Rattle.rules_types.specs.declared.answers.Evidence.{Evidence}
+use Rattle.rules_types.specs.declared.answers.Evidence.the-variants.{OfProof, OfModel}
+use Rattle.rules_types.specs.Answers.{refusalNumber, verdictNumber, answerNumber, answerValue, checkedNumber, checkedValue, evidenceNumber}
+use Rattle.rules_types.specs.Answers.{evidenceLength}
+use Rattle.promises.specs.Words.{Comes, IsRefused}
+
+-- ---- refusals have different numbers: the refusal comes back from its number
+refusals : List Refusal
+refusals =
+    ShortProof ∷ ShortModel ∷ LongProblem ∷ Truncated ∷ Booleans ∷ Rationals ∷ Clauses ∷ Literal ∷ Constraints ∷ Relation ∷ Amount
+    ∷ Trailing ∷ Splits ∷ Overflow ∷ OutOfSteps ∷ ProofLength ∷ BadModel ∷ []
+
+refusalOf : ℕ → Refusal
+refusalOf n = getD refusals (n - 1) BadModel
+
+refusal-back : (f : Refusal) → refusalOf (refusalNumber f) ≡ f
+unfolding refusalOf refusals refusalNumber
+refusal-back ShortProof = refl
+refusal-back ShortModel = refl
+refusal-back LongProblem = refl
+refusal-back Truncated = refl
+refusal-back Booleans = refl
+refusal-back Rationals = refl
+refusal-back Clauses = refl
+refusal-back Literal = refl
+refusal-back Constraints = refl
+refusal-back Relation = refl
+refusal-back Amount = refl
+refusal-back Trailing = refl
+refusal-back Splits = refl
+refusal-back Overflow = refl
+refusal-back OutOfSteps = refl
+refusal-back ProofLength = refl
+refusal-back BadModel = refl
+
+pub refusals-differ : (f g : Refusal) → refusalNumber f ≡ refusalNumber g → f ≡ g
+refusals-differ f g e = sym (refusal-back f) ∙ ap refusalOf e ∙ refusal-back g
+
+-- and none has that of a word
+pub refusal-below : (f : Refusal) → refusalNumber f < 64
+unfolding refusalNumber
+refusal-below ShortProof = omega arith
+refusal-below ShortModel = omega arith
+refusal-below LongProblem = omega arith
+refusal-below Truncated = omega arith
+refusal-below Booleans = omega arith
+refusal-below Rationals = omega arith
+refusal-below Clauses = omega arith
+refusal-below Literal = omega arith
+refusal-below Constraints = omega arith
+refusal-below Relation = omega arith
+refusal-below Amount = omega arith
+refusal-below Trailing = omega arith
+refusal-below Splits = omega arith
+refusal-below Overflow = omega arith
+refusal-below OutOfSteps = omega arith
+refusal-below ProofLength = omega arith
+refusal-below BadModel = omega arith
+
+verdict-above : (v : Verdict) → 64 ≤ verdictNumber v
+unfolding verdictNumber
+verdict-above Satisfiable = omega arith
+verdict-above Unsatisfiable = omega arith
+verdict-above Unwritten = omega arith
+
+verdictOf : ℕ → Verdict
+verdictOf n = getD (Satisfiable ∷ Unsatisfiable ∷ Unwritten ∷ []) (n - 64) Unwritten
+
+verdict-back : (v : Verdict) → verdictOf (verdictNumber v) ≡ v
+unfolding verdictOf verdictNumber
+verdict-back Satisfiable = refl
+verdict-back Unsatisfiable = refl
+verdict-back Unwritten = refl
+
+-- ---- of solving: a verdict's number and a refusal's come exactly when it does
+pub verdict-exactly : (v : Verdict) (a : Answer) → (answerNumber a ≡ verdictNumber v) ↔ Comes v a
+unfolding answerNumber
+verdict-exactly v (Decided u n) = (λ e. sym (verdict-back u) ∙ ap verdictOf e ∙ verdict-back v, λ e. ap verdictNumber e)
+verdict-exactly v (Refused f n) = (λ e. absurd (omega (arith, refusal-below f, verdict-above v)), λ e. absurd e)
+
+pub refusal-exactly : (f : Refusal) (a : Answer) → (answerNumber a ≡ refusalNumber f) ↔ IsRefused f a
+unfolding answerNumber
+refusal-exactly f (Decided v n) = (λ e. absurd (omega (arith, refusal-below f, verdict-above v)), λ e. absurd e)
+refusal-exactly f (Refused g n) = (refusals-differ g f, λ e. ap refusalNumber e)
+
+-- ---- of a check: accepted, the first line or clause that fails, a refusal with its place
+pub accepted-exactly : (c : Checked) → (checkedNumber c ≡ 67) ↔ (c ≡ checked.Accepted)
+unfolding checkedNumber
+accepted-exactly c = (by c, λ e. ap checkedNumber e)
+  where
+    by : (c : Checked) → checkedNumber c ≡ 67 → c ≡ checked.Accepted
+    by checked.Accepted e = refl
+    by (checked.Fails n) e = absurd (omega arith)
+    by (checked.Refused f p) e = absurd (omega (arith, refusal-below f))
+
+pub fails-exactly : (c : Checked) (n : ℕ) → ((checkedNumber c ≡ 68) × (checkedValue c ≡ n)) ↔ (c ≡ checked.Fails n)
+unfolding checkedNumber checkedValue
+fails-exactly c n = (by c, λ e. (ap checkedNumber e, ap checkedValue e))
+  where
+    by : (c : Checked) → (checkedNumber c ≡ 68) × (checkedValue c ≡ n) → c ≡ checked.Fails n
+    by checked.Accepted e = absurd (omega (arith, e .0))
+    by (checked.Fails m) e = ap checked.Fails (e .1)
+    by (checked.Refused f p) e = absurd (omega (arith, refusal-below f, e .0))
+
+pub refused-exactly : (c : Checked) (f : Refusal) (place : ℕ)
+    → ((checkedNumber c ≡ refusalNumber f) × (checkedValue c ≡ place)) ↔ (c ≡ checked.Refused f place)
+unfolding checkedNumber checkedValue
+refused-exactly c f place = (by c, λ e. (ap checkedNumber e, ap checkedValue e))
+  where
+    by : (c : Checked) → (checkedNumber c ≡ refusalNumber f) × (checkedValue c ≡ place) → c ≡ checked.Refused f place
+    by checked.Accepted e = absurd (omega (arith, refusal-below f, e .0))
+    by (checked.Fails n) e = absurd (omega (arith, refusal-below f, e .0))
+    by (checked.Refused g p) e = λ i. checked.Refused (refusals-differ g f (e .0) i) (e .1 i)
+
+-- ---- of handing back: a part of the proof, a part of the model
+pub of-proof-exactly : (e : Evidence) (n : ℕ) → ((evidenceNumber e ≡ 69) × (evidenceLength e ≡ n)) ↔ (e ≡ OfProof n)
+unfolding evidenceNumber evidenceLength
+of-proof-exactly e n = (by e, λ h. (ap evidenceNumber h, ap evidenceLength h))
+  where
+    by : (e : Evidence) → (evidenceNumber e ≡ 69) × (evidenceLength e ≡ n) → e ≡ OfProof n
+    by (OfProof m) h = ap OfProof (h .1)
+    by (OfModel m) h = absurd (omega (arith, h .0))
+
+pub of-model-exactly : (e : Evidence) (n : ℕ) → ((evidenceNumber e ≡ 70) × (evidenceLength e ≡ n)) ↔ (e ≡ OfModel n)
+unfolding evidenceNumber evidenceLength
+of-model-exactly e n = (by e, λ h. (ap evidenceNumber h, ap evidenceLength h))
+  where
+    by : (e : Evidence) → (evidenceNumber e ≡ 70) × (evidenceLength e ≡ n) → e ≡ OfModel n
+    by (OfProof m) h = absurd (omega (arith, h .0))
+    by (OfModel m) h = ap OfModel (h .1)

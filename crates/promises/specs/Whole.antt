@@ -1,0 +1,111 @@
+-- The check of a proof, by how many lines its bytes are: accepted, the first line that fails, or 16.
+use mathlib.Core.Path.{_≡_, refl, sym, ap, _∙_}
+use mathlib.Core.Bool.{Bool, true, false, cond, _&&_}
+use mathlib.Core.Logic.{_↔_, ⊎-elim}
+use mathlib.Core.List.{List, [], _∷_, _++_}
+use mathlib.Core.Option.{Option, none, some}
+use Prim.Native.Nat.{ℕ, zero, suc, _*_, _/_, _%_, _≤_}
+use native.Mathlib.Omega.{arith}
+use lib.Dec.{T, eqb, leb, leb→le, eqb→eq}
+use lib.ListN.{length, take, drop}
+use mir.Facts.{and-yes, yes-and, yes-leb, yes-eqb}
+use Rattle.rules_types.specs.declared.answers.Refusal.{Refusal}
+use Rattle.rules_types.specs.declared.answers.Refusal.the-variants.{ProofLength}
+use Rattle.rules_types.specs.declared.answers.Checked.{Checked}
+use Rattle.rules_types.specs.declared.answers.Checked.the-variants.{Accepted, Fails, Refused}
+use Rattle.rules_types.specs.declared.limits.Limits.{Limits}
+use Rattle.rules_types.specs.Limits as limit
+use Rattle.rules.specs.Problem.{Problem}
+use Rattle.rules.specs.Lines.{Line, isEmpty}
+use Rattle.rules.specs.Steps.{Step}
+use Rattle.rules.specs.Elimination.{loadableOf}
+use Rattle.rules.specs.Checker.{statedLine, checkSteps, checkProof}
+use Rattle.rules.specs.Calls.{sound, read, wholeSteps, proofChecked}
+use Rattle.theory_lists.specs.Tests.{split, is-true, is-false, clash}
+use Rattle.promises.specs.Words.{Refutes, WholeLines}
+use Rattle.promises.specs.Checked.{proof-exactly, proof-length-refused}
+use Rattle.promises.specs.Failing.{LineFails, proof-fails}
+
+module _ (limits : Limits) (n : ℕ) where
+  whole-lines : T (wholeSteps limits n) → WholeLines limits n (n / limit.stepBytes)
+  unfolding wholeSteps
+  whole-lines t =
+      let a = and-yes (leb limit.stepBytes n && leb n (limit.proofBytes limits)) (eqb (n % limit.stepBytes) 0) t in
+      let b = and-yes (leb limit.stepBytes n) (leb n (limit.proofBytes limits)) (a .0) in
+      let some : limit.stepBytes ≤ n = leb→le limit.stepBytes n (b .0) in
+      let few : n ≤ limits .steps * limit.stepBytes = leb→le n (limit.proofBytes limits) (b .1) in
+      let even : n % limit.stepBytes ≡ 0 = eqb→eq (n % limit.stepBytes) 0 (a .1) in
+      record { count = omega arith; some = omega arith; few = omega arith }
+
+  lines-whole : (k : ℕ) → WholeLines limits n k → T (wholeSteps limits n)
+  unfolding wholeSteps
+  lines-whole k h =
+      let c = h .count in
+      let s = h .some in
+      let f = h .few in
+      let least : limit.stepBytes ≤ n = omega arith in
+      let most : n ≤ limit.proofBytes limits = omega arith in
+      let even : n % limit.stepBytes ≡ 0 = omega arith in
+      yes-and (leb limit.stepBytes n && leb n (limit.proofBytes limits)) (eqb (n % limit.stepBytes) 0)
+      (yes-and (leb limit.stepBytes n) (leb n (limit.proofBytes limits)) (yes-leb least) (yes-leb most)) (yes-eqb even)
+
+  lines-are : (k : ℕ) → WholeLines limits n k → n / limit.stepBytes ≡ k
+  lines-are k h = let c = h .count in omega arith
+
+-- the check of steps refuses nothing
+steps-no-refusal : (parts : List Step) (k : ℕ) (earlier : List Line) (ends : Bool) (bytes : List ℕ) (f : Refusal) (place : ℕ)
+    → checkSteps parts k earlier ends bytes ≡ Refused f place → ⊥
+unfolding checkSteps
+steps-no-refusal parts zero earlier true bytes f place e = let z : _≡_ {A = ℕ} 0 1 = cc in omega arith
+steps-no-refusal parts zero earlier false bytes f place e = let z : _≡_ {A = ℕ} 0 1 = cc in omega arith
+steps-no-refusal parts (suc k) earlier ends bytes f place e =
+    by (statedLine parts earlier (take limit.stepBytes bytes))
+    (λ l h. steps-no-refusal parts k (earlier ++ (l ∷ [])) (isEmpty l) (drop limit.stepBytes bytes) f place h) e
+  where
+    by : (o : Option Line)
+        → ((l : Line) → checkSteps parts k (earlier ++ (l ∷ [])) (isEmpty l) (drop limit.stepBytes bytes) ≡ Refused f place → ⊥)
+        → _≡_ {A = Checked} (elim o [
+          | none ↦ Fails (length earlier)
+          | some l ↦ checkSteps parts k (earlier ++ (l ∷ [])) (isEmpty l) (drop limit.stepBytes bytes)
+        ]) (Refused f place) → ⊥
+    by none r e = let z : _≡_ {A = ℕ} 0 1 = cc in omega arith
+    by (some l) r e = r l e
+
+-- ---- the call, for a problem read without fault
+module _ (input : List ℕ) (p : Problem) (e : read input ≡ sound p) (limits : Limits) (bytes : List ℕ) where
+  abbrev whole : Bool
+  whole = wholeSteps limits (length bytes)
+
+  module _ (few : limits .steps ≤ limit.mostSteps) where
+    pub accepted-lines : proofChecked limits input bytes ≡ Accepted
+        ↔ ((k : ℕ) × WholeLines limits (length bytes) k × Refutes (loadableOf p) k bytes)
+    accepted-lines =
+        let x = proof-exactly input p e limits few bytes in (
+          λ a. let h = x .0 a in (length bytes / limit.stepBytes, whole-lines limits (length bytes) (h .0), h .1),
+          λ h. x .1 (lines-whole limits (length bytes) (h .0) (h .1), rw (lines-are limits (length bytes) (h .0) (h .1)) (h .2)),
+        )
+
+    pub failing-line : (k : ℕ) → WholeLines limits (length bytes) k → (m : ℕ) → proofChecked limits input bytes ≡ Fails m
+        ↔ LineFails (loadableOf p) k [] false bytes m
+    failing-line k h m =
+        rw (lines-are limits (length bytes) k h)
+        at (proof-fails input p e limits few bytes (is-true whole (lines-whole limits (length bytes) k h)) m)
+
+  pub refused-length : (place : ℕ) → proofChecked limits input bytes ≡ Refused ProofLength place
+      ↔ ((place ≡ length bytes) × ((k : ℕ) → WholeLines limits (length bytes) k → ⊥))
+  unfolding proofChecked checkProof
+  refused-length place =
+      ⊎-elim
+      (λ t. (
+        λ a. absurd (steps-no-refusal (loadableOf p) (length bytes / limit.stepBytes) [] false bytes ProofLength place
+            (rw (e, proofChecked, is-true whole t) at a)),
+        λ h. absurd (h .1 (length bytes / limit.stepBytes) (whole-lines limits (length bytes) t)),
+      ))
+      (λ t. (
+        λ a. (
+          (let b : Refused ProofLength (length bytes) ≡ Refused ProofLength place = rw (e, proofChecked, is-false whole t) at a in cc),
+          λ k h. clash whole (lines-whole limits (length bytes) k h) t,
+        ),
+        λ h. proof-length-refused input p e limits bytes (is-false whole t) ∙ ap (Refused ProofLength) (sym (h .0)),
+      ))
+      (split whole)

@@ -1,0 +1,66 @@
+-- Three proofs that are not the elimination, and are not exactly its candidates: lines in another order, a line after the end, and pairs
+-- that were not tried.
+use mathlib.Core.Path.{_≡_, ap}
+use mathlib.Core.List.{List, [], _∷_, _++_, map}
+use Prim.Native.Nat.{ℕ}
+use native.Mathlib.Omega.{arith}
+use lib.IntN.{pos, negsuc}
+use lib.ListN.{length, getD, take, drop}
+use Rattle.rules_types.specs.Limits.{standard}
+use Rattle.rules.specs.Problem.{Problem}
+use Rattle.rules.specs.Steps.{Step, header}
+use Rattle.rules.specs.Elimination.{State, running, ended, empty, order, limited, loadableOf, elimination}
+use Rattle.rules.specs.Needs.{stepsOf, pairsOf}
+use Rattle.rules.specs.Write.{atMost, clauseOf, alone, problemOf}
+use Rattle.rules.specs.Compute.{definitions}
+use Rattle.theory_elimination.specs.Exactly.{Exactly}
+use Rattle.promises.specs.Elimination.{elimination-only}
+use Rattle.promises_examples.specs.Read.{problemFrom}
+
+abbrev Exact : Problem → State → Type 0
+Exact p state = Exactly (limited standard) order (loadableOf p) state
+
+abbrev course : Problem → State
+course p = elimination (limited standard) p
+
+-- ---- example 3, x ≤ 5; -x ≤ -5, with its two lines exchanged
+abbrev three : Problem
+three = problemFrom (problemOf 0 1 (alone (atMost (pos 1 ∷ []) (pos 5)) ∷ alone (atMost (negsuc 0 ∷ []) (negsuc 4)) ∷ []))
+
+abbrev exchanged : List Step → List Step
+exchanged steps = drop 1 steps ++ take 1 steps
+
+-- the clause of a state's first line
+abbrev firstClause : State → ℕ
+firstClause state = getD (map (λ s. header (s .origin) .first) (stepsOf state)) 0 0
+
+pub lines-exchanged : Exact three (running (exchanged (stepsOf (course three))) 1) → ⊥
+unfolding definitions
+lines-exchanged h =
+    let other = running (exchanged (stepsOf (course three))) 1 in
+    let e : _≡_ {A = ℕ} 1 0 = ap firstClause (elimination-only three (limited standard) other h) in
+    omega arith
+
+-- ---- an empty clause; x ≤ 5: the second is loaded after the first ended the elimination
+abbrev ended-at-once : Problem
+ended-at-once = problemFrom (problemOf 0 1 (clauseOf [] [] ∷ alone (atMost (pos 1 ∷ []) (pos 5)) ∷ []))
+
+pub line-after-the-end : Exact ended-at-once (ended empty (loadableOf ended-at-once) 0) → ⊥
+unfolding definitions
+line-after-the-end h =
+    let other = ended empty (loadableOf ended-at-once) 0 in
+    let e : _≡_ {A = ℕ} 2 1 = ap (λ (s : State). length (stepsOf s)) (elimination-only ended-at-once (limited standard) other h) in
+    omega arith
+
+-- ---- x ≤ 0; x ≤ -1; -x ≤ -1; -x ≤ -2: the first pair ends it, and three are reported
+abbrev four : Problem
+four =
+    problemFrom (problemOf 0 1 (alone (atMost (pos 1 ∷ []) (pos 0)) ∷ alone (atMost (pos 1 ∷ []) (negsuc 0)) ∷ alone
+    (atMost (negsuc 0 ∷ []) (negsuc 0)) ∷ alone (atMost (negsuc 0 ∷ []) (negsuc 1)) ∷ []))
+
+pub pairs-not-tried : Exact four (ended empty (stepsOf (course four)) 3) → ⊥
+unfolding definitions
+pairs-not-tried h =
+    let other = ended empty (stepsOf (course four)) 3 in
+    let e : _≡_ {A = ℕ} 3 1 = ap pairsOf (elimination-only four (limited standard) other h) in
+    omega arith
