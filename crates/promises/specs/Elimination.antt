@@ -4,6 +4,9 @@ use mathlib.Core.List.{[]}
 use Rattle.rules.specs.Problem.{Problem}
 use Rattle.rules.specs.Elimination.{Stops, State, order, loadableOf, elimination}
 use Rattle.rules.specs.Needs.{stepsOf}
+use Rattle.theory_lists.specs.All.{All}
+use Rattle.theory_splitting.specs.WellFormed.{WellFormed}
+use Rattle.theory_elimination.specs.Sound.{Sound, elimination-sound}
 use Rattle.theory_elimination.specs.Origins.{Each, Justified, Fresh, elimination-origins, elimination-fresh}
 use Rattle.theory_elimination.specs.Exactly.{Exactly}
 use Rattle.theory_elimination.specs.OneLoop.{elimination-exactly}
@@ -26,6 +29,10 @@ module _ (p : Problem) (stops : Stops) where
   pub elimination-only : (other : State) → Exactly stops order (loadableOf p) other → other ≡ elimination stops p
   unfolding elimination
   elimination-only other h = exactly-one stops order (loadableOf p) other h
+
+  pub elimination-tidied : WellFormed p → All (λ s. Sound (s .line)) (stepsOf (elimination stops p))
+  unfolding elimination
+  elimination-tidied w = elimination-sound p w stops order
 
   pub elimination-parts : AllLoaded stops (loadableOf p) (elimination stops p)
   unfolding elimination

@@ -1,4 +1,5 @@
--- Normalizing leaves no constant constraint: one that a normal line has contains a rational variable.
+-- Normalizing leaves no constant constraint and no common divisor: a constraint that a normal line has contains a rational variable, and
+-- its coefficients and bound have no common divisor but 1.
 use mathlib.Core.Path.{_≡_, refl}
 use mathlib.Core.Bool.{not}
 use mathlib.Core.List.{List, [], _∷_}
@@ -15,7 +16,7 @@ use Rattle.rules.specs.Normalize.{settled, settledLine, reduced, normalLine}
 use Rattle.rules.specs.Resolve.{resolvent, resolve}
 use Rattle.theory_vectors.specs.Sign.{isZero-quot}
 use Rattle.theory_vectors.specs.Gcd.{gcdAll-dvd, gcdAll-proper}
-use Rattle.theory_vectors.specs.Constraint.{quotients}
+use Rattle.theory_vectors.specs.Constraint.{quotients, content-one}
 use Rattle.theory_lists.specs.Dropped.{DroppedOr}
 use Rattle.theory_resolution.specs.Settled.{settled-cases}
 use Rattle.theory_resolution.specs.NormalLine.{line-ends}
@@ -35,6 +36,27 @@ unfolding reduced
 reduced-proper c n =
     let cs = c .bound ∷ c .coefficients in
     rw (quotients-zero (gcdAll cs) (c .coefficients) (gcdAll-proper (c .bound) (c .coefficients) n) (λ i. gcdAll-dvd cs (suc i))) n
+
+-- "divided by the greatest common divisor of coefficients and bound"
+abbrev pub Divided : Option Constraint → Type 0
+Divided none = Unit {0}
+Divided (some c) = gcdAll (c .bound ∷ c .coefficients) ≡ 1
+
+pub reduced-divided : (c : Constraint) → Proper (some c) → Divided (some (reduced c))
+unfolding reduced
+reduced-divided c n = content-one (c .bound ∷ c .coefficients) (gcdAll-proper (c .bound) (c .coefficients) n)
+
+abbrev DividedLine : Line → Type 0
+DividedLine l = Divided (l .constraint)
+
+settled-divided : (l : Line) (c : Constraint) → DroppedOr DividedLine (settledLine l (settled c))
+unfolding settledLine
+settled-divided l c = settled-cases (λ s. DroppedOr DividedLine (settledLine l s)) c (λ z r. tt) (λ z r. tt) (reduced-divided c)
+
+pub resolve-divided : (v : Variable) (u l : Line) → DroppedOr DividedLine (resolve v u l)
+unfolding resolve
+resolve-divided v u l =
+    line-ends (DroppedOr DividedLine) (resolvent v u l) (λ h. tt) (λ n e. rw e tt) (λ n c e. settled-divided (resolvent v u l) c)
 
 abbrev pub ProperLine : Line → Type 0
 ProperLine l = Proper (l .constraint)

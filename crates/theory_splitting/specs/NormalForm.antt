@@ -19,7 +19,7 @@ use Rattle.theory_resolution.specs.Members.{Within, including-has, none-has}
 use Rattle.theory_lists.specs.Dropped.{DroppedOr, dropped-then}
 use Rattle.theory_resolution.specs.Settled.{settled-cases}
 use Rattle.theory_resolution.specs.Formed.{Eight, length-reduced}
-use Rattle.theory_resolution.specs.Proper.{Proper, reduced-proper}
+use Rattle.theory_resolution.specs.Proper.{Proper, Divided, reduced-proper, reduced-divided}
 use Rattle.theory_splitting.specs.NormalClause.{normalOf, meets, clause-ends, length-members}
 
 pub within-none : (P : ℕ → Type 0) → Within P noBooleans
@@ -57,6 +57,7 @@ pub record Kept (c : Constraint) : Type 0 where
   pub eight : Eight (some c)
   pub small : SmallAmounts (some c)
   pub proper : Proper (some c)
+  pub divided : Divided (some c)
 
 -- what settling a constraint leaves has a property, and so what is left of several
 module _ (Q : Constraint → Type 0) where
@@ -82,6 +83,7 @@ settled-kept c h = settled-cases (SettledTo Kept) c (λ z r. tt) (λ z r. tt) (�
   eight = length-reduced c ∙ h .0;
   small = reduced-small c (h .1);
   proper = reduced-proper c z;
+  divided = reduced-divided c z;
 })
 
 -- ---- clauses

@@ -20,7 +20,7 @@ use Rattle.theory_resolution.specs.Members.{Within, Common, none-has, including
 use Rattle.theory_resolution.specs.Members.{member-meet}
 use Rattle.theory_resolution.specs.Holds.{Consistent}
 use Rattle.theory_resolution.specs.Formed.{Formed}
-use Rattle.theory_resolution.specs.Proper.{Proper}
+use Rattle.theory_resolution.specs.Proper.{Proper, Divided}
 use Rattle.theory_splitting.specs.NormalForm.{Kept, Below, below-split, within-none, within-including, NormalForm}
 use Rattle.theory_splitting.specs.Parts.{whole}
 
@@ -28,6 +28,7 @@ use Rattle.theory_splitting.specs.Parts.{whole}
 pub record LineForm (P : ℕ → Type 0) (l : Line) : Type 0 where
   pub formed : Formed l
   pub proper : Proper (l .constraint)
+  pub divided : Divided (l .constraint)
   pub small : SmallAmounts (l .constraint)
   pub consistent : Consistent l
   pub positive : Within P (l .positive)
@@ -53,6 +54,7 @@ chain-form P k p n c [] lp ln a w wp wn q e = (
   record {
     formed = record { positive = lp; negative = ln; constraint = e .0 .eight };
     proper = e .0 .proper;
+    divided = e .0 .divided;
     small = e .0 .small;
     consistent = a;
     positive = wp;
@@ -65,6 +67,7 @@ chain-form P k p n c (d ∷ ds) lp ln a w wp wn q e =
       record {
         formed = record { positive = length-including k p ∙ lp; negative = ln; constraint = e .0 .eight };
         proper = e .0 .proper;
+        divided = e .0 .divided;
         small = e .0 .small;
         consistent = including-apart k p n a w;
         positive = within-including P k p y wp;
@@ -83,6 +86,7 @@ parts-of P k p n [] f w q = (
   record {
     formed = record { positive = f .positive-length; negative = f .negative-length; constraint = tt };
     proper = tt;
+    divided = tt;
     small = tt;
     consistent = f .consistent;
     positive = f .positive;

@@ -3,7 +3,8 @@ use mathlib.Core.Path.{_≡_, refl, sym, ap, _∙_}
 use mathlib.Core.Bool.{Bool, not}
 use mathlib.Core.Logic.{_↔_}
 use mathlib.Core.List.{List, [], _∷_, map}
-use Prim.Native.Nat.{ℕ, zero, suc, _<_, _∣_}
+use Prim.Native.Nat.{ℕ, zero, suc, _*_, _<_, _∣_}
+use native.Mathlib.Nat.{mul-div-cancel', eq-of-mul-eq-mul-left, mul-one}
 use native.Mathlib.Omega.{arith}
 use lib.IntN.{ℤ, pos, natAbs, _+ℤ_, _-ℤ_, _*ℤ_}
 use lib.Signed.{_<ℤ_, quotZ}
@@ -12,12 +13,12 @@ use lib.ListN.{length, getD, set, length-map}
 use Rattle.theory_integers.specs.Difference.{v, _⊖_, _⊗_, ≡-by}
 use Rattle.theory_integers.specs.Ring.{*-assoc, *-zeroˡ}
 use Rattle.theory_integers.specs.Natural.{pos-mono-<}
-use Rattle.theory_integers.specs.Quotient.{*-quot, quot-zero}
+use Rattle.theory_integers.specs.Quotient.{*-quot, quot-zero, abs-quot}
 use Rattle.rules.specs.Lists.{all, put}
-use Rattle.rules.specs.Arithmetic.{gcdAll, sum, scale, isZero}
+use Rattle.rules.specs.Arithmetic.{gcd, gcdAll, sum, scale, isZero}
 use Rattle.rules.specs.Problem.{Constraint}
 use Rattle.rules.specs.Meaning.{Assignment, constraintHolds}
-use Rattle.theory_vectors.specs.Gcd.{gcdAll-dvd, gcdAll-proper}
+use Rattle.theory_vectors.specs.Gcd.{gcd-*, gcdAll-dvd, gcdAll-proper}
 use Rattle.theory_vectors.specs.Dot.{sum-scale, sum-zero, sum-put, sum-without, sum-*}
 use Rattle.theory_vectors.specs.Relation.{Rel, related-yes, yes-related, rel-*ˡ, rel-*ʳ, rel-*-cancelˡ, rel-*-cancelʳ, rel-minus}
 use Rattle.theory_vectors.specs.Relation.{minus-rel}
@@ -103,3 +104,17 @@ module _ {s : Bool} (cs : List ℤ) (β : ℤ) (i : ℕ) (y : ℤ) (x : ℕ → 
   put-keeps z e =
       let f : sum cs (put i y (λ j. x j *ℤ k)) ≡ sum cs x *ℤ k = sum-without cs i y (λ j. x j *ℤ k) e ∙ sum-* cs x k in
       (λ h. rel-*-cancelʳ (sum cs x) (β *ℤ d) z (rw (*-assoc β d k, ← f) h), λ h. rw (f, ← *-assoc β d k) (rel-*ʳ z h))
+
+-- what is divided by its greatest common divisor has no common divisor but 1
+quotients-content : (g : ℕ) (zs : List ℤ) → ((i : ℕ) → g ∣ natAbs (getD zs i (pos 0))) → g * gcdAll (quotients g zs) ≡ gcdAll zs
+unfolding gcdAll
+quotients-content g [] d = omega arith
+quotients-content g (z ∷ zs) d =
+    let e : g * natAbs (quotZ z (pos g)) ≡ natAbs z = ap (λ (n : ℕ). g * n) (abs-quot g z) ∙ mul-div-cancel' g (d 0) in
+    let r = quotients-content g zs (λ i. d (suc i)) in
+    sym (gcd-* g (natAbs (quotZ z (pos g))) (gcdAll (quotients g zs))) ∙ (λ i. gcd (e i) (r i))
+
+pub content-one : (zs : List ℤ) → 0 < gcdAll zs → gcdAll (quotients (gcdAll zs) zs) ≡ 1
+content-one zs h =
+    let g = gcdAll zs in
+    eq-of-mul-eq-mul-left g h (gcdAll (quotients g zs)) 1 (quotients-content g zs (gcdAll-dvd zs) ∙ sym (mul-one g))
