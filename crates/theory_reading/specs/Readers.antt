@@ -1,0 +1,141 @@
+-- The readers of rules/Problem judged by the fields of rules/Written.
+use mathlib.Core.Path.{_≡_, refl, sym, subst, _∙_, ap}
+use mathlib.Core.Bool.{Bool, true, false, _||_}
+use mathlib.Core.List.{List, [], _∷_, _++_, map, append-nil}
+use Prim.Native.Nat.{ℕ, zero, suc, _+_, _-_, _%_}
+use native.Mathlib.Omega.{arith}
+use lib.IntN.{ℤ, pos}
+use lib.Dec.{eqb, leb, ltb}
+use lib.ListN.{length, replicate}
+use Rattle.rules_types.specs.declared.answers.Refusal.{Refusal}
+use Rattle.rules_types.specs.declared.answers.Refusal.the-variants as refusal
+use Rattle.rules_types.specs.Limits as limit
+use Rattle.rules_types.specs.Layout as layout
+use Rattle.rules.specs.Lists.{concat}
+use Rattle.rules.specs.Bytes.{toBytes, fromUnsigned}
+use Rattle.rules.specs.Problem.{Literal, Constraint, Clause, Problem, Reader, _>>=_, return, repeat, field, inRange, amount, literal, constraint, clause, end, problem}
+use Rattle.rules.specs.Written.{Field, fieldBytes, bytesOf, WrittenConstraint, WrittenClause, WrittenProblem, amountFields, constraintFields, literalFields, literalsFields, constraintsFields, clauseFields, headerFields, fieldsOf, literalMeant, constraintMeant, clauseMeant, clausesMeant, meaning}
+use Rattle.theory_lists.specs.All.{All, every}
+use Rattle.theory_reading.specs.Judged.{Judged, then-judged, rest-judged, last-judged, renamed-judged, means, means-map, repeat-judged, list-judged}
+use Rattle.theory_reading.specs.Fields.{only, field-judged}
+
+amount-judged : Judged (amount refusal.Amount) amountFields (λ n. Unit {0}) (λ place n. return (fromUnsigned n))
+unfolding amount amountFields
+amount-judged = last-judged fromUnsigned (field 4 (λ n. inRange (fromUnsigned n)) refusal.Amount) _ _ _ (field-judged 4 _ refusal.Amount)
+
+literal-judged : (b : ℕ) → Judged (literal b) (literalFields b) (λ n. Unit {0}) (λ place n. return (literalMeant n))
+unfolding literal literalFields literalMeant
+literal-judged b = last-judged _ (field 1 (λ code. ltb (code % 128) b) refusal.Literal) _ _ _ (field-judged 1 _ refusal.Literal)
+
+constraint-judged : (r : ℕ) → Judged (constraint r) constraintFields (λ c. length (c .coefficients) ≡ r) (λ place c. return (constraintMeant c))
+unfolding constraint constraintFields constraintMeant
+constraint-judged r =
+    renamed-judged
+    (then-judged _ _ _ _ _ _ _ _ (field-judged 1 (λ n. eqb n 1 || eqb n 2) refusal.Relation) (λ place relation p.
+    then-judged _ _ _ _ _ _ _ _ (list-judged _ _ _ _ amount-judged r) (λ place cs q.
+    last-judged (padded r (eqb relation 2) (map fromUnsigned cs)) _ _ _ _ amount-judged)))
+    _ _ _
+    (λ w p. record {
+      name = record { relation = w .0; coefficients = w .1 .0; bound = w .1 .1 };
+      made = p .1 .0 .0;
+      fields = refl;
+      lasts = λ place. rw (p .1 .0 .0);
+    })
+    (λ c p. record {
+      name = (c .relation, (c .coefficients, c .bound));
+      made = (tt, ((p, every (λ n. Unit {0}) (c .coefficients) (λ n. tt)), tt));
+      fields = refl;
+      lasts = λ place. rw p;
+    })
+  where
+    padded : ℕ → Bool → List ℤ → ℤ → Constraint
+    padded r s cs z = record { strict = s; coefficients = cs ++ replicate (limit.rationals - r) (pos 0); bound = z }
+
+-- ---- clauses
+-- rules/Problem's, with the place where it starts said to it
+abbrev clauseFrom : ℕ → ℕ → ℕ → Reader Clause
+clauseFrom b r start = do
+  m ← field 1 (λ m. leb m limit.literals) refusal.Literal
+  literals ← repeat m (literal b)
+  t ← field 1 (λ t. leb t limit.constraints) refusal.Constraints
+  constraints ← repeat t (constraint r)
+  return (record { start = start; literals = literals; constraints = constraints })
+
+abbrev pub HasCoefficients : ℕ → WrittenClause → Type 0
+HasCoefficients r c = All (λ k. length (k .coefficients) ≡ r) (c .constraints)
+
+clauseFrom-judged : (b r start : ℕ) → Judged (clauseFrom b r start) (clauseFields b) (HasCoefficients r) (λ place c. return (clauseMeant start c))
+unfolding clauseFields literalsFields constraintsFields clauseMeant
+clauseFrom-judged b r start =
+    renamed-judged
+    (then-judged _ _ _ _ _ _ _ _ (field-judged 1 (λ m. leb m limit.literals) refusal.Literal) (λ place m p.
+    then-judged _ _ _ _ _ _ _ _ (list-judged _ _ _ _ (literal-judged b) m) (λ place codes q.
+    then-judged _ _ _ _ _ _ _ _ (field-judged 1 (λ t. leb t limit.constraints) refusal.Constraints) (λ place t p.
+    last-judged (λ cs. record { start = start; literals = map literalMeant codes; constraints = cs }) _ _ _ _
+    (list-judged _ _ _ _ (constraint-judged r) t)))))
+    _ _ _
+    (λ w p. record {
+      name = record { literals = w .1 .0; constraints = w .1 .1 .1 };
+      made = p .1 .1 .1 .1;
+      fields = rw (p .1 .0 .0, p .1 .1 .1 .0);
+      lasts = λ place. refl;
+    })
+    (λ c p. record {
+      name = (length (c .literals), (c .literals, (length (c .constraints), c .constraints)));
+      made = (tt, ((refl, every (λ n. Unit {0}) (c .literals) (λ n. tt)), (tt, (refl, p))));
+      fields = refl;
+      lasts = λ place. refl;
+    })
+
+clause-judged : (b r : ℕ) → Judged (clause b r) (clauseFields b) (HasCoefficients r) (λ place c. return (clauseMeant place c))
+unfolding clause
+clause-judged b r = record {
+  reads = λ input h place. clauseFrom-judged b r place .reads input h place;
+  back = λ c p h input place. clauseFrom-judged b r place .back c p h input place;
+}
+
+-- ---- problems
+clauses-means : (b place : ℕ) (cs : List WrittenClause) → means clauseMeant (clauseFields b) place cs ≡ clausesMeant b place cs
+unfolding clausesMeant
+clauses-means b place [] = refl
+clauses-means b place (c ∷ cs) =
+    ap (λ (l : List Clause). clauseMeant place c ∷ l) (clauses-means b (place + length (bytesOf (clauseFields b c))) cs)
+
+abbrev pub meaningFrom : ℕ → WrittenProblem → Problem
+meaningFrom place w = record {
+  booleans = w .booleans;
+  rationals = w .rationals;
+  clauses = clausesMeant (w .booleans) (place + layout.firstClause) (w .clauses);
+}
+
+-- the places of the four fields, summed
+behind-header : (place : ℕ) (w : WrittenProblem) → end (meaningFrom place w) ≡ end (record {
+  booleans = w .booleans;
+  rationals = w .rationals;
+  clauses = means clauseMeant (clauseFields (w .booleans)) (place + 1 + 1 + 2) (w .clauses);
+})
+behind-header place w =
+    let e : place + 1 + 1 + 2 ≡ place + layout.firstClause = omega arith in
+    rw (e, clauses-means (w .booleans) (place + layout.firstClause) (w .clauses))
+
+pub problem-judged : Judged problem fieldsOf (λ w. All (HasCoefficients (w .rationals)) (w .clauses)) (λ place w. end (meaningFrom place w))
+unfolding problem fieldsOf headerFields bytesOf concat toBytes
+problem-judged =
+    renamed-judged
+    (then-judged _ _ _ _ _ _ _ _ (field-judged 1 (λ b. leb b limit.booleans) refusal.Booleans) (λ place b p.
+    then-judged _ _ _ _ _ _ _ _ (field-judged 1 (λ r. leb r limit.rationals) refusal.Rationals) (λ place r p.
+    then-judged _ _ _ _ _ _ _ _ (field-judged 2 (λ n. leb n limit.clauses) refusal.Clauses) (λ place n p.
+    then-judged _ _ _ _ _ _ _ _ (repeat-judged _ _ _ _ (clause-judged b r) n) (λ place cs p. rest-judged _)))))
+    _ _ _
+    (λ w p. let n : WrittenProblem = record { booleans = w .0; rationals = w .1 .0; clauses = w .1 .1 .1 .0 } in record {
+      name = n;
+      made = p .1 .1 .1 .0 .1;
+      fields = rw (p .1 .1 .1 .0 .0, append-nil (concat (map (clauseFields (w .0)) (w .1 .1 .1 .0))));
+      lasts = λ place. behind-header place n;
+    })
+    (λ w p. record {
+      name = (w .booleans, (w .rationals, (length (w .clauses), (w .clauses, tt))));
+      made = (tt, (tt, (tt, ((refl, p), tt))));
+      fields = rw (append-nil (concat (map (clauseFields (w .booleans)) (w .clauses))));
+      lasts = λ place. sym (behind-header place w);
+    })
