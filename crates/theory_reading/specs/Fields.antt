@@ -1,7 +1,7 @@
 -- A tested field is judged by itself: its number in its bytes, within the limits exactly if the test says so.
-use mathlib.Core.Path.{_≡_, refl, sym, subst, _∙_, ap}
+use mathlib.Core.Path.{_≡_, refl, ap}
 use mathlib.Core.Bool.{Bool, true, false}
-use mathlib.Core.List.{List, [], _∷_, _++_, append-nil}
+use mathlib.Core.List.{List, [], _∷_, _++_}
 use Prim.Native.Nat.{ℕ, zero, suc, _+_, _*_, _/_, _%_, _^_, _<_}
 use native.Mathlib.Nat.{pow-succ'}
 use native.Mathlib.Omega.{arith}
@@ -9,11 +9,11 @@ use lib.ListN.{length}
 use Rattle.rules_types.specs.declared.answers.Refusal.{Refusal}
 use Rattle.rules_types.specs.declared.answers.Refusal.the-variants as refusal
 use Rattle.rules.specs.Bytes.{toBytes}
-use Rattle.rules.specs.Problem.{Read, fault, got, Reader, after, return, byte, number, tested, field}
-use Rattle.rules.specs.Written.{Field, fieldBytes}
+use Rattle.rules.specs.Problem.{Read, fault, got, after, return, byte, number, tested, field}
+use Rattle.rules.specs.Written.{Field}
 use Rattle.theory_lists.specs.All.{All}
 use Rattle.theory_bytes.specs.Bytes.{AllBytes, length-toBytes}
-use Rattle.theory_reading.specs.Follows.{Outcome, done, failed, OnField, passes, fails, ends, Follows}
+use Rattle.theory_reading.specs.Follows.{Outcome, done, failed, passes, fails, ends, Follows}
 use Rattle.theory_reading.specs.Judged.{Fits, finish, Followed, Judged}
 
 -- ---- a number

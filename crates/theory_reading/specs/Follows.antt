@@ -1,6 +1,7 @@
 -- Bytes that follow a list of fields: through all of them, to the first that is outside its limits, or to one that is cut off.
 use mathlib.Core.Path.{_≡_, refl, sym, ap, subst₂}
-use mathlib.Core.Bool.{true, false}
+use mathlib.Core.Bool.{Bool, true, false}
+use mathlib.Core.Logic.{inl, inr}
 use mathlib.Core.List.{List, [], _∷_, _++_, append-assoc}
 use Prim.Native.Nat.{ℕ, _+_, _<_}
 use native.Mathlib.Omega.{arith}
@@ -10,7 +11,7 @@ use Rattle.rules_types.specs.declared.answers.Refusal.the-variants as refusal
 use Rattle.rules.specs.Lists.{concat}
 use Rattle.rules.specs.Written.{Field, fieldBytes, bytesOf}
 use Rattle.theory_bytes.specs.Bytes.{length-toBytes}
-use Rattle.theory_reading.specs.Statements.{AllWithin}
+use Rattle.theory_reading.specs.Statements.{AllWithin, HasFault}
 
 -- the bytes left and their place; or a fault and its place
 pub data Outcome : Type 0 where
@@ -138,7 +139,8 @@ stops (x ∷ xs) input place f p (passes r e w n) = by (stops xs r (place + x .s
         (rw (append-assoc (fieldBytes x) (bytesOf before) (fieldBytes it ++ rest), ← i) e) c
         (omega (arith, length-append (fieldBytes x) (bytesOf before), length-toBytes (x .size) (x .number)))
     by (stop-cut before it l part missing g m i c q) =
-        stop-cut (x ∷ before) it (further x xs before it w l) part missing g m (rw (append-assoc (fieldBytes x) (bytesOf before) part, ← i) e) c
+        stop-cut (x ∷ before) it (further x xs before it w l) part missing g m
+        (rw (append-assoc (fieldBytes x) (bytesOf before) part, ← i) e) c
         (rw e (omega (arith, length-append (fieldBytes x) r, length-toBytes (x .size) (x .number))))
 stops (x ∷ xs) input place f p (fails rest e w c) =
     let a : f ≡ x .fault = cc in
@@ -163,3 +165,18 @@ stops-back xs input place f p (stop-cut before it l part missing g m i c q) =
     (join before (it ∷ l .after) input place part n (failed f p)
     (through-back before input place part n (record { input-is = i; next-is = refl; within = l .within }))
     (ends missing g m (rw (c, e))))
+
+-- ---- bytes of their own
+pub data Own (xs : List Field) (place : ℕ) : Type 0 where
+  own-done : (next : ℕ) → Follows xs (bytesOf xs) place (done [] next) → Own xs place
+  own-failed : (f : Refusal) (p : ℕ) → Follows xs (bytesOf xs) place (failed f p) → HasFault f xs → Own xs place
+
+pub own : (xs : List Field) (place : ℕ) → Own xs place
+unfolding bytesOf concat
+own [] place = own-done place refl
+own (x ∷ xs) place = by (x .within) refl (own xs (place + x .size))
+  where
+    by : (b : Bool) → x .within ≡ b → Own xs (place + x .size) → Own (x ∷ xs) place
+    by false e r = own-failed (x .fault) place (fails (bytesOf xs) refl e refl) (inl (refl, e))
+    by true e (own-done next h) = own-done next (passes (bytesOf xs) refl e h)
+    by true e (own-failed f p h a) = own-failed f p (passes (bytesOf xs) refl e h) (inr a)

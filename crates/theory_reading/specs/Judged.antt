@@ -1,15 +1,13 @@
 -- A reader judged by the fields of what is written: whatever the bytes, they follow some written thing's fields, and whatever follows
 -- those is read as it.
-use mathlib.Core.Path.{_≡_, refl, sym, subst, _∙_, ap}
-use mathlib.Core.Bool.{Bool, true, false}
+use mathlib.Core.Path.{_≡_, refl, sym, _∙_, ap}
 use mathlib.Core.List.{List, [], _∷_, _++_, map}
-use Prim.Native.Nat.{ℕ, zero, suc, _+_, _*_, _^_, _<_}
+use Prim.Native.Nat.{ℕ, zero, suc, _+_, _^_, _<_}
 use native.Mathlib.Omega.{arith}
 use lib.ListN.{length}
-use Rattle.rules_types.specs.declared.answers.Refusal.{Refusal}
 use Rattle.rules.specs.Lists.{concat}
-use Rattle.rules.specs.Problem.{Read, fault, got, Reader, after, _>>=_, return, repeat}
-use Rattle.rules.specs.Written.{Field, fieldBytes, bytesOf}
+use Rattle.rules.specs.Problem.{Read, fault, Reader, after, _>>=_, return, repeat}
+use Rattle.rules.specs.Written.{Field, bytesOf}
 use Rattle.theory_lists.specs.All.{All, all-append, append-all}
 use Rattle.theory_bytes.specs.Bytes.{AllBytes}
 use Rattle.theory_reading.specs.Follows.{Outcome, done, failed, Follows, join, stop, Apart, both, stopped, apart, through}
@@ -56,7 +54,8 @@ module _ {A B W X : Type 0} (first : Reader A) (next : A → Reader B) (xs : W �
   unfolding after
   reads input h place = let a = one .reads input h place in by (a .written) (a .made) (a .fits) (a .outcome) (a .follows) (a .is)
     where
-      by : (w : W) → P w → All Fits (xs w) → (o : Outcome) → Follows (xs w) input place o → first input place ≡ finish (return (m place w)) o
+      by : (w : W) → P w → All Fits (xs w) → (o : Outcome) → Follows (xs w) input place o
+          → first input place ≡ finish (return (m place w)) o
           → Followed (λ (w : W × X). xs (w .0) ++ ys (w .0) (w .1)) (λ w. P (w .0) × Q (w .0) (w .1))
           (λ w. last place (w .0) (place + length (bytesOf (xs (w .0)))) (w .1)) input place (after (first input place) next)
       by w p k (done rest n) f e =
@@ -97,9 +96,17 @@ module _ {A B W X : Type 0} (first : Reader A) (next : A → Reader B) (xs : W �
           (two place (w .0) (p .0) .back (w .1) (p .1) b rest n o g)
       by a b (stopped g at e h) = rw (one .back (w .0) (p .0) a input place (failed g at) h, e)
 
-  pub then-judged : Judged (_>>=_ first next) (λ (w : W × X). xs (w .0) ++ ys (w .0) (w .1)) (λ w. P (w .0) × Q (w .0) (w .1))
+  sequence : Judged (_>>=_ first next) (λ (w : W × X). xs (w .0) ++ ys (w .0) (w .1)) (λ w. P (w .0) × Q (w .0) (w .1))
       (λ place w. last place (w .0) (place + length (bytesOf (xs (w .0)))) (w .1))
-  then-judged = record { reads = reads; back = back }
+  sequence = record { reads = reads; back = back }
+
+pub then-judged : {A B W X : Type 0} {first : Reader A} (next : A → Reader B) {xs : W → List Field} {P : W → Type 0} {m : ℕ → W → A}
+    {ys : W → X → List Field} {Q : W → X → Type 0} {last : ℕ → W → ℕ → X → Reader B}
+    → Judged first xs P (λ place w. return (m place w))
+    → ((place : ℕ) (w : W) → P w → Judged (next (m place w)) (ys w) (Q w) (last place w))
+    → Judged (_>>=_ first next) (λ (w : W × X). xs (w .0) ++ ys (w .0) (w .1)) (λ w. P (w .0) × Q (w .0) (w .1))
+    (λ place w. last place (w .0) (place + length (bytesOf (xs (w .0)))) (w .1))
+then-judged next one two = sequence _ next _ _ _ _ _ _ one two
 
 -- ---- what is read, put into something else
 module _ {A B : Type 0} (g : A → B) where
@@ -108,10 +115,10 @@ module _ {A B : Type 0} (g : A → B) where
   finish-mapped r a (done rest next) e = rw e
   finish-mapped r a (failed f place) e = rw e
 
-  pub last-judged : {W : Type 0} (first : Reader A) (xs : W → List Field) (P : W → Type 0) (m : ℕ → W → A)
+  pub last-judged : {W : Type 0} {first : Reader A} {xs : W → List Field} {P : W → Type 0} {m : ℕ → W → A}
       → Judged first xs P (λ place w. return (m place w))
       → Judged (_>>=_ first (λ x. return (g x))) xs P (λ place w. return (g (m place w)))
-  last-judged first xs P m j = record {
+  last-judged {first = first} {m = m} j = record {
     reads = λ input h place. let a = j .reads input h place in record {
       written = a .written;
       made = a .made;
@@ -125,8 +132,8 @@ module _ {A B : Type 0} (g : A → B) where
 
 -- ---- the same fields, of another type
 module _ {A W X : Type 0} where
-  pub record Renamed (xs : W → List Field) (last : ℕ → W → Reader A) (ys : X → List Field) (Q : X → Type 0) (final : ℕ → X → Reader A) (w : W)
-      : Type 0 where
+  pub record Renamed (xs : W → List Field) (last : ℕ → W → Reader A) (ys : X → List Field) (Q : X → Type 0)
+      (final : ℕ → X → Reader A) (w : W) : Type 0 where
     pub name : X
     pub made : Q name
     pub fields : ys name ≡ xs w
@@ -167,7 +174,7 @@ module _ {A W : Type 0} where
   means-map m xs place [] = refl
   means-map m xs place (w ∷ ws) = ap (λ (l : List A). m w ∷ l) (means-map m xs (place + length (bytesOf (xs w))) ws)
 
-  module _ (one : Reader A) (xs : W → List Field) (P : W → Type 0) (m : ℕ → W → A)
+  module _ {one : Reader A} {xs : W → List Field} {P : W → Type 0} {m : ℕ → W → A}
       (j : Judged one xs P (λ place w. return (m place w))) where
     pub repeat-judged : (k : ℕ) → Judged (repeat k one) (λ ws. concat (map xs ws)) (λ ws. (length ws ≡ k) × All P ws)
         (λ place ws. return (means m xs place ws))
@@ -184,7 +191,7 @@ module _ {A W : Type 0} where
         none (w ∷ ws) e input place o f = absurd (omega arith)
     repeat-judged (suc k) =
         renamed-judged
-        (then-judged one _ xs P m _ _ _ j (λ place w p. last-judged (λ l. m place w ∷ l) (repeat k one) _ _ _ (repeat-judged k)))
+        (then-judged _ j (λ place w p. last-judged (λ l. m place w ∷ l) (repeat-judged k)))
         _ _ _
         (λ w p. record {
           name = w .0 ∷ w .1;
@@ -203,9 +210,10 @@ module _ {A W : Type 0} where
         ])
 
   -- where the place does not matter
-  pub list-judged : (one : Reader A) (xs : W → List Field) (P : W → Type 0) (m : W → A) → Judged one xs P (λ place w. return (m w)) → (k : ℕ)
+  pub list-judged : {one : Reader A} {xs : W → List Field} {P : W → Type 0} {m : W → A} → Judged one xs P (λ place w. return (m w))
+      → (k : ℕ)
       → Judged (repeat k one) (λ ws. concat (map xs ws)) (λ ws. (length ws ≡ k) × All P ws) (λ place ws. return (map m ws))
-  list-judged one xs P m j k =
-      renamed-judged (repeat-judged one xs P (λ place. m) j k) _ _ _
+  list-judged {xs = xs} {m = m} j k =
+      renamed-judged (repeat-judged {m = λ place. m} j k) _ _ _
       (λ ws p. record { name = ws; made = p; fields = refl; lasts = λ place. rw (means-map m xs place ws) })
       (λ ws p. record { name = ws; made = p; fields = refl; lasts = λ place. rw (means-map m xs place ws) })

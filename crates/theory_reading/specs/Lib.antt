@@ -4,4 +4,7 @@ pub mod Judged
 pub mod Fields
 pub mod Readers
 pub mod Splits
+pub mod Said
+pub mod Answered
+pub mod Begun
 pub mod Theorems

@@ -1,39 +1,43 @@
 -- The readers of rules/Problem judged by the fields of rules/Written.
-use mathlib.Core.Path.{_≡_, refl, sym, subst, _∙_, ap}
-use mathlib.Core.Bool.{Bool, true, false, _||_}
+use mathlib.Core.Path.{_≡_, refl, sym, ap}
+use mathlib.Core.Bool.{Bool, _||_}
 use mathlib.Core.List.{List, [], _∷_, _++_, map, append-nil}
-use Prim.Native.Nat.{ℕ, zero, suc, _+_, _-_, _%_}
+use Prim.Native.Nat.{ℕ, _+_, _-_, _%_}
 use native.Mathlib.Omega.{arith}
 use lib.IntN.{ℤ, pos}
 use lib.Dec.{eqb, leb, ltb}
 use lib.ListN.{length, replicate}
-use Rattle.rules_types.specs.declared.answers.Refusal.{Refusal}
 use Rattle.rules_types.specs.declared.answers.Refusal.the-variants as refusal
 use Rattle.rules_types.specs.Limits as limit
 use Rattle.rules_types.specs.Layout as layout
 use Rattle.rules.specs.Lists.{concat}
 use Rattle.rules.specs.Bytes.{toBytes, fromUnsigned}
-use Rattle.rules.specs.Problem.{Literal, Constraint, Clause, Problem, Reader, _>>=_, return, repeat, field, inRange, amount, literal, constraint, clause, end, problem}
-use Rattle.rules.specs.Written.{Field, fieldBytes, bytesOf, WrittenConstraint, WrittenClause, WrittenProblem, amountFields, constraintFields, literalFields, literalsFields, constraintsFields, clauseFields, headerFields, fieldsOf, literalMeant, constraintMeant, clauseMeant, clausesMeant, meaning}
+use Rattle.rules.specs.Problem.{Literal, Constraint, Clause, Problem, Reader, _>>=_, return, repeat, field, inRange, amount, literal}
+use Rattle.rules.specs.Problem.{constraint, clause, end, problem}
+use Rattle.rules.specs.Written.{bytesOf, WrittenClause, WrittenProblem, amountFields, constraintFields, literalFields, literalsFields}
+use Rattle.rules.specs.Written.{constraintsFields, clauseFields, headerFields, fieldsOf, literalMeant, constraintMeant, clauseMeant}
+use Rattle.rules.specs.Written.{clausesMeant}
 use Rattle.theory_lists.specs.All.{All, every}
-use Rattle.theory_reading.specs.Judged.{Judged, then-judged, rest-judged, last-judged, renamed-judged, means, means-map, repeat-judged, list-judged}
-use Rattle.theory_reading.specs.Fields.{only, field-judged}
+use Rattle.theory_reading.specs.Judged.{Judged, then-judged, rest-judged, last-judged, renamed-judged, means, repeat-judged}
+use Rattle.theory_reading.specs.Judged.{list-judged}
+use Rattle.theory_reading.specs.Fields.{field-judged}
 
 amount-judged : Judged (amount refusal.Amount) amountFields (λ n. Unit {0}) (λ place n. return (fromUnsigned n))
 unfolding amount amountFields
-amount-judged = last-judged fromUnsigned (field 4 (λ n. inRange (fromUnsigned n)) refusal.Amount) _ _ _ (field-judged 4 _ refusal.Amount)
+amount-judged = last-judged fromUnsigned (field-judged 4 (λ n. inRange (fromUnsigned n)) refusal.Amount)
 
 literal-judged : (b : ℕ) → Judged (literal b) (literalFields b) (λ n. Unit {0}) (λ place n. return (literalMeant n))
 unfolding literal literalFields literalMeant
-literal-judged b = last-judged _ (field 1 (λ code. ltb (code % 128) b) refusal.Literal) _ _ _ (field-judged 1 _ refusal.Literal)
+literal-judged b = last-judged _ (field-judged 1 (λ code. ltb (code % 128) b) refusal.Literal)
 
-constraint-judged : (r : ℕ) → Judged (constraint r) constraintFields (λ c. length (c .coefficients) ≡ r) (λ place c. return (constraintMeant c))
+constraint-judged : (r : ℕ)
+    → Judged (constraint r) constraintFields (λ c. length (c .coefficients) ≡ r) (λ place c. return (constraintMeant c))
 unfolding constraint constraintFields constraintMeant
 constraint-judged r =
     renamed-judged
-    (then-judged _ _ _ _ _ _ _ _ (field-judged 1 (λ n. eqb n 1 || eqb n 2) refusal.Relation) (λ place relation p.
-    then-judged _ _ _ _ _ _ _ _ (list-judged _ _ _ _ amount-judged r) (λ place cs q.
-    last-judged (padded r (eqb relation 2) (map fromUnsigned cs)) _ _ _ _ amount-judged)))
+    (then-judged _ (field-judged 1 (λ n. eqb n 1 || eqb n 2) refusal.Relation) (λ place relation p.
+    then-judged _ (list-judged amount-judged r) (λ place cs q.
+    last-judged (padded r (eqb relation 2) (map fromUnsigned cs)) amount-judged)))
     _ _ _
     (λ w p. record {
       name = record { relation = w .0; coefficients = w .1 .0; bound = w .1 .1 };
@@ -64,15 +68,16 @@ clauseFrom b r start = do
 abbrev pub HasCoefficients : ℕ → WrittenClause → Type 0
 HasCoefficients r c = All (λ k. length (k .coefficients) ≡ r) (c .constraints)
 
-clauseFrom-judged : (b r start : ℕ) → Judged (clauseFrom b r start) (clauseFields b) (HasCoefficients r) (λ place c. return (clauseMeant start c))
+clauseFrom-judged : (b r start : ℕ)
+    → Judged (clauseFrom b r start) (clauseFields b) (HasCoefficients r) (λ place c. return (clauseMeant start c))
 unfolding clauseFields literalsFields constraintsFields clauseMeant
 clauseFrom-judged b r start =
     renamed-judged
-    (then-judged _ _ _ _ _ _ _ _ (field-judged 1 (λ m. leb m limit.literals) refusal.Literal) (λ place m p.
-    then-judged _ _ _ _ _ _ _ _ (list-judged _ _ _ _ (literal-judged b) m) (λ place codes q.
-    then-judged _ _ _ _ _ _ _ _ (field-judged 1 (λ t. leb t limit.constraints) refusal.Constraints) (λ place t p.
-    last-judged (λ cs. record { start = start; literals = map literalMeant codes; constraints = cs }) _ _ _ _
-    (list-judged _ _ _ _ (constraint-judged r) t)))))
+    (then-judged _ (field-judged 1 (λ m. leb m limit.literals) refusal.Literal) (λ place m p.
+    then-judged _ (list-judged (literal-judged b) m) (λ place codes q.
+    then-judged _ (field-judged 1 (λ t. leb t limit.constraints) refusal.Constraints) (λ place t p.
+    last-judged (λ cs. record { start = start; literals = map literalMeant codes; constraints = cs })
+    (list-judged (constraint-judged r) t)))))
     _ _ _
     (λ w p. record {
       name = record { literals = w .1 .0; constraints = w .1 .1 .1 };
@@ -122,10 +127,10 @@ pub problem-judged : Judged problem fieldsOf (λ w. All (HasCoefficients (w .rat
 unfolding problem fieldsOf headerFields bytesOf concat toBytes
 problem-judged =
     renamed-judged
-    (then-judged _ _ _ _ _ _ _ _ (field-judged 1 (λ b. leb b limit.booleans) refusal.Booleans) (λ place b p.
-    then-judged _ _ _ _ _ _ _ _ (field-judged 1 (λ r. leb r limit.rationals) refusal.Rationals) (λ place r p.
-    then-judged _ _ _ _ _ _ _ _ (field-judged 2 (λ n. leb n limit.clauses) refusal.Clauses) (λ place n p.
-    then-judged _ _ _ _ _ _ _ _ (repeat-judged _ _ _ _ (clause-judged b r) n) (λ place cs p. rest-judged _)))))
+    (then-judged _ (field-judged 1 (λ b. leb b limit.booleans) refusal.Booleans) (λ place b p.
+    then-judged _ (field-judged 1 (λ r. leb r limit.rationals) refusal.Rationals) (λ place r p.
+    then-judged _ (field-judged 2 (λ n. leb n limit.clauses) refusal.Clauses) (λ place n p.
+    then-judged _ (repeat-judged (clause-judged b r) n) (λ place cs p. rest-judged _)))))
     _ _ _
     (λ w p. let n : WrittenProblem = record { booleans = w .0; rationals = w .1 .0; clauses = w .1 .1 .1 .0 } in record {
       name = n;

@@ -66,4 +66,5 @@ pub passes-back : (k : ℕ) (before : List Clause) (it : Clause) (after : List C
 unfolding overSplit
 passes-back k [] it after h l = rw (lt-ltb limit.splits (k + splitsOf it) (omega arith), overSplit)
 passes-back k (c ∷ cs) it after h l =
-    rw (le-ltb limit.splits (k + splitsOf c) (omega arith), overSplit) (passes-back (k + splitsOf c) cs it after (omega arith) (omega arith))
+    rw (le-ltb limit.splits (k + splitsOf c) (omega arith), overSplit)
+    (passes-back (k + splitsOf c) cs it after (omega arith) (omega arith))

@@ -10,8 +10,9 @@ use Rattle.rules_types.specs.declared.answers.Refusal.the-variants as refusal
 use Rattle.rules_types.specs.Limits as limit
 use Rattle.rules.specs.Problem.{Clause, Problem}
 use Rattle.rules.specs.Split.{splitsOf}
+use Rattle.rules.specs.Calls.{Reading, faulty, sound}
 use Rattle.rules.specs.Written.{Field, fieldBytes, bytesOf, WrittenProblem, fieldsOf, meaning}
-use Rattle.theory_lists.specs.All.{All}
+use Rattle.theory_lists.specs.All.{All, Any}
 use Rattle.theory_splitting.specs.WellFormed.{splitsIn}
 
 -- it can be written at all: each number fits its bytes, and each constraint has r coefficients
@@ -21,6 +22,9 @@ pub record Writable (w : WrittenProblem) : Type 0 where
 
 abbrev pub AllWithin : List Field → Type 0
 AllWithin xs = All (λ x. x .within ≡ true) xs
+
+abbrev pub HasFault : Refusal → List Field → Type 0
+HasFault f xs = Any (λ x. (x .fault ≡ f) × (x .within ≡ false)) xs
 
 -- ---- which problem the bytes are
 -- the bytes are those of w, whose fields are within their limits: any length, and any number of split variables
@@ -71,7 +75,7 @@ pub record Outside (input : List ℕ) (f : Refusal) (place : ℕ) : Type 0 where
   pub place-is : place ≡ length (bytesOf before)
 
 -- 12: "bytes follow the last clause; the first"
-pub record Follow (input : List ℕ) (f : Refusal) (place : ℕ) : Type 0 where
+pub record Trailing (input : List ℕ) (f : Refusal) (place : ℕ) : Type 0 where
   pub bytes : List ℕ
   pub written : WrittenProblem
   pub writes : Writes bytes written
@@ -82,7 +86,7 @@ pub record Follow (input : List ℕ) (f : Refusal) (place : ℕ) : Type 0 where
   pub place-is : place ≡ length bytes
 
 -- 13: "over 16; first byte of the clause passing it"
-pub record Passed (input : List ℕ) (f : Refusal) (place : ℕ) : Type 0 where
+pub record OverSplits (input : List ℕ) (f : Refusal) (place : ℕ) : Type 0 where
   pub written : WrittenProblem
   pub writes : Writes input written
   pub before : List Clause
@@ -99,5 +103,10 @@ pub data FirstFault (input : List ℕ) (f : Refusal) (place : ℕ) : Type 0 wher
   long : limit.problemBytes < length input → f ≡ refusal.LongProblem → place ≡ limit.problemBytes → FirstFault input f place
   cut : length input ≤ limit.problemBytes → Cut input f place → FirstFault input f place
   outside : length input ≤ limit.problemBytes → Outside input f place → FirstFault input f place
-  follow : length input ≤ limit.problemBytes → Follow input f place → FirstFault input f place
-  passed : length input ≤ limit.problemBytes → Passed input f place → FirstFault input f place
+  trailing : length input ≤ limit.problemBytes → Trailing input f place → FirstFault input f place
+  over-splits : length input ≤ limit.problemBytes → OverSplits input f place → FirstFault input f place
+
+-- ---- what an answer of reading says
+abbrev pub Says : List ℕ → Reading → Type 0
+Says input (faulty f place) = FirstFault input f place
+Says input (sound p) = IsProblem input p
