@@ -1,12 +1,10 @@
--- A reader judged by the fields of what is written: whatever the bytes, they follow some written thing's fields, and whatever follows
--- those is read as it.
+-- A reader judged by the fields of what it reads: all bytes follow the fields of something written, and are read as it says; and bytes
+-- that follow the fields of something written are read as it says.
 use mathlib.Core.Path.{_≡_, refl, sym, _∙_, ap}
-use mathlib.Core.List.{List, [], _∷_, _++_, map}
-use Prim.Native.Nat.{ℕ, zero, suc, _+_, _^_, _<_}
-use native.Mathlib.Omega.{arith}
+use mathlib.Core.List.{List, [], _++_}
+use Prim.Native.Nat.{ℕ, _+_, _^_, _<_}
 use lib.ListN.{length}
-use Rattle.rules.specs.Lists.{concat}
-use Rattle.rules.specs.Problem.{Read, fault, Reader, after, _>>=_, return, repeat}
+use Rattle.rules.specs.Problem.{Read, fault, Reader, after, _>>=_, return}
 use Rattle.rules.specs.Written.{Field, bytesOf}
 use Rattle.theory_lists.specs.All.{All, all-append, append-all}
 use Rattle.theory_bytes.specs.Bytes.{AllBytes}
@@ -15,13 +13,13 @@ use Rattle.theory_reading.specs.Follows.{Outcome, done, failed, Follows,
 abbrev pub Fits : Field → Type 0
 Fits x = x .number < 256 ^ x .size
 
--- what comes of an outcome, where `last` reads on
+-- what is read at the end of an outcome: `last` reads on, or the fault
 abbrev pub finish : {A : Type 0} → Reader A → Outcome → Read A
 finish last (done rest next) = last rest next
 finish last (failed f place) = fault f place
 
 module _ {A W : Type 0} where
-  -- the bytes follow the fields of something written, and r is what comes of it
+  -- the bytes follow the fields of something written, which is made so, and r is what is read
   pub record Followed (fields : W → List Field) (P : W → Type 0) (last : W → Reader A) (input : List ℕ) (place : ℕ) (r : Read A)
       : Type 0 where
     pub written : W
@@ -43,21 +41,21 @@ rest-judged reader = record {
   back = λ w p h input place o e. rw e;
 }
 
--- ---- one reader after another
-module _ {A B W X : Type 0} (first : Reader A) (next : A → Reader B) (xs : W → List Field) (P : W → Type 0) (m : ℕ → W → A)
+-- ---- one reader after another, which may look at the place where the first starts
+module _ {A B W X : Type 0} (first : Reader A) (next : ℕ → A → Reader B) (xs : W → List Field) (P : W → Type 0) (m : ℕ → W → A)
     (ys : W → X → List Field) (Q : W → X → Type 0) (last : ℕ → W → ℕ → X → Reader B)
     (one : Judged first xs P (λ place w. return (m place w)))
-    (two : (place : ℕ) (w : W) → P w → Judged (next (m place w)) (ys w) (Q w) (last place w)) where
+    (two : (place : ℕ) (w : W) → P w → Judged (next place (m place w)) (ys w) (Q w) (last place w)) where
   reads : (input : List ℕ) → AllBytes input → (place : ℕ)
       → Followed (λ (w : W × X). xs (w .0) ++ ys (w .0) (w .1)) (λ w. P (w .0) × Q (w .0) (w .1))
-      (λ w. last place (w .0) (place + length (bytesOf (xs (w .0)))) (w .1)) input place (after (first input place) next)
+      (λ w. last place (w .0) (place + length (bytesOf (xs (w .0)))) (w .1)) input place (after (first input place) (next place))
   unfolding after
   reads input h place = let a = one .reads input h place in by (a .written) (a .made) (a .fits) (a .outcome) (a .follows) (a .is)
     where
       by : (w : W) → P w → All Fits (xs w) → (o : Outcome) → Follows (xs w) input place o
           → first input place ≡ finish (return (m place w)) o
           → Followed (λ (w : W × X). xs (w .0) ++ ys (w .0) (w .1)) (λ w. P (w .0) × Q (w .0) (w .1))
-          (λ w. last place (w .0) (place + length (bytesOf (xs (w .0)))) (w .1)) input place (after (first input place) next)
+          (λ w. last place (w .0) (place + length (bytesOf (xs (w .0)))) (w .1)) input place (after (first input place) (next place))
       by w p k (done rest n) f e =
           let t = through (xs w) input place rest n f in
           let b = two place w p .reads rest (append-all (λ x. x < 256) (bytesOf (xs w)) rest (rw (t .input-is) at h) .1) n in
@@ -82,29 +80,31 @@ module _ {A B W X : Type 0} (first : Reader A) (next : A → Reader B) (xs : W �
 
   back : (w : W × X) → P (w .0) × Q (w .0) (w .1) → All Fits (xs (w .0) ++ ys (w .0) (w .1)) → (input : List ℕ) (place : ℕ) (o : Outcome)
       → Follows (xs (w .0) ++ ys (w .0) (w .1)) input place o
-      → after (first input place) next ≡ finish (last place (w .0) (place + length (bytesOf (xs (w .0)))) (w .1)) o
+      → after (first input place) (next place) ≡ finish (last place (w .0) (place + length (bytesOf (xs (w .0)))) (w .1)) o
   unfolding after
   back w p k input place o f =
       let fits = append-all Fits (xs (w .0)) (ys (w .0) (w .1)) k in
       by (fits .0) (fits .1) (apart (xs (w .0)) (ys (w .0) (w .1)) input place o f)
     where
       by : All Fits (xs (w .0)) → All Fits (ys (w .0) (w .1)) → Apart (xs (w .0)) (ys (w .0) (w .1)) input place o
-          → after (first input place) next ≡ finish (last place (w .0) (place + length (bytesOf (xs (w .0)))) (w .1)) o
+          → after (first input place) (next place) ≡ finish (last place (w .0) (place + length (bytesOf (xs (w .0)))) (w .1)) o
       by a b (both rest n h g) =
           let t = through (xs (w .0)) input place rest n h in
           rw (one .back (w .0) (p .0) a input place (done rest n) h, ← t .next-is)
           (two place (w .0) (p .0) .back (w .1) (p .1) b rest n o g)
       by a b (stopped g at e h) = rw (one .back (w .0) (p .0) a input place (failed g at) h, e)
 
-  sequence : Judged (_>>=_ first next) (λ (w : W × X). xs (w .0) ++ ys (w .0) (w .1)) (λ w. P (w .0) × Q (w .0) (w .1))
+  sequence : Judged (λ bytes place. after (first bytes place) (next place)) (λ (w : W × X). xs (w .0) ++ ys (w .0) (w .1))
+      (λ w. P (w .0) × Q (w .0) (w .1))
       (λ place w. last place (w .0) (place + length (bytesOf (xs (w .0)))) (w .1))
   sequence = record { reads = reads; back = back }
 
-pub then-judged : {A B W X : Type 0} {first : Reader A} (next : A → Reader B) {xs : W → List Field} {P : W → Type 0} {m : ℕ → W → A}
+pub then-judged : {A B W X : Type 0} {first : Reader A} (next : ℕ → A → Reader B) {xs : W → List Field} {P : W → Type 0} {m : ℕ → W → A}
     {ys : W → X → List Field} {Q : W → X → Type 0} {last : ℕ → W → ℕ → X → Reader B}
     → Judged first xs P (λ place w. return (m place w))
-    → ((place : ℕ) (w : W) → P w → Judged (next (m place w)) (ys w) (Q w) (last place w))
-    → Judged (_>>=_ first next) (λ (w : W × X). xs (w .0) ++ ys (w .0) (w .1)) (λ w. P (w .0) × Q (w .0) (w .1))
+    → ((place : ℕ) (w : W) → P w → Judged (next place (m place w)) (ys w) (Q w) (last place w))
+    → Judged (λ bytes place. after (first bytes place) (next place)) (λ (w : W × X). xs (w .0) ++ ys (w .0) (w .1))
+    (λ w. P (w .0) × Q (w .0) (w .1))
     (λ place w. last place (w .0) (place + length (bytesOf (xs (w .0)))) (w .1))
 then-judged next one two = sequence _ next _ _ _ _ _ _ one two
 
@@ -162,58 +162,3 @@ renamed-judged {A} j ys Q final there here = record {
       j .back (n .name) (n .made) (rw (n .fields) h) input place o (rw (n .fields) f)
       ∙ ap (λ (l : Reader A). finish l o) (n .lasts place);
 }
-
--- ---- several, one after another
-module _ {A W : Type 0} where
-  -- each where the one before it ends
-  abbrev pub means : (ℕ → W → A) → (W → List Field) → ℕ → List W → List A
-  means m xs place [] = []
-  means m xs place (w ∷ ws) = m place w ∷ means m xs (place + length (bytesOf (xs w))) ws
-
-  pub means-map : (m : W → A) (xs : W → List Field) (place : ℕ) (ws : List W) → means (λ p. m) xs place ws ≡ map m ws
-  means-map m xs place [] = refl
-  means-map m xs place (w ∷ ws) = ap (λ (l : List A). m w ∷ l) (means-map m xs (place + length (bytesOf (xs w))) ws)
-
-  module _ {one : Reader A} {xs : W → List Field} {P : W → Type 0} {m : ℕ → W → A}
-      (j : Judged one xs P (λ place w. return (m place w))) where
-    pub repeat-judged : (k : ℕ) → Judged (repeat k one) (λ ws. concat (map xs ws)) (λ ws. (length ws ≡ k) × All P ws)
-        (λ place ws. return (means m xs place ws))
-    unfolding repeat concat
-    repeat-judged zero = record {
-      reads = λ input h place. record { written = []; made = (refl, tt); fits = tt; outcome = done input place; follows = refl; is = refl };
-      back = λ ws p h input place o f. none ws (p .0) input place o f;
-    }
-      where
-        none : (ws : List W) → length ws ≡ 0 → (input : List ℕ) (place : ℕ) (o : Outcome)
-            → Follows (concat (map xs ws)) input place o
-            → return [] input place ≡ finish (return (means m xs place ws)) o
-        none [] e input place o f = rw f
-        none (w ∷ ws) e input place o f = absurd (omega arith)
-    repeat-judged (suc k) =
-        renamed-judged
-        (then-judged _ j (λ place w p. last-judged (λ l. m place w ∷ l) (repeat-judged k)))
-        _ _ _
-        (λ w p. record {
-          name = w .0 ∷ w .1;
-          made = (ap suc (p .1 .0), (p .0, p .1 .1));
-          fields = refl;
-          lasts = λ place. refl;
-        })
-        (elim [
-          | [] ↦ λ p. absurd (omega arith)
-          | w ∷ ws ↦ λ p. record {
-            name = (w, ws);
-            made = (p .1 .0, (omega arith, p .1 .1));
-            fields = refl;
-            lasts = λ place. refl;
-          }
-        ])
-
-  -- where the place does not matter
-  pub list-judged : {one : Reader A} {xs : W → List Field} {P : W → Type 0} {m : W → A} → Judged one xs P (λ place w. return (m w))
-      → (k : ℕ)
-      → Judged (repeat k one) (λ ws. concat (map xs ws)) (λ ws. (length ws ≡ k) × All P ws) (λ place ws. return (map m ws))
-  list-judged {xs = xs} {m = m} j k =
-      renamed-judged (repeat-judged {m = λ place. m} j k) _ _ _
-      (λ ws p. record { name = ws; made = p; fields = refl; lasts = λ place. rw (means-map m xs place ws) })
-      (λ ws p. record { name = ws; made = p; fields = refl; lasts = λ place. rw (means-map m xs place ws) })

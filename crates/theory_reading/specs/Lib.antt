@@ -1,6 +1,7 @@
 pub mod Statements
 pub mod Follows
 pub mod Judged
+pub mod Several
 pub mod Fields
 pub mod Readers
 pub mod Splits

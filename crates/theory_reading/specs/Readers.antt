@@ -12,14 +12,14 @@ use Rattle.rules_types.specs.Limits as limit
 use Rattle.rules_types.specs.Layout as layout
 use Rattle.rules.specs.Lists.{concat}
 use Rattle.rules.specs.Bytes.{toBytes, fromUnsigned}
-use Rattle.rules.specs.Problem.{Literal, Constraint, Clause, Problem, Reader, _>>=_, return, repeat, field, inRange, amount, literal}
+use Rattle.rules.specs.Problem.{Literal, Constraint, Clause, Problem, return, inRange, amount, literal}
 use Rattle.rules.specs.Problem.{constraint, clause, end, problem}
 use Rattle.rules.specs.Written.{bytesOf, WrittenClause, WrittenProblem, amountFields, constraintFields, literalFields, literalsFields}
 use Rattle.rules.specs.Written.{constraintsFields, clauseFields, headerFields, fieldsOf, literalMeant, constraintMeant, clauseMeant}
 use Rattle.rules.specs.Written.{clausesMeant}
 use Rattle.theory_lists.specs.All.{All, every}
-use Rattle.theory_reading.specs.Judged.{Judged, then-judged, rest-judged, last-judged, renamed-judged, means, repeat-judged}
-use Rattle.theory_reading.specs.Judged.{list-judged}
+use Rattle.theory_reading.specs.Judged.{Judged, then-judged, rest-judged, last-judged, renamed-judged}
+use Rattle.theory_reading.specs.Several.{means, repeat-judged, list-judged}
 use Rattle.theory_reading.specs.Fields.{field-judged}
 
 amount-judged : Judged (amount refusal.Amount) amountFields (λ n. Unit {0}) (λ place n. return (fromUnsigned n))
@@ -56,24 +56,14 @@ constraint-judged r =
     padded r s cs z = record { strict = s; coefficients = cs ++ replicate (limit.rationals - r) (pos 0); bound = z }
 
 -- ---- clauses
--- rules/Problem's, with the place where it starts said to it
-abbrev clauseFrom : ℕ → ℕ → ℕ → Reader Clause
-clauseFrom b r start = do
-  m ← field 1 (λ m. leb m limit.literals) refusal.Literal
-  literals ← repeat m (literal b)
-  t ← field 1 (λ t. leb t limit.constraints) refusal.Constraints
-  constraints ← repeat t (constraint r)
-  return (record { start = start; literals = literals; constraints = constraints })
-
 abbrev pub HasCoefficients : ℕ → WrittenClause → Type 0
 HasCoefficients r c = All (λ k. length (k .coefficients) ≡ r) (c .constraints)
 
-clauseFrom-judged : (b r start : ℕ)
-    → Judged (clauseFrom b r start) (clauseFields b) (HasCoefficients r) (λ place c. return (clauseMeant start c))
-unfolding clauseFields literalsFields constraintsFields clauseMeant
-clauseFrom-judged b r start =
+clause-judged : (b r : ℕ) → Judged (clause b r) (clauseFields b) (HasCoefficients r) (λ place c. return (clauseMeant place c))
+unfolding clause clauseFields literalsFields constraintsFields clauseMeant
+clause-judged b r =
     renamed-judged
-    (then-judged _ (field-judged 1 (λ m. leb m limit.literals) refusal.Literal) (λ place m p.
+    (then-judged _ (field-judged 1 (λ m. leb m limit.literals) refusal.Literal) (λ start m p.
     then-judged _ (list-judged (literal-judged b) m) (λ place codes q.
     then-judged _ (field-judged 1 (λ t. leb t limit.constraints) refusal.Constraints) (λ place t p.
     last-judged (λ cs. record { start = start; literals = map literalMeant codes; constraints = cs })
@@ -91,13 +81,6 @@ clauseFrom-judged b r start =
       fields = refl;
       lasts = λ place. refl;
     })
-
-clause-judged : (b r : ℕ) → Judged (clause b r) (clauseFields b) (HasCoefficients r) (λ place c. return (clauseMeant place c))
-unfolding clause
-clause-judged b r = record {
-  reads = λ input h place. clauseFrom-judged b r place .reads input h place;
-  back = λ c p h input place. clauseFrom-judged b r place .back c p h input place;
-}
 
 -- ---- problems
 clauses-means : (b place : ℕ) (cs : List WrittenClause) → means clauseMeant (clauseFields b) place cs ≡ clausesMeant b place cs
