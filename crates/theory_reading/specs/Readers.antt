@@ -5,15 +5,13 @@ use Prim.Native.Nat.{ℕ, _+_}
 use native.Mathlib.Omega.{arith}
 use lib.ListN.{length}
 use Rattle.rules_types.specs.declared.answers.Refusal.the-variants as refusal
-use Rattle.rules_types.specs.Limits as limit
 use Rattle.rules_types.specs.Layout as layout
 use Rattle.rules.specs.Lists.{concat}
 use Rattle.rules.specs.Bytes.{toBytes, fromUnsigned}
-use Rattle.rules.specs.Problem.{Clause, Problem, return, amount, literal}
-use Rattle.rules.specs.Problem.{constraint, clause, end, problem}
+use Rattle.rules.specs.Problem.{Clause, Problem, return, amount, literal, constraint, clause, end, problem}
 use Rattle.rules.specs.Written.{bytesOf, WrittenClause, WrittenProblem, amountFields, constraintFields, literalFields, literalsFields}
-use Rattle.rules.specs.Written.{constraintsFields, clauseFields, headerFields, fieldsOf, literalMeant, constraintMeant, clauseMeant}
-use Rattle.rules.specs.Written.{clausesMeant}
+use Rattle.rules.specs.Written.{constraintsFields, clauseFields, headerFields, fieldsOf}
+use Rattle.rules.specs.Written.{literalMeant, constraintMeant, clauseMeant, clausesMeant}
 use Rattle.theory_lists.specs.All.{All, every}
 use Rattle.theory_reading.specs.Judged.{Judged, then-judged, rest-judged, last-judged, renamed-judged}
 use Rattle.theory_reading.specs.Several.{means, repeat-judged, list-judged}
