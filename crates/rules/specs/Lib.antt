@@ -16,6 +16,7 @@ pub mod Checker
 pub mod Calls
 pub mod Print
 pub mod Write
+pub mod Written
 pub mod Compute
 pub mod Examples
 pub mod Traps

@@ -4,13 +4,18 @@ use mathlib.Core.List.{List, [], _∷_}
 use Prim.Native.Nat.{ℕ, zero, suc, _+_, _*_, _-_, _/_, _%_, _^_, _≤_, _<_}
 use native.Mathlib.Nat.{pow-succ'}
 use native.Mathlib.Omega.{arith}
-use lib.ListN.{length, replicate, length-append, length-replicate}
+use lib.ListN.{length, getD, replicate, length-append, length-replicate}
 use Rattle.rules.specs.Bytes.{toBytes, fromBytes, padded}
 use Rattle.theory_lists.specs.All.{All, all-append}
 
 -- every element is a byte
 abbrev pub AllBytes : List ℕ → Type 0
 AllBytes bytes = All (λ n. n < 256) bytes
+
+-- what is known of a slice's elements by their places
+pub all-bytes : (s : List ℕ) → ((i : ℕ) → getD s i 0 < 256) → AllBytes s
+all-bytes [] h = tt
+all-bytes (x ∷ s) h = (h 0, all-bytes s (λ i. h (suc i)))
 
 pub length-toBytes : (k n : ℕ) → length (toBytes k n) ≡ k
 unfolding toBytes

@@ -96,7 +96,7 @@ problem-yields =
 some-not-none : {A : Type 0} (a : A) → some a ≡ none → ⊥
 some-not-none a e = let z : _≡_ {A = ℕ} 0 1 = cc in omega arith
 
-within-splits : (k : ℕ) (cs : List Clause) → k ≤ limit.splits → overSplit k cs ≡ none → k + splitsIn cs ≤ limit.splits
+pub within-splits : (k : ℕ) (cs : List Clause) → k ≤ limit.splits → overSplit k cs ≡ none → k + splitsIn cs ≤ limit.splits
 unfolding overSplit
 within-splits k [] z e = omega arith
 within-splits k (c ∷ cs) z e =

@@ -1,0 +1,11 @@
+pub mod Statements
+pub mod Follows
+pub mod Judged
+pub mod Several
+pub mod Fields
+pub mod Readers
+pub mod Splits
+pub mod Said
+pub mod Answered
+pub mod Begun
+pub mod Theorems
