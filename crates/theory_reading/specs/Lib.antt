@@ -9,3 +9,4 @@ pub mod Said
 pub mod Answered
 pub mod Begun
 pub mod Theorems
+pub mod Numbers
