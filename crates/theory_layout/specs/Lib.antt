@@ -1,1 +1,4 @@
 pub mod Offsets
+pub mod Fields
+pub mod Steps
+pub mod Proofs
