@@ -5,12 +5,11 @@ use mathlib.Core.List.{List, [], _∷_, _++_}
 use Prim.Native.Nat.{ℕ, zero, suc, _+_, _*_, _/_, _%_, _^_, _≤_, _<_}
 use native.Mathlib.Nat.{pow-succ', div-div-eq-div-mul, zero-div}
 use native.Mathlib.Omega.{arith}
-use lib.ListN.{length, getD, take, drop, length-drop}
-use lib.Seq.{take-take, take-nil, drop-nil, drop-drop, take-add, length-take-le}
+use lib.ListN.{length, getD, take, drop, replicate, length-drop}
+use lib.Seq.{take-take, drop-nil, drop-drop, take-add, length-take-le}
 use Rattle.rules.specs.Bytes.{toBytes, fromBytes, fieldAt}
 use Rattle.rules.specs.Lines.{Booleans}
 use Rattle.rules.specs.Steps.{mask}
-use Rattle.theory_lists.specs.All.{All}
 use Rattle.theory_bytes.specs.Bytes.{AllBytes, toBytes-fromBytes}
 
 -- ---- a part
@@ -28,6 +27,19 @@ field-part bytes at n k size h = ap fromBytes (take-drop-take k size n (drop at 
 pub field-drop : (bytes : List ℕ) (at k size : ℕ) → fieldAt k size (drop at bytes) ≡ fieldAt (at + k) size bytes
 unfolding fieldAt
 field-drop bytes at k size = ap (λ (xs : List ℕ). fromBytes (take size xs)) (drop-drop k at bytes)
+
+-- ---- zeros
+pub field-zeros : (n k : ℕ) → fieldAt k 1 (replicate n 0) ≡ 0
+unfolding fieldAt fromBytes
+field-zeros zero k = rw (drop-nil {A = ℕ} k)
+field-zeros (suc n) zero = refl
+field-zeros (suc n) (suc k) = field-zeros n k
+
+pub zeros-before : (n j : ℕ) (rest : List ℕ) → j < n → fieldAt j 1 (replicate n 0 ++ rest) ≡ 0
+unfolding fieldAt fromBytes
+zeros-before zero j rest h = absurd (omega arith)
+zeros-before (suc n) zero rest h = refl
+zeros-before (suc n) (suc j) rest h = zeros-before n j rest (omega arith)
 
 -- ---- bytes are told by their fields
 pub take-bytes : (n : ℕ) (xs : List ℕ) → AllBytes xs → AllBytes (take n xs)

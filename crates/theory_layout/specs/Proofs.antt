@@ -1,19 +1,18 @@
 -- What is written for the steps of a proof stands at document 01's offsets: a step every 64 bytes, and zeros after them.
-use mathlib.Core.Path.{_≡_, refl, ap, _∙_, subst}
+use mathlib.Core.Path.{_≡_, ap, _∙_}
 use mathlib.Core.List.{List, [], _∷_, _++_, append-assoc}
 use mathlib.Core.Option.{some}
-use Prim.Native.Nat.{ℕ, zero, suc, _+_, _*_, _-_, _≤_, _<_}
+use Prim.Native.Nat.{ℕ, zero, suc, _+_, _*_, _-_}
 use native.Mathlib.Omega.{arith}
 use lib.ListN.{length, getElem?, take, drop, replicate, length-append}
 use lib.Seq.{take-at, drop-at, drop-drop}
-use Rattle.rules.specs.Bytes.{fieldAt, fromBytes}
 use Rattle.rules.specs.Steps.{Step, encodeStep, encodeProof}
 use Rattle.theory_lists.specs.All.{All, all-map}
 use Rattle.theory_lists.specs.Places.{element-all, element-below}
 use Rattle.theory_resolution.specs.Formed.{Formed}
 use Rattle.theory_bytes.specs.Steps.{step-length, proof-length}
-use Rattle.theory_layout.specs.Offsets.{StepAt, HoldsSteps}
-use Rattle.theory_layout.specs.Fields.{field-drop}
+use Rattle.theory_layout.specs.Offsets.{HoldsSteps}
+use Rattle.theory_layout.specs.Fields.{field-drop, zeros-before}
 use Rattle.theory_layout.specs.Steps.{Writable, encoded-at}
 
 abbrev AllFormed : List Step → Type 0
@@ -36,12 +35,6 @@ element-encoded (x ∷ ss) rest h (suc i) s e =
       append-assoc (encodeStep x) (encodeProof ss) rest,
       drop-at (encodeStep x) (encodeProof ss ++ rest) 64 (step-length x (h .0)),
     ) (element-encoded ss rest (h .1) i s e)
-
-zeros-before : (n j : ℕ) (rest : List ℕ) → j < n → fieldAt j 1 (replicate n 0 ++ rest) ≡ 0
-unfolding fieldAt fromBytes
-zeros-before zero j rest h = absurd (omega arith)
-zeros-before (suc n) zero rest h = refl
-zeros-before (suc n) (suc j) rest h = zeros-before n j rest (omega arith)
 
 -- THE THEOREM
 pub proof-at : (steps : List Step) (lines : ℕ) (rest : List ℕ) → All Writable steps

@@ -1,18 +1,17 @@
 -- The 64 bytes that are written for a step are the ones that stand at document 01's offsets.
-use mathlib.Core.Path.{_≡_, refl, sym, ap, _∙_, subst}
-use mathlib.Core.Bool.{false, cond}
+use mathlib.Core.Path.{_≡_, refl, sym, ap, _∙_}
 use mathlib.Core.Logic.{_↔_}
 use mathlib.Core.List.{List, [], _∷_, _++_}
 use mathlib.Core.Option.{Option, none, some}
-use Prim.Native.Nat.{ℕ, zero, suc, _+_, _*_, _-_, _/_, _%_, _^_, _≤_, _<_}
+use Prim.Native.Nat.{ℕ, zero, suc, _+_, _*_, _-_, _^_, _≤_, _<_}
 use native.Mathlib.Omega.{arith}
 use lib.IntN.{ℤ, pos}
 use lib.ListN.{length, getD, take, drop, replicate, List·getD-append, length-drop}
-use lib.Seq.{drop-nil, drop-at, getD-at, take-all, length-take-le}
+use lib.Seq.{drop-at, getD-at, take-all, length-take-le}
 use Rattle.rules_types.specs.Limits as limit
 use Rattle.rules.specs.Bytes.{toBytes, fromBytes, fromUnsigned, toUnsigned, amountBytes, fieldAt, padded}
 use Rattle.rules.specs.Problem.{Constraint}
-use Rattle.rules.specs.Lines.{Booleans, Line, rational, boolean, coefficient}
+use Rattle.rules.specs.Lines.{Booleans, rational, boolean, coefficient}
 use Rattle.rules.specs.Steps.{Origin, loaded, resolved, Step, header, headerBytes, relationByte, mask, row, lineBytes, encodeStep}
 use Rattle.theory_lists.specs.All.{All, getD-replicate-same}
 use Rattle.theory_vectors.specs.Amounts.{Small, row-small}
@@ -23,8 +22,8 @@ use Rattle.theory_bytes.specs.Fields.{fieldAt-<}
 use Rattle.theory_bytes.specs.Headers.{how-back, which-back, first-back, second-back}
 use Rattle.theory_bytes.specs.Lines.{Encodable, mask-back, length-row}
 use Rattle.theory_bytes.specs.Steps.{step-length, step-bytes}
-use Rattle.theory_layout.specs.Offsets.{Zeros, HeadAt, OriginAt, relationOf, boundOf, MarksAt, StepAt}
-use Rattle.theory_layout.specs.Fields.{field-part, field-drop, take-bytes, drop-bytes, grow, mask-bit, bits-determine}
+use Rattle.theory_layout.specs.Offsets.{HeadAt, OriginAt, relationOf, boundOf, MarksAt, StepAt}
+use Rattle.theory_layout.specs.Fields.{field-part, field-drop, field-zeros, take-bytes, drop-bytes, grow, mask-bit, bits-determine}
 
 -- what a step must be to be told from its bytes: its two numbers have two bytes each, and its line comes back
 pub record Writable (s : Step) : Type 0 where
@@ -41,12 +40,6 @@ field-amounts (z ∷ zs) rest zero h k = amount-bytes z (small-mag z (k .0))
 field-amounts (z ∷ zs) rest (suc f) h k =
     let e : 4 * suc f ≡ 4 + 4 * f = omega arith in
     rw (e, ← field-drop (amountBytes (z ∷ zs) ++ rest) 4 (4 * f) 4) (field-amounts zs rest f (omega arith) (k .1))
-
-pub field-zeros : (n k : ℕ) → fieldAt k 1 (replicate n 0) ≡ 0
-unfolding fieldAt fromBytes
-field-zeros zero k = rw (drop-nil {A = ℕ} k)
-field-zeros (suc n) zero = refl
-field-zeros (suc n) (suc k) = field-zeros n k
 
 row-coefficient : (k : Option Constraint) → Eight k → (f : ℕ) → f < 8 → getD (row k) f (pos 0) ≡ coefficient f k
 unfolding row coefficient
