@@ -68,9 +68,14 @@ unfolding lineBytes
 line-bytes l =
     let P : ℕ → Type 0 = λ n. n < 256 in
     let marks = all-append P (toBytes 4 (mask (l .positive))) (toBytes 4 (mask (l .negative))) (bytes-toBytes 4 (mask (l .positive)))
-    (bytes-toBytes 4 (mask (l .negative))) in
-    (relation-byte (l .constraint), (omega arith, all-append P (toBytes 4 (mask (l .positive)) ++ toBytes 4 (mask (l .negative)))
-    (amountBytes (row (l .constraint))) marks (bytes-amountBytes (row (l .constraint)))))
+    (bytes-toBytes 4 (mask (l .negative))) in (
+      relation-byte (l .constraint),
+      (
+        omega arith,
+        all-append P (toBytes 4 (mask (l .positive)) ++ toBytes 4 (mask (l .negative)))
+            (amountBytes (row (l .constraint))) marks (bytes-amountBytes (row (l .constraint))),
+      ),
+    )
 
 header-bytes : (h : Header) → h .how < 256 → h .which < 256 → AllBytes (headerBytes h)
 unfolding headerBytes
