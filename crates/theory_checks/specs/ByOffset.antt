@@ -9,13 +9,10 @@ use lib.ListN.{length}
 use lib.Seq.{take-all}
 use Rattle.rules_types.specs.Limits as limit
 use Rattle.rules.specs.Lines.{Line}
-use Rattle.rules.specs.Steps.{Step, resolved, encodeStep}
+use Rattle.rules.specs.Steps.{Step, resolved}
 use Rattle.rules.specs.Checker.{statedLine}
-use Rattle.theory_lists.specs.All.{All, Any, all-map, all-any}
-use Rattle.theory_lists.specs.Places.{element-all, element-below}
-use Rattle.theory_lists.specs.Dropped.{dropped-is}
-use Rattle.theory_vectors.specs.Amounts.{overflows-no}
-use Rattle.theory_resolution.specs.Formed.{Formed, resolve-formed}
+use Rattle.theory_lists.specs.All.{All, Any, all-map}
+use Rattle.theory_lists.specs.Places.{element-below}
 use Rattle.theory_bytes.specs.Bytes.{AllBytes}
 use Rattle.theory_bytes.specs.Headers.{parents}
 use Rattle.theory_bytes.specs.Lines.{Encodable, AllEncodable}
