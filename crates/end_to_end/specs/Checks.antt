@@ -13,11 +13,12 @@ use Rattle.rules_types.specs.declared.answers.Checked.the-variants as checked
 use Rattle.rules_types.specs.Limits as limit
 use Rattle.rules_types.specs.Limits.{standard}
 use Rattle.rules_types.specs.Answers.{checkedNumber, checkedValue}
-use Rattle.rules.specs.Problem.{Problem, got}
+use Rattle.rules.specs.Problem.{Problem}
 use Rattle.rules.specs.Meaning.{Assignment}
-use Rattle.rules.specs.Model.{model}
 use Rattle.rules.specs.Elimination.{loadableOf}
 use Rattle.rules.specs.Calls.{sound, read, wholeSteps, proofChecked, modelChecked}
+use Rattle.theory_bytes.specs.Bytes.{AllBytes}
+use Rattle.theory_layout.specs.Offsets.{StatesModel}
 use Rattle.theory_checks.specs.ProofChecked.{CheckedProof, checked-proof, proof-checked-refutes}
 use Rattle.theory_checks.specs.ModelChecked.{CheckedModel, model-checked-satisfies}
 use Rattle.promises.specs.Decided.{NoAssignment}
@@ -44,11 +45,11 @@ told-accepted t c given = (
 
 -- ---- demand 2: "The check accepts a book exactly if its lines follow and the last is empty, a sheet exactly if every clause holds"
 module _ (input : List ℕ) (p : Problem) (reads : read input ≡ sound p) where
-  pub proof-exactly : (proof : List ℕ) (t : Told) → t ≡ checkedTold (proofChecked standard input proof)
+  pub proof-exactly : (proof : List ℕ) → AllBytes proof → (t : Told) → t ≡ checkedTold (proofChecked standard input proof)
       → (t .number ≡ 67) ↔ (T (wholeSteps standard (length proof)) × Refutes (loadableOf p) (length proof / limit.stepBytes) proof)
-  proof-exactly proof t given =
+  proof-exactly proof b t given =
       let a = told-accepted t (proofChecked standard input proof) given in
-      let d = demand2 input p reads .proof standard (omega arith) proof in
+      let d = demand2 input p reads .proof standard (omega arith) proof b in
       (λ e. d .0 (a .0 e), λ h. a .1 (d .1 h))
 
   pub model-exactly : (model : List ℕ) (t : Told) → t ≡ checkedTold (modelChecked input model) → (t .number ≡ 67) ↔ WritesAssignment p model
@@ -70,17 +71,17 @@ told-fails t c given e = fails-number c (sym (ap (λ (t : Told). t .number) give
     ∙ ap checked.Fails (sym (ap (λ (t : Told). t .value) given))
 
 module _ (input : List ℕ) (p : Problem) (reads : read input ≡ sound p) where
-  pub proof-fails-told : (proof : List ℕ) → wholeSteps standard (length proof) ≡ true → (t : Told)
+  pub proof-fails-told : (proof : List ℕ) → AllBytes proof → wholeSteps standard (length proof) ≡ true → (t : Told)
       → t ≡ checkedTold (proofChecked standard input proof) → t .number ≡ 68
       → LineFails (loadableOf p) (length proof / limit.stepBytes) [] false proof (t .value)
-  proof-fails-told proof whole t given e =
-      proof-fails input p reads standard (omega arith) proof whole (t .value) .0 (told-fails t (proofChecked standard input proof) given e)
+  proof-fails-told proof b whole t given e =
+      proof-fails input p reads standard (omega arith) proof b whole (t .value) .0 (told-fails t (proofChecked standard input proof) given e)
 
-  pub model-fails-told : (bytes : List ℕ) (χ : Assignment) (rest : List ℕ) (place : ℕ) → limit.modelBytes ≤ length bytes
-      → model (p .booleans) (p .rationals) bytes 0 ≡ got χ rest place
+  pub model-fails-told : (bytes : List ℕ) (χ : Assignment) → limit.modelBytes ≤ length bytes
+      → StatesModel bytes (p .booleans) (p .rationals) χ
       → (t : Told) → t ≡ checkedTold (modelChecked input bytes) → t .number ≡ 68 → ClauseFails χ (p .clauses) (t .value)
-  model-fails-told bytes χ rest place size states t given e =
-      model-fails input p reads bytes χ rest place size states (t .value) .0 (told-fails t (modelChecked input bytes) given e)
+  model-fails-told bytes χ size states t given e =
+      model-fails input p reads bytes χ size states (t .value) .0 (told-fails t (modelChecked input bytes) given e)
 
 -- ---- what accepting means, of any bytes
 

@@ -17,6 +17,7 @@ use Rattle.rules.specs.Elimination.{Stops, order, loadableOf, elimination}
 use Rattle.rules.specs.Needs.{stepsOf}
 use Rattle.rules.specs.Calls.{sound, read, Solving, solve, wholeSteps, proofChecked, modelChecked, evidence, evidenceBytes}
 use Rattle.theory_lists.specs.All.{All}
+use Rattle.theory_bytes.specs.Bytes.{AllBytes}
 use Rattle.theory_splitting.specs.Named.{PartAmong, loadable-parts}
 use Rattle.theory_elimination.specs.Origins.{Each, Justified, Fresh}
 use Rattle.theory_elimination.specs.Taken.{Complete}
@@ -35,7 +36,7 @@ pub record Demand2 (input : List ℕ) (p : Problem) : Type 0 where
   -- normalizing or equals a line, and all are if none ended it; the pairs count the resolvents so far
   pub complete : (stops : Stops) → Complete stops order (loadableOf p) (elimination stops p)
   -- "The check accepts a book exactly if its lines follow and the last is empty, a sheet exactly if every clause holds,"
-  pub proof : (limits : Limits) → limits .steps ≤ 65536 → (bytes : List ℕ) → proofChecked limits input bytes ≡ Accepted
+  pub proof : (limits : Limits) → limits .steps ≤ 65536 → (bytes : List ℕ) → AllBytes bytes → proofChecked limits input bytes ≡ Accepted
       ↔ (T (wholeSteps limits (length bytes)) × Refutes (loadableOf p) (length bytes / limit.stepBytes) bytes)
   pub model : (bytes : List ℕ) → modelChecked input bytes ≡ Accepted ↔ WritesAssignment p bytes
 

@@ -6,8 +6,8 @@ use mathlib.Core.List.{List}
 use Prim.Native.Nat.{ℕ, _*_, _≤_, _<_}
 use native.Mathlib.Omega.{arith}
 use lib.Dec.{T, ltb, eqb, eqb→eq, ltb→lt, nltb→le}
-use lib.ListN.{length, take, drop}
-use lib.Seq.{take-at}
+use lib.ListN.{length, take}
+use lib.Seq.{length-take-le}
 use mir.Facts.{no-ltb, yes-eqb}
 use Rattle.rules_types.specs.declared.answers.Refusal.{Refusal}
 use Rattle.rules_types.specs.declared.answers.Refusal.the-variants.{ShortProof, ShortModel, LongProblem, Truncated, Booleans, Rationals}
@@ -27,9 +27,11 @@ use Rattle.rules.specs.Problem.{Problem}
 use Rattle.rules.specs.Elimination.{order, loadableOf, elimination}
 use Rattle.rules.specs.Calls.{Reading, faulty, sound, read, Solving, solve, proofChecked, modelChecked, evidence, evidenceBytes}
 use Rattle.theory_lists.specs.Tests.{split, is-true, is-false}
+use Rattle.theory_layout.specs.WrittenModels.{front-states}
+use Rattle.theory_splitting.specs.Reading.{read-well-formed}
 use Rattle.theory_checks.specs.ModelChecked.{satisfying-model-checked}
 use Rattle.theory_elimination.specs.WithinLimits.{limited-held}
-use Rattle.promises.specs.Words.{Comes, FullSize, OurModel}
+use Rattle.promises.specs.Words.{walkOf, Comes, FullSize, OurModel}
 use Rattle.promises.specs.Demand1.{demand1}
 use Rattle.promises.specs.Demand3.{demand3}
 
@@ -156,9 +158,12 @@ module _ (limits : Limits) (input proof model : List ℕ) where
   model-accepted : (p : Problem) → read input ≡ sound p → OurModel p ours model
       → modelChecked input (take limit.modelBytes (ours .model)) ≡ Accepted
   model-accepted p e s =
-      rw (s .written, take-at (s .bytes) (drop limit.modelBytes model) limit.modelBytes (s .size))
-      (satisfying-model-checked input (s .bytes) p (s .assignment) (s .rest) (s .place) e (omega (arith, s .size))
-      (s .stated) (s .satisfies))
+      let w = read-well-formed input p e in
+      let size : length (take limit.modelBytes (ours .model)) ≡ limit.modelBytes =
+      length-take-le limit.modelBytes (ours .model) (s .sheet .room) in
+      satisfying-model-checked input (take limit.modelBytes (ours .model)) p e (omega (arith, size)) (walkOf p .assignment)
+      (front-states (ours .model) (p .booleans) (p .rationals) (w .booleans) (w .rationals) (walkOf p .assignment) (s .sheet .states))
+      (s .satisfies)
 
   pub model-handed-back : (n : ℕ) → handed ≡ OfModel n
       → modelChecked input (evidenceBytes (OfModel n) (ours .proof) (ours .model)) ≡ Accepted

@@ -105,8 +105,12 @@ module _ (input bytes : List ℕ) (p : Problem) (e : read input ≡ sound p) (si
   pub model-checks : modelChecked input bytes ≡ checkClauses χ 0 (p .clauses)
   unfolding modelChecked
   model-checks =
-      rw (e, modelChecked, is-false (ltb (length bytes) limit.modelBytes) (no-ltb {a = length bytes} {b = limit.modelBytes} size),
-      was-read .is) (checks-agree b r (was-read .assignment) χ read-agrees 0 (p .clauses) (read-well-formed input p e .clauses))
+      rw (
+        e,
+        modelChecked,
+        is-false (ltb (length bytes) limit.modelBytes) (no-ltb {a = length bytes} {b = limit.modelBytes} size),
+        was-read .is,
+      ) (checks-agree b r (was-read .assignment) χ read-agrees 0 (p .clauses) (read-well-formed input p e .clauses))
 
   pub satisfying-model-checked : Satisfies χ p → modelChecked input bytes ≡ checked.Accepted
   satisfying-model-checked h = model-checks ∙ accepted-clauses χ 0 (p .clauses) .1 (h .clauses)

@@ -273,8 +273,8 @@ module _ (bytes : List ℕ) (b r : ℕ) (size : limit.modelBytes ≤ length byte
           record { assignment = ψ; rest = rest; place = place; is = e; states = subst (Ends States Refused) e model-ends }
 
   -- 17, and which field
-  pub model-refused : (place : ℕ) → (model b r bytes 0 ≡ fault refusal.BadModel place) ↔ FirstBadField bytes b r place
-  model-refused place = (λ e. subst (Ends States Refused) e model-ends .1, λ h. by h (model b r bytes 0) refl)
+  pub refused-exactly : (place : ℕ) → (model b r bytes 0 ≡ fault refusal.BadModel place) ↔ FirstBadField bytes b r place
+  refused-exactly place = (λ e. subst (Ends States Refused) e model-ends .1, λ h. by h (model b r bytes 0) refl)
     where
       by : FirstBadField bytes b r place → (m : Read Assignment) → model b r bytes 0 ≡ m → model b r bytes 0 ≡ fault refusal.BadModel place
       by h (fault f at) e =

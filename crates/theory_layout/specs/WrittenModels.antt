@@ -5,11 +5,11 @@ use mathlib.Core.List.{List, _∷_, _++_, append-assoc}
 use Prim.Native.Nat.{ℕ, _+_, _*_, _-_, _≤_, _<_}
 use native.Mathlib.Omega.{arith}
 use lib.IntN.{pos}
-use lib.ListN.{length, replicate, length-append}
+use lib.ListN.{length, take, replicate, length-append}
 use lib.Seq.{drop-at}
 use Rattle.rules_types.specs.Limits as limit
 use Rattle.rules.specs.Lists.{tabulate}
-use Rattle.rules.specs.Bytes.{toBytes, amountBytes, padded}
+use Rattle.rules.specs.Bytes.{toBytes, fromUnsigned, amountBytes, fieldAt, padded}
 use Rattle.rules.specs.Meaning.{Assignment}
 use Rattle.rules.specs.Model.{booleanByte, encodeModel}
 use Rattle.theory_lists.specs.Tabulated.{length-tabulate, getD-tabulate}
@@ -19,7 +19,7 @@ use Rattle.theory_bytes.specs.Amounts.{length-amountBytes}
 use Rattle.theory_bytes.specs.Models.{Fitting, readBack, back-boolean, back-numerator, back-denominator, model-length, model-back}
 use Rattle.theory_layout.specs.Offsets.{StatesModel}
 use Rattle.theory_layout.specs.Offsets.{ModelAt}
-use Rattle.theory_layout.specs.Fields.{field-drop, zeros-before}
+use Rattle.theory_layout.specs.Fields.{field-part, field-drop, zeros-before}
 use Rattle.theory_layout.specs.Models.{got-states}
 
 -- ---- two assignments that the same bytes state
@@ -94,4 +94,22 @@ module _ (b r : ℕ) (χ : Assignment) (fits : Fitting b r χ) (rest : List ℕ)
               drop-at content (zeros ++ rest) (6 + b + 4 * r) content-length,
             )
             (zeros-before (limit.modelBytes - length content) (place - (6 + b + 4 * r)) rest (omega (arith, content-length)));
+      }
+
+-- ---- no field stands beyond the 64 bytes
+module _ (bytes : List ℕ) (b r : ℕ) (few : b ≤ limit.booleans) (small : r ≤ limit.rationals) where
+  front : (k size : ℕ) → k + size ≤ 64 → fieldAt k size (take 64 bytes) ≡ fieldAt k size bytes
+  front k size h = field-part bytes 0 64 k size h ∙ ap (λ (n : ℕ). fieldAt n size bytes) (let e : 0 + k ≡ k = omega arith in e)
+
+  pub front-states : (χ : Assignment) → StatesModel bytes b r χ → StatesModel (take 64 bytes) b r χ
+  front-states χ s =
+      record {
+        booleans = front 0 1 (omega arith) ∙ s .booleans;
+        boolean = λ i h. front (1 + i) 1 (omega arith) ∙ s .boolean i h;
+        rationals = front (1 + b) 1 (omega arith) ∙ s .rationals;
+        denominator = front (2 + b) 4 (omega arith) ∙ s .denominator;
+        numerator = λ f h. ap fromUnsigned (front (6 + b + 4 * f) 4 (omega arith)) ∙ s .numerator f h;
+        least = s .least;
+        most = s .most;
+        range = s .range;
       }
