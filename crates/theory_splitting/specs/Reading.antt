@@ -28,7 +28,7 @@ unfolding literal
 literal-yields b = field-then (λ l. l .boolean < b) _ _ _ _ (λ code h bytes place. ltb→lt (code % 128) b h)
 
 -- ---- constraints
-pub amount-yields : (f : Refusal) → Yields Small (amount f)
+amount-yields : (f : Refusal) → Yields Small (amount f)
 unfolding amount
 amount-yields f = field-then Small _ _ _ _ (λ n h bytes place. range-small (fromUnsigned n) .0 h)
 
