@@ -75,7 +75,8 @@ module _ (input : List ℕ) (p : Problem) (reads : read input ≡ sound p) where
       → t ≡ checkedTold (proofChecked standard input proof) → t .number ≡ 68
       → LineFails (loadableOf p) (length proof / limit.stepBytes) [] false proof (t .value)
   proof-fails-told proof b whole t given e =
-      proof-fails input p reads standard (omega arith) proof b whole (t .value) .0 (told-fails t (proofChecked standard input proof) given e)
+      proof-fails input p reads standard (omega arith) proof b whole (t .value) .0
+      (told-fails t (proofChecked standard input proof) given e)
 
   pub model-fails-told : (bytes : List ℕ) (χ : Assignment) → limit.modelBytes ≤ length bytes
       → StatesModel bytes (p .booleans) (p .rationals) χ

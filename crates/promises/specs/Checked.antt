@@ -44,10 +44,15 @@ use Rattle.promises.specs.Words.{RefutesFrom, Refutes, WritesAssignment}
 never : {X : Type 0} (n : ℕ) → Fails n ≡ Accepted → X
 never n e = absurd (let z : _≡_ {A = ℕ} 0 1 = cc in omega arith)
 
-pub line-short : (bytes : List ℕ) → length (take limit.stepBytes bytes) ≤ limit.stepBytes
-line-short bytes = omega (arith, length-take limit.stepBytes bytes)
-
 module _ (parts : List Step) (known : All Writable parts) where
+  -- the check finds the line that follows
+  pub line-found : (earlier : List Line) → length earlier ≤ limit.mostSteps → All Encodable earlier → (bytes : List ℕ) → AllBytes bytes
+      → (l : Line) → Follows parts earlier (take limit.stepBytes bytes) l
+      → statedLine parts earlier (take limit.stepBytes bytes) ≡ some l
+  line-found earlier few h bytes b l f =
+      follows-stated parts known earlier few h l (take limit.stepBytes bytes) (take-bytes limit.stepBytes bytes b)
+      (omega (arith, length-take limit.stepBytes bytes)) f
+
   steps-exactly : (k : ℕ) (earlier : List Line) (ends : Bool) (bytes : List ℕ) → AllBytes bytes → All Encodable earlier
       → length earlier + k ≤ limit.mostSteps
       → checkSteps parts k earlier ends bytes ≡ Accepted ↔ RefutesFrom parts k earlier ends bytes
@@ -80,11 +85,7 @@ module _ (parts : List Step) (known : All Writable parts) where
           ↔ RefutesFrom parts (suc k) earlier ends bytes
       both then = (
         λ a. forth then (statedLine parts earlier line) refl a,
-        λ r. rw (
-          follows-stated parts known earlier (omega arith) h (r .0) line (take-bytes limit.stepBytes bytes b) (line-short bytes)
-              (r .1),
-          checkSteps,
-        ) (then (r .0) (r .1) .1 (r .2)),
+        λ r. rw (line-found earlier (omega arith) h bytes b (r .0) (r .1), checkSteps) (then (r .0) (r .1) .1 (r .2)),
       )
 
 accepted-exactly : (p : Problem) → WellFormed p → (bytes : List ℕ) → AllBytes bytes → length bytes / limit.stepBytes ≤ limit.mostSteps
@@ -118,7 +119,8 @@ never-refused χ k (c ∷ cs) f place e = by (clauseHolds χ c) (never-refused �
 -- ---- the calls, for a problem read without fault
 module _ (input : List ℕ) (p : Problem) (e : read input ≡ sound p) where
   pub proof-exactly : (limits : Limits) → limits .steps ≤ limit.mostSteps → (bytes : List ℕ) → AllBytes bytes
-      → proofChecked limits input bytes ≡ Accepted ↔ (T (wholeSteps limits (length bytes)) × Refutes (loadableOf p) (length bytes / limit.stepBytes) bytes)
+      → proofChecked limits input bytes ≡ Accepted
+      ↔ (T (wholeSteps limits (length bytes)) × Refutes (loadableOf p) (length bytes / limit.stepBytes) bytes)
   unfolding proofChecked
   proof-exactly limits few bytes b =
       let whole = wholeSteps limits (length bytes) in
@@ -162,12 +164,14 @@ module _ (input : List ℕ) (p : Problem) (e : read input ≡ sound p) where
   model-field-refused bytes h place =
       let w = read-well-formed input p e in
       let x = refused-exactly bytes (p .booleans) (p .rationals) h (w .booleans) (w .rationals) place in (
-        λ a. x .0 (by (model (p .booleans) (p .rationals) bytes 0) refl (rw (e, modelChecked, le-ltb (length bytes) limit.modelBytes h) at a)),
+        λ a. x .0 (by (model (p .booleans) (p .rationals) bytes 0) refl
+            (rw (e, modelChecked, le-ltb (length bytes) limit.modelBytes h) at a)),
         λ k. rw (e, modelChecked, le-ltb (length bytes) limit.modelBytes h, x .1 k),
       )
     where
       by : (m : Read Assignment) → model (p .booleans) (p .rationals) bytes 0 ≡ m
-          → _≡_ {A = Checked} (elim m [ fault f at ↦ Refused f at | got χ rest at ↦ checkClauses χ 0 (p .clauses) ]) (Refused BadModel place)
+          → _≡_ {A = Checked} (elim m [ fault f at ↦ Refused f at | got χ rest at ↦ checkClauses χ 0 (p .clauses) ])
+          (Refused BadModel place)
           → model (p .booleans) (p .rationals) bytes 0 ≡ fault BadModel place
       by (fault f at) m a = let i : f ≡ BadModel = cc in let j : at ≡ place = cc in m ∙ (λ k. fault (i k) (j k))
       by (got χ rest at) m a = absurd (never-refused χ 0 (p .clauses) BadModel place a)

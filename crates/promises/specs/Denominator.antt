@@ -1,5 +1,5 @@
 -- "the common denominator (the least)": whatever number the rational variables on our model can be written over, the model's denominator
--- divides it. Our model is that of this assignment (`sheet` of OurModel).
+-- divides it. Our model is that of this assignment (`written` of OurModel).
 use mathlib.Core.Path.{_≡_}
 use mathlib.Core.Logic.{⊎-elim}
 use mathlib.Core.List.{List}

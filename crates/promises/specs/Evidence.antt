@@ -49,7 +49,7 @@ module _ (limits : Limits) (input : List ℕ) (p : Problem) (e : read input ≡ 
       let same = walk-is limits p w steps n c fit in
       record {
         rule = (bytes, model-is limits p w steps n c fit ∙ q);
-        sheet = rw (same, k .is) (written-model (p .booleans) (p .rationals) (walked .assignment) (k .fits) old);
+        written = rw (same, k .is) (written-model (p .booleans) (p .rationals) (walked .assignment) (k .fits) old);
         beyond = drop-at bytes old limit.modelBytes
             (rw (k .is) (model-length (p .booleans) (p .rationals) (walked .assignment) (k .fits)));
         satisfies = rw same s;

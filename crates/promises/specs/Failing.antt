@@ -25,13 +25,13 @@ use Rattle.theory_splitting.specs.Reading.{read-well-formed}
 use Rattle.theory_bytes.specs.Bytes.{AllBytes}
 use Rattle.theory_bytes.specs.Lines.{Encodable}
 use Rattle.theory_layout.specs.Offsets.{StatesModel}
-use Rattle.theory_layout.specs.Fields.{take-bytes, drop-bytes}
+use Rattle.theory_layout.specs.Fields.{drop-bytes}
 use Rattle.theory_layout.specs.Steps.{Writable}
 use Rattle.theory_checks.specs.Following.{Follows}
-use Rattle.theory_checks.specs.ByOffset.{stated-follows, follows-stated, follows-encodable}
+use Rattle.theory_checks.specs.ByOffset.{stated-follows, follows-encodable}
 use Rattle.theory_checks.specs.ModelChecked.{model-checks}
 use Rattle.theory_checks.specs.Writable.{parts-writable}
-use Rattle.promises.specs.Checked.{line-short, whole-few}
+use Rattle.promises.specs.Checked.{line-found, whole-few}
 
 same-number : {m n : ℕ} → Fails m ≡ Fails n → m ≡ n
 same-number e = cc
@@ -117,7 +117,7 @@ module _ (parts : List Step) (known : All Writable parts) where
           → _≡_ {A = Checked} (elim o [ none ↦ Fails (length earlier) | some l ↦ Next k earlier bytes l ]) (Fails (length earlier + 0))
           ↔ ((l : Line) → Follows parts earlier line l → ⊥)
       by none i = (
-        λ e l f. let j = follows-stated parts known earlier (omega arith) h l line (take-bytes limit.stepBytes bytes b) (line-short bytes) f in
+        λ e l f. let j = line-found parts known earlier (omega arith) h bytes b l f in
             absurd (let y = sym i ∙ j in let z : _≡_ {A = ℕ} 0 1 = cc in omega arith),
         λ a. ap Fails (omega arith),
       )
@@ -135,9 +135,6 @@ module _ (parts : List Step) (known : All Writable parts) where
       line : List ℕ
       line = take limit.stepBytes bytes
 
-      found : (l : Line) → Follows parts earlier line l → statedLine parts earlier line ≡ some l
-      found l f = follows-stated parts known earlier (omega arith) h l line (take-bytes limit.stepBytes bytes b) (line-short bytes) f
-
       Then : Line → Type 0
       Then l = Next k earlier bytes l ≡ Fails (length (earlier ++ (l ∷ [])) + n)
           ↔ LineFails parts k (earlier ++ (l ∷ [])) (isEmpty l) (drop limit.stepBytes bytes) n
@@ -147,7 +144,7 @@ module _ (parts : List Step) (known : All Writable parts) where
           (Fails (length earlier + suc n)) ↔ LineFails parts (suc k) earlier ends bytes (suc n)
       by none i then = (
         λ e. absurd (omega (arith, same-number e)),
-        λ a. let j = found (a .0) (a .1) in
+        λ a. let j = line-found parts known earlier (omega arith) h bytes b (a .0) (a .1) in
             absurd (let y = sym i ∙ j in let z : _≡_ {A = ℕ} 0 1 = cc in omega arith),
       )
       by (some l) i then =
@@ -155,7 +152,7 @@ module _ (parts : List Step) (known : All Writable parts) where
           λ m. omega (arith, length-append earlier (m ∷ [])) in
           let f = stated-follows parts known earlier (omega arith) h l line i in (
             λ e. (l, f, then l f .0 (e ∙ ap Fails (sym (q l)))),
-            λ a. let j : l ≡ a .0 = (let y = sym i ∙ found (a .0) (a .1) in cc) in
+            λ a. let j : l ≡ a .0 = (let y = sym i ∙ line-found parts known earlier (omega arith) h bytes b (a .0) (a .1) in cc) in
                 rw j (then (a .0) (a .1) .1 (a .2) ∙ ap Fails (q (a .0))),
           )
 

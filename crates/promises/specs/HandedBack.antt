@@ -160,9 +160,9 @@ module _ (limits : Limits) (input proof model : List ℕ) where
   model-accepted p e s =
       let w = read-well-formed input p e in
       let size : length (take limit.modelBytes (ours .model)) ≡ limit.modelBytes =
-      length-take-le limit.modelBytes (ours .model) (s .sheet .room) in
+      length-take-le limit.modelBytes (ours .model) (s .written .room) in
       satisfying-model-checked input (take limit.modelBytes (ours .model)) p e (omega (arith, size)) (walkOf p .assignment)
-      (front-states (ours .model) (p .booleans) (p .rationals) (w .booleans) (w .rationals) (walkOf p .assignment) (s .sheet .states))
+      (front-states (ours .model) (p .booleans) (p .rationals) (w .booleans) (w .rationals) (walkOf p .assignment) (s .written .states))
       (s .satisfies)
 
   pub model-handed-back : (n : ℕ) → handed ≡ OfModel n

@@ -1,5 +1,5 @@
 -- What solving reports and leaves in the proof: the elimination's lines and pairs.
-use mathlib.Core.Path.{_≡_, refl, ap}
+use mathlib.Core.Path.{_≡_, refl, ap, _∙_}
 use mathlib.Core.List.{List, _++_}
 use mathlib.Core.Option.{Option, none, some}
 use Prim.Native.Nat.{ℕ, _*_, _-_, _/_, _≤_}
@@ -16,7 +16,9 @@ use Rattle.rules.specs.Elimination.{limited, unlimited, State, running, ended, 
 use Rattle.rules.specs.Needs.{stepsOf, pairsOf}
 use Rattle.rules.specs.Calls.{sound, Outcome, read, concluded, said, proofAfter, modelAfter, Solving, solve}
 use Rattle.theory_lists.specs.All.{all-map}
+use Rattle.theory_lists.specs.Places.{element-all, element}
 use Rattle.theory_resolution.specs.Formed.{Formed}
+use Rattle.theory_bytes.specs.Amounts.{zero-unsigned}
 use Rattle.theory_bytes.specs.Steps.{proof-length}
 use Rattle.theory_layout.specs.Steps.{Writable}
 use Rattle.theory_layout.specs.Proofs.{proof-at}
@@ -26,6 +28,7 @@ use Rattle.theory_elimination.specs.Events.{events}
 use Rattle.theory_elimination.specs.Cut.{cut, eliminate-cut}
 use Rattle.theory_elimination.specs.Sound.{Sound, loadable-sound}
 use Rattle.theory_elimination.specs.PairBound.{pairs-bound}
+use Rattle.theory_elimination.specs.Narrow.{NarrowLine, elimination-narrow}
 use Rattle.theory_elimination.specs.WithinLimits.{limited-held}
 use Rattle.theory_checks.specs.Writable.{elimination-writable}
 use Rattle.theory_resolution.specs.Holds.{Consistent}
@@ -117,7 +120,11 @@ lines-held limits few p w proof v h =
     let size : length (encodeProof steps ++ zeros) ≡ limit.proofBytes limits =
     rw (length-append (encodeProof steps) zeros, length-replicate {A = ℕ} (limit.proofBytes limits - limit.stepBytes * length steps) 0)
     (omega (arith, proof-length steps formed, limited-held limits order (loadableOf p))) in
+    let held = proof-at steps (limits .steps) old writable in
     rw (proof-holds limits p proof state v h) (record {
-      lines = proof-at steps (limits .steps) old writable;
+      lines = held;
+      narrow = λ i f l u k. let s = element steps i l in
+          zero-unsigned _ (held .step i (s .0) (s .1) .coefficients f k
+          ∙ element-all (λ x. NarrowLine (p .rationals) (x .line)) steps i (s .0) (s .1) (elimination-narrow (limited limits) p w) f u);
       beyond = drop-at (encodeProof steps ++ zeros) old (limit.proofBytes limits) size;
     })

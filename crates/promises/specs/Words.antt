@@ -4,7 +4,7 @@ use mathlib.Core.Logic.{_⊎_}
 use mathlib.Core.Bool.{Bool, false}
 use mathlib.Core.List.{List, [], _∷_, _++_, map}
 use mathlib.Core.Option.{Option, none, some}
-use Prim.Native.Nat.{ℕ, zero, suc, _≤_}
+use Prim.Native.Nat.{ℕ, zero, suc, _+_, _*_, _≤_, _<_}
 use lib.Dec.{T}
 use lib.ListN.{length, take, drop}
 use Rattle.rules_types.specs.declared.answers.Refusal.{Refusal}
@@ -14,6 +14,7 @@ use Rattle.rules_types.specs.declared.answers.Answer.{Answer}
 use Rattle.rules_types.specs.declared.answers.Answer.the-variants.{Decided, Refused}
 use Rattle.rules_types.specs.declared.limits.Limits.{Limits}
 use Rattle.rules_types.specs.Limits as limit
+use Rattle.rules.specs.Bytes.{fieldAt}
 use Rattle.rules.specs.Problem.{Problem}
 use Rattle.rules.specs.Meaning.{Assignment, Satisfies}
 use Rattle.rules.specs.Lines.{Line, isEmpty}
@@ -70,12 +71,15 @@ pub record FullSize (limits : Limits) (proof model : List ℕ) : Type 0 where
 -- the proof after a verdict: the elimination's lines and zeros, each field at its offset, and what lay beyond
 pub record HoldsLines (limits : Limits) (p : Problem) (proof lentProof : List ℕ) : Type 0 where
   pub lines : HoldsSteps proof (stepsOf (elimination (limited limits) p)) (limits .steps)
+  -- "Eight coefficients, 0 from r on"
+  pub narrow : (i f : ℕ) → i < length (stepsOf (elimination (limited limits) p)) → p .rationals ≤ f → f < 8
+      → fieldAt (64 * i + (16 + 4 * f)) 4 proof ≡ 0
   pub beyond : drop (limit.proofBytes limits) proof ≡ drop (limit.proofBytes limits) lentProof
 
 -- "ours is that sheet, and the choice on it satisfies Q": `ours` is what solving leaves, `lentModel` what the lent model held before
 pub record OurModel (p : Problem) (ours : Solving) (lentModel : List ℕ) : Type 0 where
   pub rule : GivesModel p
-  pub sheet : ModelAt (ours .model) (p .booleans) (p .rationals) (walkOf p .assignment)
+  pub written : ModelAt (ours .model) (p .booleans) (p .rationals) (walkOf p .assignment)
   pub beyond : drop limit.modelBytes (ours .model) ≡ drop limit.modelBytes lentModel
   pub satisfies : Satisfies (walkOf p .assignment) p
 

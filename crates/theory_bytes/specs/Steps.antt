@@ -67,13 +67,13 @@ line-bytes : (l : Line) → AllBytes (lineBytes l)
 unfolding lineBytes
 line-bytes l =
     let P : ℕ → Type 0 = λ n. n < 256 in
-    let marks = all-append P (toBytes 4 (mask (l .positive))) (toBytes 4 (mask (l .negative))) (bytes-toBytes 4 (mask (l .positive)))
+    let signs = all-append P (toBytes 4 (mask (l .positive))) (toBytes 4 (mask (l .negative))) (bytes-toBytes 4 (mask (l .positive)))
     (bytes-toBytes 4 (mask (l .negative))) in (
       relation-byte (l .constraint),
       (
         omega arith,
         all-append P (toBytes 4 (mask (l .positive)) ++ toBytes 4 (mask (l .negative)))
-            (amountBytes (row (l .constraint))) marks (bytes-amountBytes (row (l .constraint))),
+            (amountBytes (row (l .constraint))) signs (bytes-amountBytes (row (l .constraint))),
       ),
     )
 

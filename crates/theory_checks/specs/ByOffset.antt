@@ -33,7 +33,11 @@ module _ (parts : List Step) (known : All Writable parts) (earlier : List Line) 
       let n = parents (r .variable) (r .first) (r .second) in
       let a = element-below earlier (r .first) (r .upper) (r .atFirst) in
       let b = element-below earlier (r .second) (r .lower) (r .atSecond) in
-      record { first = rw (n .0) (omega arith); second = rw (n .1) (omega arith); line = resolvent-encodable stands parts encodable earlier all l r }
+      record {
+        first = rw (n .0) (omega arith);
+        second = rw (n .1) (omega arith);
+        line = resolvent-encodable stands parts encodable earlier all l r;
+      }
 
   -- ---- so one way of standing there gives another
   module _ (S R : Step → Type 0) (f : (s : Step) → Writable s → S s → R s) where

@@ -136,7 +136,8 @@ module _ (bytes : List ℕ) (l : Line) where
     parents-resolvent v s (some u) (some m) e f h w q = by (derived v (some u) (some m)) refl h
       where
         by : (o : Option Line) → derived v (some u) (some m) ≡ o → _≡_ {A = Option Step} (elim o
-            [ none ↦ none | some r ↦ some (record { origin = resolved v first second; line = r }) ]) (some s) → ResolventIn (WrittenAs bytes) earlier l
+            [ none ↦ none | some r ↦ some (record { origin = resolved v first second; line = r }) ]) (some s)
+            → ResolventIn (WrittenAs bytes) earlier l
         by none d h = never h
         by (some r) d h =
             let i : record { origin = resolved v first second; line = r } ≡ s = inside h in
@@ -144,7 +145,8 @@ module _ (bytes : List ℕ) (l : Line) where
             derived-resolvent v u m e f (subst (λ (x : Line). encodeStep (record { origin = resolved v first second; line = x }) ≡ bytes) j
             (ap encodeStep i ∙ w)) (d ∙ ap some j)
 
-    named-resolvent : (s : Step) → resolventNamed earlier bytes ≡ some s → encodeStep s ≡ bytes → s .line ≡ l → ResolventIn (WrittenAs bytes) earlier l
+    named-resolvent : (s : Step) → resolventNamed earlier bytes ≡ some s → encodeStep s ≡ bytes → s .line ≡ l
+        → ResolventIn (WrittenAs bytes) earlier l
     unfolding resolventNamed
     named-resolvent s h w q = by (variableNamed (fieldAt layout.stepHow 1 bytes) (fieldAt layout.stepWhich 1 bytes)) h
       where

@@ -43,7 +43,8 @@ module _ (p : Problem) (w : WellFormed p) where
       let b = element-below (partsOf base (h .clause)) (h .part .part) (s .line) (h .part .at) in
       record {
         first = rw (h .part .origin) (omega arith);
-        second = rw (h .part .origin) (omega (arith, parts-length base (h .clause), splits-in (p .clauses) (h .number) (h .clause) (h .at)));
+        second = rw (h .part .origin)
+            (omega (arith, parts-length base (h .clause), splits-in (p .clauses) (h .number) (h .clause) (h .at)));
         line = k;
       }
 

@@ -5,3 +5,4 @@ pub mod Proofs
 pub mod Readers
 pub mod Models
 pub mod WrittenModels
+pub mod Determined

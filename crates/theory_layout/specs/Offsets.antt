@@ -20,7 +20,7 @@ use Rattle.rules.specs.Steps.{Origin, loaded, resolved, Step}
 abbrev pub Zeros : ℕ → ℕ → List ℕ → Type 0
 Zeros from to bytes = (place : ℕ) → from ≤ place → place < to → fieldAt place 1 bytes ≡ 0
 
--- ---- a line of the book, at byte `at`
+-- ---- a step, at byte `at`
 -- "Byte 0: how ... Byte 1: which figure or mark ... Two bytes: first parent line (loaded: clause). Two: second parent (loaded: piece)."
 pub record HeadAt (bytes : List ℕ) (at h w a b : ℕ) : Type 0 where
   pub how : fieldAt at 1 bytes ≡ h
@@ -45,8 +45,8 @@ boundOf none = pos 0
 boundOf (some c) = c .bound
 
 -- "mark i is 2^i": bit i of the four bytes' number
-abbrev pub MarksAt : List ℕ → ℕ → Booleans → Type 0
-MarksAt bytes place marks = (i : ℕ) → i < 32 → fieldAt place 4 bytes / 2 ^ i % 2 ≡ cond (getD marks i false) 1 0
+abbrev pub BooleansAt : List ℕ → ℕ → Booleans → Type 0
+BooleansAt bytes place s = (i : ℕ) → i < 32 → fieldAt place 4 bytes / 2 ^ i % 2 ≡ cond (getD s i false) 1 0
 
 -- "Byte 6: relation ... Byte 7: 0. Four bytes each: positive marks, negative marks ... Eight coefficients ... bound; 12 zero bytes."
 pub record StepAt (bytes : List ℕ) (at : ℕ) (s : Step) : Type 0 where
@@ -54,19 +54,19 @@ pub record StepAt (bytes : List ℕ) (at : ℕ) (s : Step) : Type 0 where
   pub origin : OriginAt bytes at (s .origin)
   pub relation : fieldAt (at + 6) 1 bytes ≡ relationOf (s .line .constraint)
   pub zero : fieldAt (at + 7) 1 bytes ≡ 0
-  pub positive : MarksAt bytes (at + 8) (s .line .positive)
-  pub negative : MarksAt bytes (at + 12) (s .line .negative)
+  pub positive : BooleansAt bytes (at + 8) (s .line .positive)
+  pub negative : BooleansAt bytes (at + 12) (s .line .negative)
   pub coefficients : (f : ℕ) → f < 8 → fromUnsigned (fieldAt (at + (16 + 4 * f)) 4 bytes) ≡ coefficient f (s .line .constraint)
   pub bound : fromUnsigned (fieldAt (at + 48) 4 bytes) ≡ boundOf (s .line .constraint)
   pub zeros : Zeros (at + 52) (at + 64) bytes
 
--- ---- the book of so many lines
+-- ---- a proof with room for so many lines
 -- "lines of 64 bytes"; "The book's unused lines are 0"
 pub record HoldsSteps (bytes : List ℕ) (steps : List Step) (lines : ℕ) : Type 0 where
   pub step : (i : ℕ) (s : Step) → getElem? steps i ≡ some s → StepAt bytes (64 * i) s
   pub unused : Zeros (64 * length steps) (64 * lines) bytes
 
--- ---- the sheet
+-- ---- a model
 -- "b; b bytes of 0 or 1; r; four bytes denominator; r numerators of four bytes": what the bytes say, with denominator and numerators in
 -- the range that 17 asks for
 pub record StatesModel (bytes : List ℕ) (b r : ℕ) (χ : Assignment) : Type 0 where

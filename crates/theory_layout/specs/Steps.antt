@@ -22,7 +22,7 @@ use Rattle.theory_bytes.specs.Fields.{fieldAt-<}
 use Rattle.theory_bytes.specs.Headers.{how-back, which-back, first-back, second-back}
 use Rattle.theory_bytes.specs.Lines.{Encodable, mask-back, length-row}
 use Rattle.theory_bytes.specs.Steps.{step-length, step-bytes}
-use Rattle.theory_layout.specs.Offsets.{HeadAt, OriginAt, relationOf, boundOf, MarksAt, StepAt}
+use Rattle.theory_layout.specs.Offsets.{HeadAt, OriginAt, relationOf, boundOf, BooleansAt, StepAt}
 use Rattle.theory_layout.specs.Fields.{field-part, field-drop, field-zeros, take-bytes, drop-bytes, grow, mask-bit, bits-determine}
 
 -- what a step must be to be told from its bytes: its two numbers have two bytes each, and its line comes back
@@ -91,13 +91,13 @@ module _ (s : Step) (w : Writable s) where
         drop-at (amountBytes (row k)) unused 36 n,
       ) (field-zeros spare j)
 
-  marks-positive : fieldAt 8 4 (encodeStep s) ≡ mask (s .line .positive)
+  positive-field : fieldAt 8 4 (encodeStep s) ≡ mask (s .line .positive)
   unfolding encodeStep padded headerBytes lineBytes toBytes fieldAt
-  marks-positive = mask-back (s .line .positive) (w .line .formed .positive)
+  positive-field = mask-back (s .line .positive) (w .line .formed .positive)
 
-  marks-negative : fieldAt 12 4 (encodeStep s) ≡ mask (s .line .negative)
+  negative-field : fieldAt 12 4 (encodeStep s) ≡ mask (s .line .negative)
   unfolding encodeStep padded headerBytes lineBytes toBytes fieldAt
-  marks-negative = mask-back (s .line .negative) (w .line .formed .negative)
+  negative-field = mask-back (s .line .negative) (w .line .formed .negative)
 
   relation-field : fieldAt 6 1 (encodeStep s) ≡ relationByte (s .line .constraint)
   unfolding encodeStep padded headerBytes lineBytes toBytes fieldAt fromBytes
@@ -117,8 +117,8 @@ module _ (s : Step) (w : Writable s) where
             (record { how = how-back s; which = which-back s; first = first-back s (w .first); second = second-back s (w .second) });
         relation = relation-field ∙ relation-is k;
         zero = seventh-field;
-        positive = λ i h. rw marks-positive (mask-bit (s .line .positive) i);
-        negative = λ i h. rw marks-negative (mask-bit (s .line .negative) i);
+        positive = λ i h. rw positive-field (mask-bit (s .line .positive) i);
+        negative = λ i h. rw negative-field (mask-bit (s .line .negative) i);
         coefficients = λ f h. let e : 0 + (16 + 4 * f) ≡ 16 + 4 * f = omega arith in
             rw e (amount-field f (omega arith) ∙ row-coefficient k eight f h);
         bound = amount-field 8 (omega arith) ∙ row-bound k eight;
@@ -138,11 +138,11 @@ module _ (xs ys : List ℕ) (bx : AllBytes xs) (by : AllBytes ys) where
   below : (zs : List ℕ) → AllBytes zs → (place : ℕ) → fieldAt place 4 zs < 2 ^ 32
   below zs b place = fieldAt-< place 4 zs (byte-at zs b)
 
-  marks-same : (place : ℕ) (m : Booleans) → MarksAt xs place m → MarksAt ys place m → fieldAt place 4 xs ≡ fieldAt place 4 ys
-  marks-same place m h g = bits-determine 32 (fieldAt place 4 xs) (fieldAt place 4 ys) (below xs bx place) (below ys by place)
+  booleans-same : (place : ℕ) (m : Booleans) → BooleansAt xs place m → BooleansAt ys place m → fieldAt place 4 xs ≡ fieldAt place 4 ys
+  booleans-same place m h g = bits-determine 32 (fieldAt place 4 xs) (fieldAt place 4 ys) (below xs bx place) (below ys by place)
       (λ i l. h i l ∙ sym (g i l))
 
-  amount-same : (place : ℕ) (z : ℤ) → fromUnsigned (fieldAt place 4 xs) ≡ z → fromUnsigned (fieldAt place 4 ys) ≡ z
+  pub amount-same : (place : ℕ) (z : ℤ) → fromUnsigned (fieldAt place 4 xs) ≡ z → fromUnsigned (fieldAt place 4 ys) ≡ z
       → fieldAt place 4 xs ≡ fieldAt place 4 ys
   amount-same place z h g =
       signed-determines (fieldAt place 4 xs) (fieldAt place 4 ys) (below xs bx place) (below ys by place) (h ∙ sym g)
@@ -163,8 +163,8 @@ module _ (xs ys : List ℕ) (bx : AllBytes xs) (by : AllBytes ys) where
 
     fronts : take 16 xs ≡ take 16 ys
     fronts =
-        more 12 4 (omega arith) (marks-same 12 (s .line .negative) (p .negative) (q .negative))
-        (more 8 4 (omega arith) (marks-same 8 (s .line .positive) (p .positive) (q .positive))
+        more 12 4 (omega arith) (booleans-same 12 (s .line .negative) (p .negative) (q .negative))
+        (more 8 4 (omega arith) (booleans-same 8 (s .line .positive) (p .positive) (q .positive))
         (more 7 1 (omega arith) (p .zero ∙ sym (q .zero)) (more 6 1 (omega arith) (p .relation ∙ sym (q .relation))
         (origins (s .origin) (p .origin) (q .origin)))))
 
@@ -227,7 +227,7 @@ module _ (bytes : List ℕ) (at : ℕ) (room : at + 64 ≤ length bytes) (s : St
   abbrev part : List ℕ
   part = take 64 (drop at bytes)
 
-  part-length : length part ≡ 64
+  pub part-length : length part ≡ 64
   part-length = length-take-le 64 (drop at bytes) (omega (arith, length-drop at bytes))
 
   part-fields : (k size : ℕ) → k + size ≤ 64 → fieldAt (0 + k) size part ≡ fieldAt (at + k) size bytes
