@@ -2,4 +2,3 @@ pub mod Constraint
 pub mod Skip
 pub mod Parts
 pub mod Part
-pub mod Count

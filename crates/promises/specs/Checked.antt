@@ -1,5 +1,5 @@
 -- The check accepts a proof exactly if its lines follow and the last is empty, and a model exactly if every clause holds.
-use mathlib.Core.Path.{_≡_, refl}
+use mathlib.Core.Path.{_≡_, refl, _∙_}
 use mathlib.Core.Bool.{Bool, true, false, _&&_}
 use mathlib.Core.Logic.{_↔_, ⊎-elim}
 use mathlib.Core.List.{List, [], _∷_, _++_}
@@ -8,20 +8,21 @@ use Prim.Native.Nat.{ℕ, zero, suc, _+_, _*_, _/_, _%_, _≤_, _<_}
 use native.Mathlib.Omega.{arith}
 use borrow.Author.Tests.{lt-ltb, le-ltb}
 use lib.Dec.{T, eqb, leb, leb→le}
-use lib.ListN.{length, take, drop, length-append}
+use lib.ListN.{length, take, drop, length-append, length-take}
 use mir.Facts.{and-yes}
 use Rattle.rules_types.specs.declared.answers.Refusal.{Refusal}
-use Rattle.rules_types.specs.declared.answers.Refusal.the-variants.{ShortModel, ProofLength}
+use Rattle.rules_types.specs.declared.answers.Refusal.the-variants.{ShortModel, ProofLength, BadModel}
 use Rattle.rules_types.specs.declared.answers.Checked.{Checked}
 use Rattle.rules_types.specs.declared.answers.Checked.the-variants.{Accepted, Fails, Refused}
 use Rattle.rules_types.specs.declared.limits.Limits.{Limits}
 use Rattle.rules_types.specs.Limits as limit
-use Rattle.rules.specs.Problem.{Problem, fault}
+use Rattle.rules.specs.Problem.{Clause, Problem, Read, fault, got}
+use Rattle.rules.specs.Meaning.{Assignment, clauseHolds}
 use Rattle.rules.specs.Lines.{Line, isEmpty}
 use Rattle.rules.specs.Steps.{Step}
 use Rattle.rules.specs.Elimination.{loadableOf}
 use Rattle.rules.specs.Model.{model}
-use Rattle.rules.specs.Checker.{statedLine, checkSteps, checkProof}
+use Rattle.rules.specs.Checker.{statedLine, checkSteps, checkProof, checkClauses}
 use Rattle.rules.specs.Calls.{faulty, sound, read, wholeSteps, proofChecked, modelChecked}
 use Rattle.theory_lists.specs.Tests.{split, is-true, is-false, clash}
 use Rattle.theory_checks.specs.ProofChecked.{refused-not, same-problem}
@@ -29,25 +30,39 @@ use Rattle.theory_checks.specs.ModelChecked.{CheckedModel, model-checked-satisf
 use Rattle.theory_lists.specs.All.{All, all-append}
 use Rattle.theory_splitting.specs.WellFormed.{WellFormed}
 use Rattle.theory_splitting.specs.Reading.{read-well-formed}
-use Rattle.theory_bytes.specs.Lines.{Encodable, AllEncodable}
-use Rattle.theory_checks.specs.Following.{Follows, stated-follows, follows-stated, follows-encodable}
-use Rattle.theory_checks.specs.EliminationAccepted.{parts-encodable}
+use Rattle.theory_bytes.specs.Bytes.{AllBytes}
+use Rattle.theory_bytes.specs.Lines.{Encodable}
+use Rattle.theory_layout.specs.Offsets.{FirstBadField}
+use Rattle.theory_layout.specs.Fields.{take-bytes, drop-bytes}
+use Rattle.theory_layout.specs.Steps.{Writable}
+use Rattle.theory_layout.specs.Models.{refused-exactly}
+use Rattle.theory_checks.specs.Following.{Follows}
+use Rattle.theory_checks.specs.ByOffset.{stated-follows, follows-stated, follows-encodable}
+use Rattle.theory_checks.specs.Writable.{parts-writable}
 use Rattle.promises.specs.Words.{RefutesFrom, Refutes, WritesAssignment}
 
 never : {X : Type 0} (n : ℕ) → Fails n ≡ Accepted → X
 never n e = absurd (let z : _≡_ {A = ℕ} 0 1 = cc in omega arith)
 
-module _ (parts : List Step) (known : AllEncodable parts) where
-  steps-exactly : (k : ℕ) (earlier : List Line) (ends : Bool) (bytes : List ℕ) → All Encodable earlier
+module _ (parts : List Step) (known : All Writable parts) where
+  -- the check finds the line that follows
+  pub line-found : (earlier : List Line) → length earlier ≤ limit.mostSteps → All Encodable earlier → (bytes : List ℕ) → AllBytes bytes
+      → (l : Line) → Follows parts earlier (take limit.stepBytes bytes) l
+      → statedLine parts earlier (take limit.stepBytes bytes) ≡ some l
+  line-found earlier few h bytes b l f =
+      follows-stated parts known earlier few h l (take limit.stepBytes bytes) (take-bytes limit.stepBytes bytes b)
+      (omega (arith, length-take limit.stepBytes bytes)) f
+
+  steps-exactly : (k : ℕ) (earlier : List Line) (ends : Bool) (bytes : List ℕ) → AllBytes bytes → All Encodable earlier
       → length earlier + k ≤ limit.mostSteps
       → checkSteps parts k earlier ends bytes ≡ Accepted ↔ RefutesFrom parts k earlier ends bytes
   unfolding checkSteps
-  steps-exactly zero earlier true bytes h n = (λ a. tt, λ a. refl)
-  steps-exactly zero earlier false bytes h n = (λ a. never (length earlier) a, λ a. absurd a)
-  steps-exactly (suc k) earlier ends bytes h n =
+  steps-exactly zero earlier true bytes b h n = (λ a. tt, λ a. refl)
+  steps-exactly zero earlier false bytes b h n = (λ a. never (length earlier) a, λ a. absurd a)
+  steps-exactly (suc k) earlier ends bytes b h n =
       both
-      (λ l f. steps-exactly k (earlier ++ (l ∷ [])) (isEmpty l) (drop limit.stepBytes bytes)
-      (all-append Encodable earlier (l ∷ []) h (follows-encodable parts known earlier (omega arith) h line l f, tt))
+      (λ l f. steps-exactly k (earlier ++ (l ∷ [])) (isEmpty l) (drop limit.stepBytes bytes) (drop-bytes limit.stepBytes bytes b)
+      (all-append Encodable earlier (l ∷ []) h (follows-encodable parts known earlier (omega arith) h l line f, tt))
       (rw (length-append earlier (l ∷ [])) (omega arith)))
     where
       line : List ℕ
@@ -64,21 +79,21 @@ module _ (parts : List Step) (known : AllEncodable parts) where
                 (drop limit.stepBytes bytes)
           ]) Accepted → RefutesFrom parts (suc k) earlier ends bytes
       forth then none e a = never (length earlier) a
-      forth then (some l) e a = let f = stated-follows line l earlier parts e in (l, f, then l f .0 a)
+      forth then (some l) e a = let f = stated-follows parts known earlier (omega arith) h l line e in (l, f, then l f .0 a)
 
       both : ((l : Line) → Follows parts earlier line l → Then l) → checkSteps parts (suc k) earlier ends bytes ≡ Accepted
           ↔ RefutesFrom parts (suc k) earlier ends bytes
       both then = (
         λ a. forth then (statedLine parts earlier line) refl a,
-        λ r. rw (follows-stated parts known earlier (omega arith) h line (r .0) (r .1), checkSteps) (then (r .0) (r .1) .1 (r .2)),
+        λ r. rw (line-found earlier (omega arith) h bytes b (r .0) (r .1), checkSteps) (then (r .0) (r .1) .1 (r .2)),
       )
 
-accepted-exactly : (p : Problem) → WellFormed p → (bytes : List ℕ) → length bytes / limit.stepBytes ≤ limit.mostSteps
+accepted-exactly : (p : Problem) → WellFormed p → (bytes : List ℕ) → AllBytes bytes → length bytes / limit.stepBytes ≤ limit.mostSteps
     → checkProof p bytes ≡ Accepted
     ↔ Refutes (loadableOf p) (length bytes / limit.stepBytes) bytes
 unfolding checkProof
-accepted-exactly p w bytes n =
-    steps-exactly (loadableOf p) (parts-encodable p w) (length bytes / limit.stepBytes) [] false bytes tt (omega arith)
+accepted-exactly p w bytes b n =
+    steps-exactly (loadableOf p) (parts-writable p w) (length bytes / limit.stepBytes) [] false bytes b tt (omega arith)
 
 -- no more lines than the limit
 pub whole-few : (limits : Limits) → limits .steps ≤ limit.mostSteps → (n : ℕ) → T (wholeSteps limits n)
@@ -90,15 +105,27 @@ whole-few limits few n t =
     leb→le n (limit.proofBytes limits) (and-yes (leb limit.stepBytes n) (leb n (limit.proofBytes limits)) (a .0) .1) in
     omega arith
 
+-- the clauses refuse nothing
+never-refused : (χ : Assignment) (k : ℕ) (cs : List Clause) (f : Refusal) (place : ℕ) → checkClauses χ k cs ≡ Refused f place → ⊥
+unfolding checkClauses
+never-refused χ k [] f place e = let z : _≡_ {A = ℕ} 0 1 = cc in omega arith
+never-refused χ k (c ∷ cs) f place e = by (clauseHolds χ c) (never-refused χ (suc k) cs f place) e
+  where
+    by : (t : Bool) → (checkClauses χ (suc k) cs ≡ Refused f place → ⊥)
+        → _≡_ {A = Checked} (elim t [ true ↦ checkClauses χ (suc k) cs | false ↦ Fails k ]) (Refused f place) → ⊥
+    by true r e = r e
+    by false r e = let z : _≡_ {A = ℕ} 0 1 = cc in omega arith
+
 -- ---- the calls, for a problem read without fault
 module _ (input : List ℕ) (p : Problem) (e : read input ≡ sound p) where
-  pub proof-exactly : (limits : Limits) → limits .steps ≤ limit.mostSteps → (bytes : List ℕ) → proofChecked limits input bytes ≡ Accepted
+  pub proof-exactly : (limits : Limits) → limits .steps ≤ limit.mostSteps → (bytes : List ℕ) → AllBytes bytes
+      → proofChecked limits input bytes ≡ Accepted
       ↔ (T (wholeSteps limits (length bytes)) × Refutes (loadableOf p) (length bytes / limit.stepBytes) bytes)
   unfolding proofChecked
-  proof-exactly limits few bytes =
+  proof-exactly limits few bytes b =
       let whole = wholeSteps limits (length bytes) in
       ⊎-elim
-      (λ t. let x = accepted-exactly p (read-well-formed input p e) bytes (whole-few limits few (length bytes) t) in
+      (λ t. let x = accepted-exactly p (read-well-formed input p e) bytes b (whole-few limits few (length bytes) t) in
       (λ a. (t, x .0 (rw (e, proofChecked, is-true whole t) at a)), λ h. rw (e, proofChecked, is-true whole t) (x .1 (h .1))))
       (λ t. (
         λ a. absurd (refused-not ProofLength (length bytes) (rw (e, proofChecked, is-false whole t) at a)),
@@ -110,8 +137,6 @@ module _ (input : List ℕ) (p : Problem) (e : read input ≡ sound p) where
       record {
         size = c .size;
         assignment = c .assignment;
-        rest = c .rest;
-        place = c .place;
         stated = rw q at (c .states);
         satisfies = rw q at (c .satisfies);
       }
@@ -119,7 +144,7 @@ module _ (input : List ℕ) (p : Problem) (e : read input ≡ sound p) where
   pub model-exactly : (bytes : List ℕ) → modelChecked input bytes ≡ Accepted ↔ WritesAssignment p bytes
   model-exactly bytes = (
     λ a. let c = model-checked-satisfies input bytes a in read-assignment bytes c (same-problem (read input) (c .problem) p (c .reads) e),
-    λ h. satisfying-model-checked input bytes p (h .assignment) (h .rest) (h .place) e (h .size) (h .stated) (h .satisfies),
+    λ h. satisfying-model-checked input bytes p e (h .size) (h .assignment) (h .stated) (h .satisfies),
   )
 
   -- what a check refuses itself: a proof by its length; a model too short, else by the first field that is refused
@@ -132,10 +157,24 @@ module _ (input : List ℕ) (p : Problem) (e : read input ≡ sound p) where
   unfolding modelChecked
   model-short-refused bytes h = rw (e, modelChecked, lt-ltb (length bytes) limit.modelBytes h)
 
-  pub model-field-refused : (bytes : List ℕ) (f : Refusal) (place : ℕ) → limit.modelBytes ≤ length bytes
-      → model (p .booleans) (p .rationals) bytes 0 ≡ fault f place → modelChecked input bytes ≡ Refused f place
+  -- 17, and which field: the first that is not as it must be
+  pub model-field-refused : (bytes : List ℕ) → limit.modelBytes ≤ length bytes → (place : ℕ)
+      → modelChecked input bytes ≡ Refused BadModel place ↔ FirstBadField bytes (p .booleans) (p .rationals) place
   unfolding modelChecked
-  model-field-refused bytes f place h k = rw (e, modelChecked, le-ltb (length bytes) limit.modelBytes h, k)
+  model-field-refused bytes h place =
+      let w = read-well-formed input p e in
+      let x = refused-exactly bytes (p .booleans) (p .rationals) h (w .booleans) (w .rationals) place in (
+        λ a. x .0 (by (model (p .booleans) (p .rationals) bytes 0) refl
+            (rw (e, modelChecked, le-ltb (length bytes) limit.modelBytes h) at a)),
+        λ k. rw (e, modelChecked, le-ltb (length bytes) limit.modelBytes h, x .1 k),
+      )
+    where
+      by : (m : Read Assignment) → model (p .booleans) (p .rationals) bytes 0 ≡ m
+          → _≡_ {A = Checked} (elim m [ fault f at ↦ Refused f at | got χ rest at ↦ checkClauses χ 0 (p .clauses) ])
+          (Refused BadModel place)
+          → model (p .booleans) (p .rationals) bytes 0 ≡ fault BadModel place
+      by (fault f at) m a = let i : f ≡ BadModel = cc in let j : at ≡ place = cc in m ∙ (λ k. fault (i k) (j k))
+      by (got χ rest at) m a = absurd (never-refused χ 0 (p .clauses) BadModel place a)
 
 -- ---- and for one with a fault
 module _ (input : List ℕ) (f : Refusal) (place : ℕ) (e : read input ≡ faulty f place) where

@@ -6,16 +6,17 @@ use mathlib.Core.List.{List, []}
 use Prim.Native.Nat.{ℕ, _≤_, _<_}
 use lib.ListN.{length}
 use Rattle.rules_types.specs.declared.answers.Refusal.{Refusal}
-use Rattle.rules_types.specs.declared.answers.Refusal.the-variants.{ShortModel, ProofLength}
+use Rattle.rules_types.specs.declared.answers.Refusal.the-variants.{ShortModel, ProofLength, BadModel}
 use Rattle.rules_types.specs.declared.answers.Checked.{Checked}
 use Rattle.rules_types.specs.declared.answers.Checked.the-variants.{Accepted, Fails, Refused}
 use Rattle.rules_types.specs.declared.limits.Limits.{Limits}
 use Rattle.rules_types.specs.Limits as limit
-use Rattle.rules.specs.Problem.{Problem, fault, got}
+use Rattle.rules.specs.Problem.{Problem}
 use Rattle.rules.specs.Meaning.{Assignment}
-use Rattle.rules.specs.Model.{model}
 use Rattle.rules.specs.Elimination.{loadableOf}
 use Rattle.rules.specs.Calls.{faulty, sound, read, proofChecked, modelChecked}
+use Rattle.theory_bytes.specs.Bytes.{AllBytes}
+use Rattle.theory_layout.specs.Offsets.{StatesModel, FirstBadField}
 use Rattle.theory_checks.specs.ProofChecked.{proof-checked-refutes}
 use Rattle.promises.specs.Decided.{NoAssignment}
 use Rattle.promises.specs.Words.{WholeLines, Refutes, WritesAssignment}
@@ -41,22 +42,22 @@ pub record ChecksProof (limits : Limits) (input proof : List ℕ) (says : Checke
 pub record ChecksModel (input bytes : List ℕ) (says : Checked) : Type 0 where
   pub faultyInput : (f : Refusal) (place : ℕ) → read input ≡ faulty f place → says ≡ Refused f place
   pub short : (p : Problem) → read input ≡ sound p → length bytes < limit.modelBytes → says ≡ Refused ShortModel 0
-  pub field : (p : Problem) → read input ≡ sound p → (f : Refusal) (place : ℕ) → limit.modelBytes ≤ length bytes
-      → model (p .booleans) (p .rationals) bytes 0 ≡ fault f place → says ≡ Refused f place
+  pub field : (p : Problem) → read input ≡ sound p → limit.modelBytes ≤ length bytes → (place : ℕ) → (says ≡ Refused BadModel place)
+      ↔ FirstBadField bytes (p .booleans) (p .rationals) place
   -- "a sheet exactly if every clause holds": the assignment on it satisfies Q
   pub accepted : (p : Problem) → read input ≡ sound p → (says ≡ Accepted) ↔ WritesAssignment p bytes
   -- "the first clause that fails"
-  pub fails : (p : Problem) → read input ≡ sound p → (χ : Assignment) (rest : List ℕ) (place : ℕ) → limit.modelBytes ≤ length bytes
-      → model (p .booleans) (p .rationals) bytes 0 ≡ got χ rest place → (n : ℕ) → (says ≡ Fails n) ↔ ClauseFails χ (p .clauses) n
+  pub fails : (p : Problem) → read input ≡ sound p → (χ : Assignment) → limit.modelBytes ≤ length bytes
+      → StatesModel bytes (p .booleans) (p .rationals) χ → (n : ℕ) → (says ≡ Fails n) ↔ ClauseFails χ (p .clauses) n
 
-pub checks-proof : (limits : Limits) → limits .steps ≤ limit.mostSteps → (input proof : List ℕ)
+pub checks-proof : (limits : Limits) → limits .steps ≤ limit.mostSteps → (input proof : List ℕ) → AllBytes proof
     → ChecksProof limits input proof (proofChecked limits input proof)
-checks-proof limits few input proof =
+checks-proof limits few input proof are =
     record {
       faultyInput = λ f place e. proof-refused input f place e limits proof;
       proofLength = λ p e. refused-length input p e limits proof;
-      accepted = λ p e. accepted-lines input p e limits proof few;
-      fails = λ p e. failing-line input p e limits proof few;
+      accepted = λ p e. accepted-lines input p e limits proof are few;
+      fails = λ p e. failing-line input p e limits proof are few;
       refutes = λ p e a. proof-checked-refutes limits input proof a p e;
     }
 

@@ -2,7 +2,7 @@
 -- bytes and buffers of every length. The checks return an answer alone: they write nothing.
 use mathlib.Core.Path.{_≡_}
 use mathlib.Core.List.{List, _++_}
-use Prim.Native.Nat.{ℕ, _*_, _-_, _≤_, _<_}
+use Prim.Native.Nat.{ℕ, _≤_, _<_}
 use lib.ListN.{length, replicate, drop}
 use Rattle.rules_types.specs.declared.answers.Refusal.{Refusal}
 use Rattle.rules_types.specs.declared.answers.Refusal.the-variants as refusal
@@ -13,11 +13,8 @@ use Rattle.rules_types.specs.declared.answers.Checked.the-variants as checked
 use Rattle.rules_types.specs.declared.limits.Limits.{Limits}
 use Rattle.rules_types.specs.Limits as limit
 use Rattle.rules.specs.Problem.{Problem}
-use Rattle.rules.specs.Steps.{encodeProof}
-use Rattle.rules.specs.Elimination.{limited, elimination}
-use Rattle.rules.specs.Needs.{stepsOf}
 use Rattle.rules.specs.Calls.{faulty, sound, read, Solving, solve, proofChecked, modelChecked}
-use Rattle.promises.specs.Words.{Comes, LimitMet, FullSize, OurModel}
+use Rattle.promises.specs.Words.{Comes, LimitMet, FullSize, HoldsLines, OurModel}
 use Rattle.promises.specs.Checked.{proof-refused, model-refused}
 use Rattle.promises.specs.Left as left
 
@@ -28,9 +25,8 @@ untouched f place proof model = record { solved = record { answer = Refused f pl
 pub record Demand1 (limits : Limits) (input lentProof lentModel : List ℕ) (ours : Solving) : Type 0 where
   -- "The lent memory, for a question of arbitrary bytes and buffers of every length, ends as document 01 says: book and sheet after a
   -- verdict,": the lines, zeros, and what lay beyond; the value rule's model after "agrees", zeros otherwise, and what lay beyond
-  pub proof : FullSize limits lentProof lentModel → (p : Problem) → read input ≡ sound p → (v : Verdict) → Comes v (ours .solved .answer)
-      → ours .proof ≡ encodeProof (stepsOf (elimination (limited limits) p)) ++ replicate (limit.proofBytes limits
-      - limit.stepBytes * length (stepsOf (elimination (limited limits) p))) 0 ++ drop (limit.proofBytes limits) lentProof
+  pub proof : FullSize limits lentProof lentModel → (p : Problem) → read input ≡ sound p → limits .steps ≤ 65536 → (v : Verdict)
+      → Comes v (ours .solved .answer) → HoldsLines limits p (ours .proof) lentProof
   pub satisfiable : FullSize limits lentProof lentModel → (p : Problem) → read input ≡ sound p → Comes Satisfiable (ours .solved .answer)
       → OurModel p ours lentModel
   pub others : FullSize limits lentProof lentModel → (p : Problem) → read input ≡ sound p → (v : Verdict)

@@ -17,6 +17,7 @@ use Rattle.rules.specs.Needs.{stepsOf}
 use Rattle.rules.specs.Calls.{sound, read, solve, proofChecked, modelChecked, evidence}
 use Rattle.theory_lists.specs.All.{All, Any}
 use Rattle.theory_saturation.specs.Equal.{covered-exactly}
+use Rattle.theory_bytes.specs.Bytes.{AllBytes}
 use Rattle.theory_splitting.specs.Named.{PartAmong, loadable-parts}
 use Rattle.theory_splitting.specs.Reading.{read-well-formed}
 use Rattle.theory_elimination.specs.Sound.{Sound}
@@ -51,8 +52,8 @@ pub record Demand2 (input : List ℕ) (p : Problem) : Type 0 where
   pub equal : (l : Line) (steps : List Step) → T (covered l steps) ↔ Any (λ s. s .line ≡ l) steps
   pub loaded : (stops : Stops) → AllLoaded stops (loadableOf p) (elimination stops p)
   -- "The check accepts a book exactly if its lines follow and the last is empty, a sheet exactly if every clause holds,"
-  pub proof : (limits : Limits) → limits .steps ≤ limit.mostSteps → (bytes : List ℕ) → proofChecked limits input bytes ≡ Accepted
-      ↔ ((k : ℕ) × WholeLines limits (length bytes) k × Refutes (loadableOf p) k bytes)
+  pub proof : (limits : Limits) → limits .steps ≤ limit.mostSteps → (bytes : List ℕ) → AllBytes bytes
+      → proofChecked limits input bytes ≡ Accepted ↔ ((k : ℕ) × WholeLines limits (length bytes) k × Refutes (loadableOf p) k bytes)
   pub model : (bytes : List ℕ) → modelChecked input bytes ≡ Accepted ↔ WritesAssignment p bytes
 
 pub demand2 : (input : List ℕ) (p : Problem) → read input ≡ sound p → Demand2 input p
@@ -66,7 +67,7 @@ demand2 input p e = record {
   inOrder = round-in-order order;
   equal = covered-exactly;
   loaded = elimination-parts p;
-  proof = λ limits few bytes. accepted-lines input p e limits bytes few;
+  proof = λ limits few bytes b. accepted-lines input p e limits bytes b few;
   model = model-exactly input p e;
 }
 

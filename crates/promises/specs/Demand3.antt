@@ -2,11 +2,11 @@
 -- whatever they hold, and every limit N of lines up to 65,536. Document 01's limit is 1,024, and N × N / 4 is then 262,144.
 use mathlib.Core.Path.{_≡_, sym, subst}
 use mathlib.Core.Logic.{_↔_}
-use mathlib.Core.List.{List, _++_}
+use mathlib.Core.List.{List}
 use mathlib.Core.Option.{none, some}
-use Prim.Native.Nat.{ℕ, _*_, _-_, _/_, _≤_}
+use Prim.Native.Nat.{ℕ, _*_, _/_, _≤_}
 use native.Mathlib.Omega.{arith}
-use lib.ListN.{length, replicate, take, drop}
+use lib.ListN.{length, take}
 use Rattle.rules_types.specs.declared.answers.Refusal.the-variants as refusal
 use Rattle.rules_types.specs.declared.answers.Verdict.{Verdict}
 use Rattle.rules_types.specs.declared.answers.Verdict.the-variants.{Satisfiable, Unsatisfiable, Unwritten}
@@ -15,7 +15,6 @@ use Rattle.rules_types.specs.declared.limits.Limits.{Limits}
 use Rattle.rules_types.specs.Limits as limit
 use Rattle.rules_types.specs.Answers.{answerValue}
 use Rattle.rules.specs.Problem.{Problem}
-use Rattle.rules.specs.Steps.{encodeProof}
 use Rattle.rules.specs.Elimination.{limited, overflow, outOfSteps, order, loadableOf, elimination}
 use Rattle.rules.specs.Needs.{stepsOf, pairsOf, Fits}
 use Rattle.rules.specs.Calls.{sound, read, Solving, solve, proofChecked}
@@ -23,9 +22,10 @@ use Rattle.theory_elimination.specs.Events.{events}
 use Rattle.promises.specs.Decided.{NoAssignment}
 use Rattle.theory_splitting.specs.Reading.{read-well-formed}
 use Rattle.theory_checks.specs.ProofChecked.{proof-checked-refutes}
-use Rattle.promises.specs.Words.{SomeAssignment, modelOf, GivesModel, OurModel, Comes, IsRefused, LimitMet, firstStop, FullSize}
+use Rattle.promises.specs.Words.{SomeAssignment, modelOf, GivesModel, OurModel, HoldsLines, Comes, IsRefused, LimitMet, firstStop}
+use Rattle.promises.specs.Words.{FullSize}
 use Rattle.promises.specs.Outcomes.{unsatisfiable-exactly, satisfiable-exactly, unwritten-exactly, otherwise}
-use Rattle.promises.specs.Reported.{solve-is, reported-lines, reported-pairs, at-most, proof-holds}
+use Rattle.promises.specs.Reported.{solve-is, reported-lines, reported-pairs, at-most, lines-held}
 use Rattle.promises.specs.First.{overflow-first, out-of-steps-first}
 use Rattle.promises.specs.Evidence.{our-model, our-proof}
 
@@ -49,9 +49,7 @@ pub record Demand3 (limits : Limits) (input : List ℕ) (p : Problem) (lentProof
   pub pairs : ours .solved .pairs ≡ pairsOf (elimination (limited limits) p)
   pub atMost : ours .solved .pairs ≤ limits .steps * limits .steps / 4
   -- "and after a verdict the book holds just those lines as 01 writes them."
-  pub holds : (v : Verdict) → Comes v (ours .solved .answer)
-      → ours .proof ≡ encodeProof (stepsOf (elimination (limited limits) p)) ++ replicate (limit.proofBytes limits
-      - limit.stepBytes * length (stepsOf (elimination (limited limits) p))) 0 ++ drop (limit.proofBytes limits) lentProof
+  pub holds : (v : Verdict) → Comes v (ours .solved .answer) → HoldsLines limits p (ours .proof) lentProof
   -- "And whenever the check accepts a book for Q, as it does the used lines of ours after "cannot agree", no choice satisfies Q,
   -- whoever wrote the book."
   pub refutes : (other : List ℕ) → proofChecked limits input other ≡ Accepted → NoAssignment p
@@ -73,7 +71,7 @@ demand3 limits few input p e proof model full =
       lines = reported-lines p (elimination (limited limits) p);
       pairs = reported-pairs p (elimination (limited limits) p);
       atMost = at-most limits p (read-well-formed input p e);
-      holds = proof-holds limits p proof (elimination (limited limits) p);
+      holds = lines-held limits few p (read-well-formed input p e) proof;
       refutes = λ other a. proof-checked-refutes limits input other a p e;
       accepted = our-proof limits input p e few proof;
     })

@@ -1,10 +1,11 @@
 -- What solving hands back is accepted: its model after "agrees", the used lines of its proof after "cannot agree".
 use mathlib.Core.Path.{_≡_, refl, _∙_, subst}
-use mathlib.Core.List.{List, [], _++_, map, append-assoc, append-nil}
+use mathlib.Core.List.{List, _++_, map, append-assoc}
 use mathlib.Core.Option.{Option, none, some}
 use Prim.Native.Nat.{ℕ, _*_, _-_, _≤_}
 use native.Mathlib.Omega.{arith}
 use lib.ListN.{length, replicate, take, drop}
+use lib.Seq.{drop-at}
 use Rattle.rules_types.specs.declared.answers.Verdict.the-variants.{Satisfiable, Unsatisfiable}
 use Rattle.rules_types.specs.declared.answers.Checked.the-variants.{Accepted}
 use Rattle.rules_types.specs.declared.limits.Limits.{Limits}
@@ -19,42 +20,39 @@ use Rattle.rules.specs.Calls.{sound, read, concluded, said, proofAfter, modelAf
 use Rattle.theory_lists.specs.All.{All, all-map}
 use Rattle.theory_resolution.specs.Formed.{Formed}
 use Rattle.theory_splitting.specs.Reading.{read-well-formed}
-use Rattle.theory_checks.specs.ModelChecked.{model-checked-satisfies}
 use Rattle.theory_elimination.specs.Sound.{Sound, elimination-sound}
 use Rattle.theory_bytes.specs.Steps.{take-proof}
 use Rattle.theory_checks.specs.EliminationAccepted.{elimination-accepted}
-use Rattle.theory_checks.specs.ModelAccepted.{written-accepted}
+use Rattle.theory_bytes.specs.Models.{model-length}
+use Rattle.theory_bytes.specs.Written.{written-fits}
+use Rattle.theory_layout.specs.WrittenModels.{written-model}
 use Rattle.promises.specs.Decided.{running-satisfies}
 use Rattle.promises.specs.Words.{OurModel, Comes}
-use Rattle.promises.specs.Outcomes.{finished, walkModel, concluded-running, answerOf, finished-unsatisfiable, model-is}
+use Rattle.promises.specs.Outcomes.{finished, walkModel, concluded-running, answerOf, finished-unsatisfiable, walk-is, model-is}
 use Rattle.promises.specs.Outcomes.{unstopped-fits}
 use Rattle.promises.specs.Reported.{left, reported-lines, proof-holds}
 
 module _ (limits : Limits) (input : List ℕ) (p : Problem) (e : read input ≡ sound p) where
   -- ---- the model
-  same-problem : (q : Problem) → read input ≡ sound q → q ≡ p
-  same-problem q f = cc
-
   model-by : (proof model : List ℕ) (steps : List Step) (n : ℕ) → elimination (limited limits) p ≡ running steps n → (o : Option (List ℕ))
       → walkModel p steps ≡ o → Comes Satisfiable (answerOf (finished steps n o))
       → OurModel p (left limits (finished steps n o) proof model) model
   unfolding said modelAfter
   model-by proof model steps n c none q h = absurd (let z : _≡_ {A = ℕ} 0 1 = cc in omega arith)
   model-by proof model steps n c (some bytes) q h =
-      let a = written-accepted input p e (walk order (map (λ s. s .line) steps)) bytes [] q
-      (running-satisfies p (read-well-formed input p e) (limited limits) steps n c) in
-      let m = model-checked-satisfies input bytes (rw (append-nil bytes) at (a .1)) in
-      let same : m .problem ≡ p = same-problem (m .problem) (m .reads) in
+      let w = read-well-formed input p e in
+      let walked = walk order (map (λ s. s .line) steps) in
+      let fit = unstopped-fits limits p steps n c in
+      let s = running-satisfies p w (limited limits) steps n c in
+      let k = written-fits (p .booleans) (p .rationals) walked bytes (w .booleans) (w .rationals) (s .denominator) q in
+      let old = drop limit.modelBytes model in
+      let same = walk-is limits p w steps n c fit in
       record {
-        bytes = bytes;
-        size = a .0;
-        rule = model-is limits p (read-well-formed input p e) steps n c (unstopped-fits limits p steps n c) ∙ q;
-        written = refl;
-        assignment = m .assignment;
-        rest = m .rest;
-        place = m .place;
-        stated = rw same at (m .states);
-        satisfies = rw same at (m .satisfies);
+        rule = (bytes, model-is limits p w steps n c fit ∙ q);
+        written = rw (same, k .is) (written-model (p .booleans) (p .rationals) (walked .assignment) (k .fits) old);
+        beyond = drop-at bytes old limit.modelBytes
+            (rw (k .is) (model-length (p .booleans) (p .rationals) (walked .assignment) (k .fits)));
+        satisfies = rw same s;
       }
 
   pub our-model : (proof model : List ℕ) → Comes Satisfiable (answerOf (concluded p (elimination (limited limits) p)))

@@ -7,27 +7,31 @@ use mathlib.Core.List.{List, [], _∷_, _++_}
 use mathlib.Core.Option.{Option, none, some}
 use Prim.Native.Nat.{ℕ, zero, suc, _+_, _/_, _≤_}
 use native.Mathlib.Omega.{arith}
-use borrow.Author.Tests.{le-ltb}
 use lib.ListN.{length, take, drop, length-append}
 use Rattle.rules_types.specs.declared.answers.Checked.{Checked}
 use Rattle.rules_types.specs.declared.answers.Checked.the-variants.{Fails}
 use Rattle.rules_types.specs.declared.limits.Limits.{Limits}
 use Rattle.rules_types.specs.Limits as limit
-use Rattle.rules.specs.Problem.{Problem, Clause, got}
+use Rattle.rules.specs.Problem.{Problem, Clause}
 use Rattle.rules.specs.Meaning.{Assignment, clauseHolds}
 use Rattle.rules.specs.Lines.{Line, isEmpty}
 use Rattle.rules.specs.Steps.{Step}
 use Rattle.rules.specs.Elimination.{loadableOf}
-use Rattle.rules.specs.Model.{model}
 use Rattle.rules.specs.Checker.{statedLine, checkSteps, checkProof, checkClauses}
 use Rattle.rules.specs.Calls.{sound, read, wholeSteps, proofChecked, modelChecked}
 use Rattle.theory_lists.specs.All.{All, all-append}
 use Rattle.theory_lists.specs.Tests.{of-true}
 use Rattle.theory_splitting.specs.Reading.{read-well-formed}
-use Rattle.theory_bytes.specs.Lines.{Encodable, AllEncodable}
-use Rattle.theory_checks.specs.Following.{Follows, stated-follows, follows-stated, follows-encodable}
-use Rattle.theory_checks.specs.EliminationAccepted.{parts-encodable}
-use Rattle.promises.specs.Checked.{whole-few}
+use Rattle.theory_bytes.specs.Bytes.{AllBytes}
+use Rattle.theory_bytes.specs.Lines.{Encodable}
+use Rattle.theory_layout.specs.Offsets.{StatesModel}
+use Rattle.theory_layout.specs.Fields.{drop-bytes}
+use Rattle.theory_layout.specs.Steps.{Writable}
+use Rattle.theory_checks.specs.Following.{Follows}
+use Rattle.theory_checks.specs.ByOffset.{stated-follows, follows-encodable}
+use Rattle.theory_checks.specs.ModelChecked.{model-checks}
+use Rattle.theory_checks.specs.Writable.{parts-writable}
+use Rattle.promises.specs.Checked.{line-found, whole-few}
 
 same-number : {m n : ℕ} → Fails m ≡ Fails n → m ≡ n
 same-number e = cc
@@ -79,7 +83,7 @@ LineFails parts (suc k) earlier ends bytes zero = (l : Line) → Follows parts e
 LineFails parts (suc k) earlier ends bytes (suc n) = (l : Line) × Follows parts earlier (take limit.stepBytes bytes) l
     × LineFails parts k (earlier ++ (l ∷ [])) (isEmpty l) (drop limit.stepBytes bytes) n
 
-module _ (parts : List Step) (known : AllEncodable parts) where
+module _ (parts : List Step) (known : All Writable parts) where
   abbrev Next : ℕ → List Line → List ℕ → Line → Checked
   Next k earlier bytes l = checkSteps parts k (earlier ++ (l ∷ [])) (isEmpty l) (drop limit.stepBytes bytes)
 
@@ -97,14 +101,14 @@ module _ (parts : List Step) (known : AllEncodable parts) where
       by none r e = omega (arith, same-number e)
       by (some l) r e = omega (arith, r l e)
 
-  steps-fail : (k : ℕ) (earlier : List Line) (ends : Bool) (bytes : List ℕ) (n : ℕ) → All Encodable earlier
+  steps-fail : (k : ℕ) (earlier : List Line) (ends : Bool) (bytes : List ℕ) (n : ℕ) → AllBytes bytes → All Encodable earlier
       → length earlier + k ≤ limit.mostSteps
       → checkSteps parts k earlier ends bytes ≡ Fails (length earlier + n) ↔ LineFails parts k earlier ends bytes n
   unfolding checkSteps
-  steps-fail zero earlier true bytes n h few =
+  steps-fail zero earlier true bytes n b h few =
       (λ e. absurd (let z : _≡_ {A = ℕ} 0 1 = cc in omega arith), λ a. absurd (let b = a .0 in let z : _≡_ {A = ℕ} 0 1 = cc in omega arith))
-  steps-fail zero earlier false bytes n h few = (λ e. (refl, omega (arith, same-number e)), λ a. ap Fails (omega (arith, a .1)))
-  steps-fail (suc k) earlier ends bytes zero h few = by (statedLine parts earlier line) refl
+  steps-fail zero earlier false bytes n b h few = (λ e. (refl, omega (arith, same-number e)), λ a. ap Fails (omega (arith, a .1)))
+  steps-fail (suc k) earlier ends bytes zero b h few = by (statedLine parts earlier line) refl
     where
       line : List ℕ
       line = take limit.stepBytes bytes
@@ -113,19 +117,19 @@ module _ (parts : List Step) (known : AllEncodable parts) where
           → _≡_ {A = Checked} (elim o [ none ↦ Fails (length earlier) | some l ↦ Next k earlier bytes l ]) (Fails (length earlier + 0))
           ↔ ((l : Line) → Follows parts earlier line l → ⊥)
       by none i = (
-        λ e l f. let j = follows-stated parts known earlier (omega arith) h line l f in
+        λ e l f. let j = line-found parts known earlier (omega arith) h bytes b l f in
             absurd (let y = sym i ∙ j in let z : _≡_ {A = ℕ} 0 1 = cc in omega arith),
         λ a. ap Fails (omega arith),
       )
       by (some l) i = (
         λ e. absurd (let b = steps-from k (earlier ++ (l ∷ [])) (isEmpty l) (drop limit.stepBytes bytes) (length earlier + 0) e in
             omega (arith, b, length-append earlier (l ∷ []))),
-        λ a. absurd (a l (stated-follows line l earlier parts i)),
+        λ a. absurd (a l (stated-follows parts known earlier (omega arith) h l line i)),
       )
-  steps-fail (suc k) earlier ends bytes (suc n) h few =
+  steps-fail (suc k) earlier ends bytes (suc n) b h few =
       by (statedLine parts earlier line) refl
-      (λ l f. steps-fail k (earlier ++ (l ∷ [])) (isEmpty l) (drop limit.stepBytes bytes) n
-      (all-append Encodable earlier (l ∷ []) h (follows-encodable parts known earlier (omega arith) h line l f, tt))
+      (λ l f. steps-fail k (earlier ++ (l ∷ [])) (isEmpty l) (drop limit.stepBytes bytes) n (drop-bytes limit.stepBytes bytes b)
+      (all-append Encodable earlier (l ∷ []) h (follows-encodable parts known earlier (omega arith) h l line f, tt))
       (rw (length-append earlier (l ∷ [])) (omega arith)))
     where
       line : List ℕ
@@ -140,33 +144,32 @@ module _ (parts : List Step) (known : AllEncodable parts) where
           (Fails (length earlier + suc n)) ↔ LineFails parts (suc k) earlier ends bytes (suc n)
       by none i then = (
         λ e. absurd (omega (arith, same-number e)),
-        λ a. let j = follows-stated parts known earlier (omega arith) h line (a .0) (a .1) in
+        λ a. let j = line-found parts known earlier (omega arith) h bytes b (a .0) (a .1) in
             absurd (let y = sym i ∙ j in let z : _≡_ {A = ℕ} 0 1 = cc in omega arith),
       )
       by (some l) i then =
           let q : (m : Line) → length (earlier ++ (m ∷ [])) + n ≡ length earlier + suc n =
           λ m. omega (arith, length-append earlier (m ∷ [])) in
-          let f = stated-follows line l earlier parts i in (
+          let f = stated-follows parts known earlier (omega arith) h l line i in (
             λ e. (l, f, then l f .0 (e ∙ ap Fails (sym (q l)))),
-            λ a. let j : l ≡ a .0 = (let y = sym i ∙ follows-stated parts known earlier (omega arith) h line (a .0) (a .1) in cc) in
+            λ a. let j : l ≡ a .0 = (let y = sym i ∙ line-found parts known earlier (omega arith) h bytes b (a .0) (a .1) in cc) in
                 rw j (then (a .0) (a .1) .1 (a .2) ∙ ap Fails (q (a .0))),
           )
 
 -- ---- the calls, for a problem read without fault
 module _ (input : List ℕ) (p : Problem) (e : read input ≡ sound p) where
-  pub model-fails : (bytes : List ℕ) (χ : Assignment) (rest : List ℕ) (place : ℕ) → limit.modelBytes ≤ length bytes
-      → model (p .booleans) (p .rationals) bytes 0 ≡ got χ rest place
+  pub model-fails : (bytes : List ℕ) (χ : Assignment) → limit.modelBytes ≤ length bytes
+      → StatesModel bytes (p .booleans) (p .rationals) χ
       → (k : ℕ) → modelChecked input bytes ≡ Fails k ↔ ClauseFails χ (p .clauses) k
-  unfolding modelChecked
-  model-fails bytes χ rest place h g k =
-      let q : 0 + k ≡ k = omega arith in
-      rw (e, modelChecked, le-ltb (length bytes) limit.modelBytes h, g) (rw q at (clauses-fail χ (p .clauses) 0 k))
+  model-fails bytes χ h s k =
+      let q : 0 + k ≡ k = omega arith in rw (model-checks input bytes p e h χ s) (rw q at (clauses-fail χ (p .clauses) 0 k))
 
-  pub proof-fails : (limits : Limits) → limits .steps ≤ limit.mostSteps → (bytes : List ℕ) → wholeSteps limits (length bytes) ≡ true
+  pub proof-fails : (limits : Limits) → limits .steps ≤ limit.mostSteps → (bytes : List ℕ) → AllBytes bytes
+      → wholeSteps limits (length bytes) ≡ true
       → (k : ℕ) → proofChecked limits input bytes ≡ Fails k ↔ LineFails (loadableOf p) (length bytes / limit.stepBytes) [] false bytes k
   unfolding proofChecked checkProof
-  proof-fails limits few bytes h k =
+  proof-fails limits few bytes b h k =
       let q : 0 + k ≡ k = omega arith in
       let room = whole-few limits few (length bytes) (of-true (wholeSteps limits (length bytes)) h) in
-      rw (e, proofChecked, h) (rw q at (steps-fail (loadableOf p) (parts-encodable p (read-well-formed input p e))
-      (length bytes / limit.stepBytes) [] false bytes k tt (omega arith)))
+      rw (e, proofChecked, h) (rw q at (steps-fail (loadableOf p) (parts-writable p (read-well-formed input p e))
+      (length bytes / limit.stepBytes) [] false bytes k b tt (omega arith)))

@@ -6,8 +6,8 @@ use mathlib.Core.List.{List}
 use Prim.Native.Nat.{ℕ, _*_, _≤_}
 use native.Mathlib.Omega.{arith}
 use lib.Dec.{ltb, ltb→lt, nltb→le}
-use lib.ListN.{length, take, drop}
-use lib.Seq.{take-at}
+use lib.ListN.{length, take}
+use lib.Seq.{length-take-le}
 use Rattle.rules_types.specs.declared.answers.Refusal.{Refusal}
 use Rattle.rules_types.specs.declared.answers.Refusal.the-variants.{ShortProof, ShortModel}
 use Rattle.rules_types.specs.declared.answers.Verdict.{Verdict}
@@ -22,9 +22,11 @@ use Rattle.rules.specs.Problem.{Problem}
 use Rattle.rules.specs.Elimination.{order, loadableOf, elimination}
 use Rattle.rules.specs.Calls.{Reading, faulty, sound, read, Solving, proofChecked, modelChecked}
 use Rattle.theory_lists.specs.Tests.{split}
+use Rattle.theory_layout.specs.WrittenModels.{front-states}
+use Rattle.theory_splitting.specs.Reading.{read-well-formed}
 use Rattle.theory_checks.specs.ModelChecked.{satisfying-model-checked}
 use Rattle.theory_elimination.specs.WithinLimits.{limited-held}
-use Rattle.promises.specs.Words.{Comes, FullSize, OurModel}
+use Rattle.promises.specs.Words.{walkOf, Comes, FullSize}
 use Rattle.promises.specs.Numbers.{verdict-exactly}
 use Rattle.promises.specs.Handing.{Hands, by-part}
 use Rattle.promises.specs.Demand1.{Demand1, untouched}
@@ -68,10 +70,14 @@ module _ (limits : Limits) (input proof model : List ℕ) (ours : Solving) (d : 
     model-accepted : Comes Satisfiable (ours .solved .answer) → modelChecked input (take limit.modelBytes (ours .model)) ≡ Accepted
     model-accepted c =
         let r = verdict-read Satisfiable c in
-        let s = d .satisfiable (r .full) (r .problem) (r .reads) c in
-        rw (s .written, take-at (s .bytes) (drop limit.modelBytes model) limit.modelBytes (s .size))
-        (satisfying-model-checked input (s .bytes) (r .problem) (s .assignment) (s .rest) (s .place) (r .reads) (omega (arith, s .size))
-        (s .stated) (s .satisfies))
+        let p = r .problem in
+        let s = d .satisfiable (r .full) p (r .reads) c in
+        let w = read-well-formed input p (r .reads) in
+        let size : length (take limit.modelBytes (ours .model)) ≡ limit.modelBytes =
+        length-take-le limit.modelBytes (ours .model) (s .written .room) in
+        satisfying-model-checked input (take limit.modelBytes (ours .model)) p (r .reads) (omega (arith, size)) (walkOf p .assignment)
+        (front-states (ours .model) (p .booleans) (p .rationals) (w .booleans) (w .rationals) (walkOf p .assignment) (s .written .states))
+        (s .satisfies)
 
     proof-accepted : Comes Unsatisfiable (ours .solved .answer)
         → proofChecked limits input (take (limit.stepBytes * answerValue (ours .solved .answer)) (ours .proof)) ≡ Accepted

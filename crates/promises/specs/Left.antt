@@ -1,7 +1,7 @@
 -- Each sentence of demand 1, of the definition of solving.
 use mathlib.Core.Path.{_≡_, sym, ap, subst}
 use mathlib.Core.List.{List, _++_}
-use Prim.Native.Nat.{ℕ, _*_, _-_, _≤_, _<_}
+use Prim.Native.Nat.{ℕ, _≤_, _<_}
 use lib.ListN.{length, replicate, drop}
 use Rattle.rules_types.specs.declared.answers.Refusal.{Refusal}
 use Rattle.rules_types.specs.declared.answers.Refusal.the-variants as refusal
@@ -11,13 +11,12 @@ use Rattle.rules_types.specs.declared.answers.Answer.the-variants.{Refused}
 use Rattle.rules_types.specs.declared.limits.Limits.{Limits}
 use Rattle.rules_types.specs.Limits as limit
 use Rattle.rules.specs.Problem.{Problem}
-use Rattle.rules.specs.Steps.{encodeProof}
 use Rattle.rules.specs.Elimination.{limited, elimination}
-use Rattle.rules.specs.Needs.{stepsOf}
 use Rattle.rules.specs.Calls.{faulty, sound, Outcome, faulted, read, concluded, said, proofAfter, modelAfter, Solving, solve, lent}
+use Rattle.theory_splitting.specs.Reading.{read-well-formed}
 use Rattle.theory_splitting.specs.Lent.{lent-short-proof, lent-short-model, lent-fault}
-use Rattle.promises.specs.Words.{Comes, LimitMet, FullSize, OurModel}
-use Rattle.promises.specs.Reported.{left, solve-is, proof-holds}
+use Rattle.promises.specs.Words.{Comes, LimitMet, FullSize, HoldsLines, OurModel}
+use Rattle.promises.specs.Reported.{left, solve-is, lines-held}
 use Rattle.promises.specs.Evidence.{our-model}
 use Rattle.promises.specs.Memory as memory
 
@@ -30,14 +29,10 @@ module _ (limits : Limits) (input proof′ model : List ℕ) where
     by : (P : Solving → Type 0) → P (left limits (concluded p (elimination (limited limits) p)) proof′ model) → P ours
     by P h = subst P (sym (solve-is limits input p e proof′ model full)) h
 
-    pub proof : (v : Verdict) → Comes v (ours .solved .answer)
-        → ours .proof ≡ encodeProof (stepsOf (elimination (limited limits) p)) ++ replicate (limit.proofBytes limits
-        - limit.stepBytes * length (stepsOf (elimination (limited limits) p))) 0 ++ drop (limit.proofBytes limits) proof′
-    proof v =
-        by (λ s. Comes v (s .solved .answer) → s .proof ≡ encodeProof (stepsOf (elimination (limited limits) p)) ++ replicate
-        (limit.proofBytes limits - limit.stepBytes * length (stepsOf (elimination (limited limits) p))) 0 ++ drop
-        (limit.proofBytes limits) proof′)
-        (proof-holds limits p proof′ (elimination (limited limits) p) v)
+    pub proof : limits .steps ≤ limit.mostSteps → (v : Verdict) → Comes v (ours .solved .answer)
+        → HoldsLines limits p (ours .proof) proof′
+    proof few v = by (λ s. Comes v (s .solved .answer) → HoldsLines limits p (s .proof) proof′)
+        (lines-held limits few p (read-well-formed input p e) proof′ v)
 
     pub satisfiable : Comes Satisfiable (ours .solved .answer) → OurModel p ours model
     satisfiable = by (λ s. Comes Satisfiable (s .solved .answer) → OurModel p s model) (our-model limits input p e proof′ model)

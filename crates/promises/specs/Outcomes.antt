@@ -19,7 +19,7 @@ use Rattle.theory_splitting.specs.WellFormed.{WellFormed}
 use Rattle.theory_elimination.specs.Limits.{Stopped, fits-same, fits-or-stopped, fits-unstopped}
 use Rattle.promises.specs.Satisfied.{chosen}
 use Rattle.promises.specs.Decided.{NoAssignment, running-satisfies, empty-none}
-use Rattle.promises.specs.Words.{SomeAssignment, modelOf, GivesModel, Comes, LimitMet}
+use Rattle.promises.specs.Words.{SomeAssignment, modelOf, walkOf, GivesModel, Comes, LimitMet}
 
 -- ---- where the elimination runs to its end, by the model of its walk
 abbrev pub finished : List Step → ℕ → Option (List ℕ) → Outcome
@@ -77,10 +77,15 @@ module _ (limits : Limits) (p : Problem) (w : WellFormed p) where
   answer s = answerOf (concluded p s)
 
   -- where it fits, its lines are those of the elimination without limits
+  pub walk-is : (steps : List Step) (n : ℕ) → elimination (limited limits) p ≡ running steps n → Fits limits p
+      → walkOf p ≡ walk order (map (λ s. s .line) steps)
+  unfolding walkOf stepsOf
+  walk-is steps n e f = ap (λ (s : State). walk order (map (λ x. x .line) (stepsOf s))) (sym (fits-same limits p f) ∙ e)
+
   pub model-is : (steps : List Step) (n : ℕ) → elimination (limited limits) p ≡ running steps n → Fits limits p
       → modelOf p ≡ walkModel p steps
-  unfolding modelOf stepsOf
-  model-is steps n e f = ap (λ (s : State). walkModel p (stepsOf s)) (sym (fits-same limits p f) ∙ e)
+  unfolding modelOf
+  model-is steps n e f = ap (written (p .booleans) (p .rationals)) (walk-is steps n e f)
 
   unsatisfiable-by : (s : State) → elimination (limited limits) p ≡ s → Fits limits p → Comes Unsatisfiable (answer s) ↔ NoAssignment p
   unfolding concluded said

@@ -1,9 +1,11 @@
 -- What solving reports and leaves in the proof: the elimination's lines and pairs.
-use mathlib.Core.Path.{_≡_, refl, ap}
+use mathlib.Core.Path.{_≡_, refl, ap, _∙_}
 use mathlib.Core.List.{List, _++_}
 use mathlib.Core.Option.{Option, none, some}
 use Prim.Native.Nat.{ℕ, _*_, _-_, _/_, _≤_}
-use lib.ListN.{length, replicate, drop}
+use native.Mathlib.Omega.{arith}
+use lib.ListN.{length, replicate, drop, length-append, length-replicate}
+use lib.Seq.{drop-at}
 use Rattle.rules_types.specs.declared.answers.Verdict.{Verdict}
 use Rattle.rules_types.specs.declared.limits.Limits.{Limits}
 use Rattle.rules_types.specs.Limits as limit
@@ -14,14 +16,23 @@ use Rattle.rules.specs.Elimination.{limited, unlimited, State, running, ended, 
 use Rattle.rules.specs.Needs.{stepsOf, pairsOf}
 use Rattle.rules.specs.Calls.{sound, Outcome, read, concluded, said, proofAfter, modelAfter, Solving, solve}
 use Rattle.theory_lists.specs.All.{all-map}
+use Rattle.theory_lists.specs.Places.{element-all, element}
+use Rattle.theory_resolution.specs.Formed.{Formed}
+use Rattle.theory_bytes.specs.Amounts.{zero-unsigned}
+use Rattle.theory_bytes.specs.Steps.{proof-length}
+use Rattle.theory_layout.specs.Steps.{Writable}
+use Rattle.theory_layout.specs.Proofs.{proof-at}
 use Rattle.theory_splitting.specs.WellFormed.{WellFormed}
 use Rattle.theory_splitting.specs.Lent.{lent-sound}
 use Rattle.theory_elimination.specs.Events.{events}
 use Rattle.theory_elimination.specs.Cut.{cut, eliminate-cut}
 use Rattle.theory_elimination.specs.Sound.{Sound, loadable-sound}
 use Rattle.theory_elimination.specs.PairBound.{pairs-bound}
+use Rattle.theory_elimination.specs.Narrow.{NarrowLine, elimination-narrow}
+use Rattle.theory_elimination.specs.WithinLimits.{limited-held}
+use Rattle.theory_checks.specs.Writable.{elimination-writable}
 use Rattle.theory_resolution.specs.Holds.{Consistent}
-use Rattle.promises.specs.Words.{Comes, FullSize}
+use Rattle.promises.specs.Words.{Comes, FullSize, HoldsLines}
 use Rattle.promises.specs.Outcomes.{finished, walkModel, concluded-running, answerOf}
 
 -- what an outcome makes of the lent buffers
@@ -93,3 +104,27 @@ proof-holds limits p proof (running steps n) v h =
 proof-holds limits p proof (ended empty steps n) v h = refl
 proof-holds limits p proof (ended overflow steps n) v h = absurd h
 proof-holds limits p proof (ended outOfSteps steps n) v h = absurd h
+
+-- by the offsets of its fields
+pub lines-held : (limits : Limits) → limits .steps ≤ limit.mostSteps → (p : Problem) → WellFormed p → (proof : List ℕ) (v : Verdict)
+    → Comes v (answerOf (concluded p (elimination (limited limits) p)))
+    → HoldsLines limits p (proofAfter limits (concluded p (elimination (limited limits) p)) proof) proof
+unfolding elimination
+lines-held limits few p w proof v h =
+    let state = elimination (limited limits) p in
+    let steps = stepsOf state in
+    let old = drop (limit.proofBytes limits) proof in
+    let zeros : List ℕ = replicate (limit.proofBytes limits - limit.stepBytes * length steps) 0 in
+    let writable = elimination-writable p w limits few in
+    let formed = all-map Writable (λ s. Formed (s .line)) steps (λ s k. k .line .formed) writable in
+    let size : length (encodeProof steps ++ zeros) ≡ limit.proofBytes limits =
+    rw (length-append (encodeProof steps) zeros, length-replicate {A = ℕ} (limit.proofBytes limits - limit.stepBytes * length steps) 0)
+    (omega (arith, proof-length steps formed, limited-held limits order (loadableOf p))) in
+    let held = proof-at steps (limits .steps) old writable in
+    rw (proof-holds limits p proof state v h) (record {
+      lines = held;
+      narrow = λ i f l u k. let s = element steps i l in
+          zero-unsigned _ (held .step i (s .0) (s .1) .coefficients f k
+          ∙ element-all (λ x. NarrowLine (p .rationals) (x .line)) steps i (s .0) (s .1) (elimination-narrow (limited limits) p w) f u);
+      beyond = drop-at (encodeProof steps ++ zeros) old (limit.proofBytes limits) size;
+    })

@@ -22,6 +22,7 @@ use Rattle.rules.specs.Elimination.{loadableOf}
 use Rattle.rules.specs.Checker.{statedLine, checkSteps, checkProof}
 use Rattle.rules.specs.Calls.{sound, read, wholeSteps, proofChecked}
 use Rattle.theory_lists.specs.Tests.{split, is-true, is-false, clash}
+use Rattle.theory_bytes.specs.Bytes.{AllBytes}
 use Rattle.promises.specs.Words.{Refutes, WholeLines}
 use Rattle.promises.specs.Checked.{proof-exactly, proof-length-refused}
 use Rattle.promises.specs.Failing.{LineFails, proof-fails}
@@ -76,11 +77,11 @@ module _ (input : List ℕ) (p : Problem) (e : read input ≡ sound p) (limits :
   abbrev whole : Bool
   whole = wholeSteps limits (length bytes)
 
-  module _ (few : limits .steps ≤ limit.mostSteps) where
+  module _ (are : AllBytes bytes) (few : limits .steps ≤ limit.mostSteps) where
     pub accepted-lines : proofChecked limits input bytes ≡ Accepted
         ↔ ((k : ℕ) × WholeLines limits (length bytes) k × Refutes (loadableOf p) k bytes)
     accepted-lines =
-        let x = proof-exactly input p e limits few bytes in (
+        let x = proof-exactly input p e limits few bytes are in (
           λ a. let h = x .0 a in (length bytes / limit.stepBytes, whole-lines limits (length bytes) (h .0), h .1),
           λ h. x .1 (lines-whole limits (length bytes) (h .0) (h .1), rw (lines-are limits (length bytes) (h .0) (h .1)) (h .2)),
         )
@@ -89,7 +90,7 @@ module _ (input : List ℕ) (p : Problem) (e : read input ≡ sound p) (limits :
         ↔ LineFails (loadableOf p) k [] false bytes m
     failing-line k h m =
         rw (lines-are limits (length bytes) k h)
-        at (proof-fails input p e limits few bytes (is-true whole (lines-whole limits (length bytes) k h)) m)
+        at (proof-fails input p e limits few bytes are (is-true whole (lines-whole limits (length bytes) k h)) m)
 
   pub refused-length : (place : ℕ) → proofChecked limits input bytes ≡ Refused ProofLength place
       ↔ ((place ≡ length bytes) × ((k : ℕ) → WholeLines limits (length bytes) k → ⊥))

@@ -4,7 +4,7 @@ use mathlib.Core.Logic.{_⊎_}
 use mathlib.Core.Bool.{Bool, false}
 use mathlib.Core.List.{List, [], _∷_, _++_, map}
 use mathlib.Core.Option.{Option, none, some}
-use Prim.Native.Nat.{ℕ, zero, suc, _*_, _≤_}
+use Prim.Native.Nat.{ℕ, zero, suc, _+_, _*_, _≤_, _<_}
 use lib.Dec.{T}
 use lib.ListN.{length, take, drop}
 use Rattle.rules_types.specs.declared.answers.Refusal.{Refusal}
@@ -14,15 +14,17 @@ use Rattle.rules_types.specs.declared.answers.Answer.{Answer}
 use Rattle.rules_types.specs.declared.answers.Answer.the-variants.{Decided, Refused}
 use Rattle.rules_types.specs.declared.limits.Limits.{Limits}
 use Rattle.rules_types.specs.Limits as limit
-use Rattle.rules.specs.Problem.{Problem, got}
+use Rattle.rules.specs.Bytes.{fieldAt}
+use Rattle.rules.specs.Problem.{Problem}
 use Rattle.rules.specs.Meaning.{Assignment, Satisfies}
 use Rattle.rules.specs.Lines.{Line, isEmpty}
 use Rattle.rules.specs.Steps.{Step}
-use Rattle.rules.specs.Elimination.{Stops, End, unlimited, order, elimination}
+use Rattle.rules.specs.Elimination.{Stops, End, limited, unlimited, order, elimination}
 use Rattle.rules.specs.Needs.{stepsOf}
-use Rattle.rules.specs.Values.{walk}
-use Rattle.rules.specs.Model.{written, model}
+use Rattle.rules.specs.Values.{Walked, walk}
+use Rattle.rules.specs.Model.{written}
 use Rattle.rules.specs.Calls.{Solving}
+use Rattle.theory_layout.specs.Offsets.{HoldsSteps, ModelAt, StatesModel}
 use Rattle.theory_elimination.specs.Events.{Event}
 use Rattle.theory_elimination.specs.Cut.{stopAt}
 use Rattle.theory_checks.specs.Following.{Follows}
@@ -31,9 +33,13 @@ use Rattle.theory_checks.specs.Following.{Follows}
 abbrev pub SomeAssignment : Problem → Type 0
 SomeAssignment p = (χ : Assignment) × Satisfies χ p
 
--- what 01's value rule gives for Q: a model, or none where it says "unwritten"
+-- what the walk backwards makes of Q's lines, by 01's value rule
+unfoldable pub walkOf : Problem → Walked
+walkOf p = walk order (map (λ s. s .line) (stepsOf (elimination unlimited p)))
+
+-- what the rule gives for Q: a model, or none where it says "unwritten"
 unfoldable pub modelOf : Problem → Option (List ℕ)
-modelOf p = written (p .booleans) (p .rationals) (walk order (map (λ s. s .line) (stepsOf (elimination unlimited p))))
+modelOf p = written (p .booleans) (p .rationals) (walkOf p)
 
 -- "gives a sheet"
 abbrev pub GivesModel : Problem → Type 0
@@ -62,25 +68,26 @@ pub record FullSize (limits : Limits) (proof model : List ℕ) : Type 0 where
   pub proofSize : limit.proofBytes limits ≤ length proof
   pub modelSize : limit.modelBytes ≤ length model
 
+-- the proof after a verdict: the elimination's lines and zeros, each field at its offset, and what lay beyond
+pub record HoldsLines (limits : Limits) (p : Problem) (proof lentProof : List ℕ) : Type 0 where
+  pub lines : HoldsSteps proof (stepsOf (elimination (limited limits) p)) (limits .steps)
+  -- "Eight coefficients, 0 from r on"
+  pub narrow : (i f : ℕ) → i < length (stepsOf (elimination (limited limits) p)) → p .rationals ≤ f → f < 8
+      → fieldAt (64 * i + (16 + 4 * f)) 4 proof ≡ 0
+  pub beyond : drop (limit.proofBytes limits) proof ≡ drop (limit.proofBytes limits) lentProof
+
 -- "ours is that sheet, and the choice on it satisfies Q": `ours` is what solving leaves, `lentModel` what the lent model held before
 pub record OurModel (p : Problem) (ours : Solving) (lentModel : List ℕ) : Type 0 where
-  pub bytes : List ℕ
-  pub size : length bytes ≡ limit.modelBytes
-  pub rule : modelOf p ≡ some bytes
-  pub written : ours .model ≡ bytes ++ drop limit.modelBytes lentModel
-  pub assignment : Assignment
-  pub rest : List ℕ
-  pub place : ℕ
-  pub stated : model (p .booleans) (p .rationals) bytes 0 ≡ got assignment rest place
-  pub satisfies : Satisfies assignment p
+  pub rule : GivesModel p
+  pub written : ModelAt (ours .model) (p .booleans) (p .rationals) (walkOf p .assignment)
+  pub beyond : drop limit.modelBytes (ours .model) ≡ drop limit.modelBytes lentModel
+  pub satisfies : Satisfies (walkOf p .assignment) p
 
--- "every clause holds": bytes enough for a model, and the assignment that they write satisfies Q
+-- "every clause holds": bytes enough for a model, and the assignment that they state satisfies Q
 pub record WritesAssignment (p : Problem) (bytes : List ℕ) : Type 0 where
   pub size : limit.modelBytes ≤ length bytes
   pub assignment : Assignment
-  pub rest : List ℕ
-  pub place : ℕ
-  pub stated : model (p .booleans) (p .rationals) bytes 0 ≡ got assignment rest place
+  pub stated : StatesModel bytes (p .booleans) (p .rationals) assignment
   pub satisfies : Satisfies assignment p
 
 -- "64 to 65,536 by 64s": bytes of k whole lines, no more than the limit

@@ -8,7 +8,7 @@ use Rattle.problem_scan.specs.Values.{clauseAt, clauseEnd}
 use Rattle.problem_read.specs.Clauses.{clausesAt}
 use Rattle.problem_read.specs.Readable.{Ahead, ahead-few, ahead-next}
 use Rattle.step_check.specs.Named.{Few}
-use Rattle.problem_parts.specs.Count.{parts-length}
+use Rattle.theory_splitting.specs.Count.{parts-length}
 
 pub few-parts : (q : List ℕ) (r n at k : ℕ) → Ahead q r n at k → Few (clausesAt q r n at)
 unfolding clausesAt

@@ -44,6 +44,11 @@ toUnsigned-fromUnsigned n h = ⊎-elim
     (λ k. rw (fromUnsigned-low n (omega arith)))
     (eq-zero-or-pos (2147483648 - n))
 
+pub zero-unsigned : (n : ℕ) → fromUnsigned n ≡ pos 0 → n ≡ 0
+zero-unsigned n e = ⊎-elim
+    (λ k. absurd (let f = fromUnsigned-high n (omega arith) in let z : _≡_ {A = ℕ} 0 1 = cc in omega arith))
+    (λ k. let f = fromUnsigned-low n (omega arith) in cc) (eq-zero-or-pos (2147483648 - n))
+
 pub amount-bytes : (z : ℤ) → mag z < 2 ^ 31 → fromUnsigned (fromBytes (toBytes 4 (toUnsigned z))) ≡ z
 amount-bytes z h = rw (fromBytes-toBytes 4 (toUnsigned z) (toUnsigned-< z h)) (fromUnsigned-toUnsigned z h)
 

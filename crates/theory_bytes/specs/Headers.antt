@@ -34,7 +34,7 @@ unfolding variableNamed header
 variable-back (rational f) first second = refl
 variable-back (boolean i) first second = refl
 
-parents : (v : Variable) (first second : ℕ) → (header (resolved v first second) .first ≡ first)
+pub parents : (v : Variable) (first second : ℕ) → (header (resolved v first second) .first ≡ first)
     × (header (resolved v first second) .second ≡ second)
 unfolding header
 parents (rational f) first second = (refl, refl)

@@ -34,7 +34,7 @@ mask-below [] = omega arith
 mask-below (true ∷ s) = omega (arith, mask-below s, pow-succ' 2 (length s))
 mask-below (false ∷ s) = omega (arith, mask-below s, pow-succ' 2 (length s))
 
-mask-back : (s : Booleans) → length s ≡ limit.allBooleans → fromBytes (toBytes 4 (mask s)) ≡ mask s
+pub mask-back : (s : Booleans) → length s ≡ limit.allBooleans → fromBytes (toBytes 4 (mask s)) ≡ mask s
 mask-back s l = let b : mask s < 2 ^ 32 = rw l at (mask-below s) in fromBytes-toBytes 4 (mask s) b
 
 mask-injective : (s t : Booleans) → length s ≡ length t → mask s ≡ mask t → s ≡ t

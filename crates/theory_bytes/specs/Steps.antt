@@ -67,12 +67,15 @@ line-bytes : (l : Line) → AllBytes (lineBytes l)
 unfolding lineBytes
 line-bytes l =
     let P : ℕ → Type 0 = λ n. n < 256 in
-    let p = toBytes 4 (mask (l .positive)) in
-    let n = toBytes 4 (mask (l .negative)) in
-    let front = all-append P (relationByte (l .constraint) ∷ 0 ∷ p) n
-    (relation-byte (l .constraint), (omega arith, bytes-toBytes 4 (mask (l .positive)))) (bytes-toBytes 4 (mask (l .negative))) in
-    all-append P (relationByte (l .constraint) ∷ 0 ∷ p ++ n) (amountBytes (row (l .constraint))) front
-    (bytes-amountBytes (row (l .constraint)))
+    let signs = all-append P (toBytes 4 (mask (l .positive))) (toBytes 4 (mask (l .negative))) (bytes-toBytes 4 (mask (l .positive)))
+    (bytes-toBytes 4 (mask (l .negative))) in (
+      relation-byte (l .constraint),
+      (
+        omega arith,
+        all-append P (toBytes 4 (mask (l .positive)) ++ toBytes 4 (mask (l .negative)))
+            (amountBytes (row (l .constraint))) signs (bytes-amountBytes (row (l .constraint))),
+      ),
+    )
 
 header-bytes : (h : Header) → h .how < 256 → h .which < 256 → AllBytes (headerBytes h)
 unfolding headerBytes

@@ -1,17 +1,20 @@
--- Whether a clause holds depends only on the problem's variables: two assignments that agree on them satisfy the same clauses.
-use mathlib.Core.Path.{_≡_, sym, ap, _∙_}
+-- Whether a clause holds depends only on the problem's variables: of two assignments that agree on them, the check says the same.
+use mathlib.Core.Path.{_≡_, refl, sym, ap, _∙_}
+use mathlib.Core.Bool.{Bool, true, false}
 use mathlib.Core.Logic.{⊎-elim}
-use mathlib.Core.List.{List}
-use Prim.Native.Nat.{ℕ, _≤_, _<_}
+use mathlib.Core.List.{List, [], _∷_}
+use Prim.Native.Nat.{ℕ, suc, _≤_, _<_}
 use lib.IntN.{ℤ, pos, _*ℤ_, zero-*ℤ}
 use lib.Dec.{ltb, ltb→lt, nltb→le}
 use lib.ListN.{getD}
-use Rattle.rules.specs.Lists.{all}
+use Rattle.rules_types.specs.declared.answers.Checked.{Checked}
+use Rattle.rules_types.specs.declared.answers.Checked.the-variants.{Fails}
 use Rattle.rules.specs.Arithmetic.{sum}
 use Rattle.rules.specs.Problem.{Literal, Constraint, Clause}
 use Rattle.rules.specs.Meaning.{Assignment, literalHolds, constraintHolds, clauseHolds}
+use Rattle.rules.specs.Checker.{checkClauses}
 use Rattle.theory_lists.specs.Tests.{split}
-use Rattle.theory_lists.specs.All.{All, all-map, any-agree, all-agree}
+use Rattle.theory_lists.specs.All.{All, all-map, any-agree}
 use Rattle.theory_vectors.specs.Dot.{sum-terms}
 use Rattle.theory_splitting.specs.WellFormed.{WellFormedConstraint, WellFormedClause}
 
@@ -54,6 +57,14 @@ module _ (b r : ℕ) (χ ξ : Assignment) (agree : Agree b r χ ξ) where
             constraint-agrees (w .constraints)),
       )
 
-  pub clauses-agree : (cs : List Clause) → All (WellFormedClause b r) cs → all (clauseHolds χ) cs ≡ all (clauseHolds ξ) cs
-  clauses-agree cs w = all-agree (clauseHolds χ) (clauseHolds ξ) cs
-      (all-map (WellFormedClause b r) (λ c. clauseHolds χ c ≡ clauseHolds ξ c) cs clause-agrees w)
+  -- so the check of the clauses comes to the same
+  pub checks-agree : (k : ℕ) (cs : List Clause) → All (WellFormedClause b r) cs → checkClauses χ k cs ≡ checkClauses ξ k cs
+  unfolding checkClauses
+  checks-agree k [] w = refl
+  checks-agree k (c ∷ cs) w = rw (clause-agrees c (w .0), checkClauses) (by (clauseHolds ξ c) (checks-agree (suc k) cs (w .1)))
+    where
+      by : (t : Bool) → checkClauses χ (suc k) cs ≡ checkClauses ξ (suc k) cs
+          → _≡_ {A = Checked} (elim t [ true ↦ checkClauses χ (suc k) cs | false ↦ Fails k ])
+          (elim t [ true ↦ checkClauses ξ (suc k) cs | false ↦ Fails k ])
+      by true e = e
+      by false e = refl

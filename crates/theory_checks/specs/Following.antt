@@ -1,5 +1,5 @@
 -- When a line of a proof follows, said of its 64 bytes: they are a part's, or those of a resolvent of two earlier lines. The check finds
--- just these.
+-- just these, of the bytes that are written for a step; ByOffset has it of the bytes that stand at document 01's offsets.
 use mathlib.Core.Path.{_≡_, refl, ap, _∙_, subst}
 use mathlib.Core.Bool.{Bool, not, cond, _&&_}
 use mathlib.Core.Logic.{_⊎_, inl, inr, ⊎-elim}
@@ -27,12 +27,13 @@ use Rattle.theory_lists.specs.Dropped.{dropped-is}
 use Rattle.theory_vectors.specs.Amounts.{overflows-no}
 use Rattle.theory_resolution.specs.Formed.{Formed, resolve-formed}
 use Rattle.theory_bytes.specs.Lines.{Encodable, AllEncodable}
+use Rattle.theory_layout.specs.Offsets.{StepAt}
 use Rattle.theory_bytes.specs.Headers.{named-back, parents-back}
 use Rattle.theory_checks.specs.Stated.{stated-part, stated-resolvent, derived-line, resolvent-named}
 
 -- "the result of two earlier lines, neither wide nor dropped by tidying, first parent positive; by a mark at most one parent has a
 -- condition"
-pub record ResolventIn (earlier : List Line) (bytes : List ℕ) (l : Line) : Type 0 where
+pub record ResolventIn (stands : Step → Type 0) (earlier : List Line) (l : Line) : Type 0 where
   pub variable : Variable
   pub first : ℕ
   pub second : ℕ
@@ -45,11 +46,22 @@ pub record ResolventIn (earlier : List Line) (bytes : List ℕ) (l : Line) : Typ
   pub allowed : T (pairable variable upper lower)
   pub result : resolve variable upper lower ≡ some l
   pub fits : T (not (overflows l))
-  pub written : encodeStep (record { origin = resolved variable first second; line = l }) ≡ bytes
+  pub written : stands (record { origin = resolved variable first second; line = l })
 
--- "A book's line follows if all 64 bytes are a loaded piece, or" such a resolvent
+-- the step that stands there is a part, or such a resolvent
+abbrev pub FollowsBy : (Step → Type 0) → List Step → List Line → Line → Type 0
+FollowsBy stands parts earlier l = Any (λ s. stands s × (s .line ≡ l)) parts ⊎ ResolventIn stands earlier l
+
+-- "A book's line follows if all 64 bytes are a loaded piece, or" such a resolvent's
 abbrev pub Follows : List Step → List Line → List ℕ → Line → Type 0
-Follows parts earlier bytes l = Any (λ s. (encodeStep s ≡ bytes) × (s .line ≡ l)) parts ⊎ ResolventIn earlier bytes l
+Follows parts earlier bytes l = FollowsBy (StepAt bytes 0) parts earlier l
+
+-- the same of the bytes that are written for a step
+abbrev pub WrittenAs : List ℕ → Step → Type 0
+WrittenAs bytes s = encodeStep s ≡ bytes
+
+abbrev pub FollowsAs : List Step → List Line → List ℕ → Line → Type 0
+FollowsAs parts earlier bytes l = FollowsBy (WrittenAs bytes) parts earlier l
 
 never : {A : Type 0} {X : Type 0} {a : A} → _≡_ {A = Option A} none (some a) → X
 never e = absurd (let z : _≡_ {A = ℕ} 0 1 = cc in omega arith)
@@ -81,7 +93,7 @@ module _ (bytes : List ℕ) (l : Line) where
       test = positively v u && negatively v m && pairable v u m
 
       fitting-resolvent : T test → (r : Line) → resolve v u m ≡ some r → cond (overflows r) none (some r) ≡ some l
-          → ResolventIn earlier bytes l
+          → ResolventIn (WrittenAs bytes) earlier l
       fitting-resolvent t r e h =
           ⊎-elim (λ w. never (rw (is-true (overflows r) w) at h))
           (λ w. let q : r ≡ l = inside (rw (is-false (overflows r) w) at h) in
@@ -103,13 +115,13 @@ module _ (bytes : List ℕ) (l : Line) where
             written = written;
           }) (split (overflows r))
 
-      derived-resolvent : derived v (some u) (some m) ≡ some l → ResolventIn earlier bytes l
+      derived-resolvent : derived v (some u) (some m) ≡ some l → ResolventIn (WrittenAs bytes) earlier l
       unfolding derived
       derived-resolvent h = ⊎-elim (λ t. by t (resolve v u m) refl (rw (is-true test t, derived) at h))
           (λ t. never (rw (is-false test t, derived) at h)) (split test)
         where
           by : T test → (o : Option Line) → resolve v u m ≡ o → _≡_ {A = Option Line}
-              (elim o [ none ↦ none | some r ↦ cond (overflows r) none (some r) ]) (some l) → ResolventIn earlier bytes l
+              (elim o [ none ↦ none | some r ↦ cond (overflows r) none (some r) ]) (some l) → ResolventIn (WrittenAs bytes) earlier l
           by t none e h = never h
           by t (some r) e h = fitting-resolvent t r e h
 
@@ -117,14 +129,15 @@ module _ (bytes : List ℕ) (l : Line) where
     parents-resolvent : (v : Variable) (s : Step) (a b : Option Line) → getElem? earlier first ≡ a → getElem? earlier second ≡ b
         → _≡_ {A = Option Step}
         (elim (derived v a b) [ none ↦ none | some r ↦ some (record { origin = resolved v first second; line = r }) ]) (some s)
-        → encodeStep s ≡ bytes → s .line ≡ l → ResolventIn earlier bytes l
+        → encodeStep s ≡ bytes → s .line ≡ l → ResolventIn (WrittenAs bytes) earlier l
     unfolding derived
     parents-resolvent v s none b e f h w q = never h
     parents-resolvent v s (some u) none e f h w q = never h
     parents-resolvent v s (some u) (some m) e f h w q = by (derived v (some u) (some m)) refl h
       where
         by : (o : Option Line) → derived v (some u) (some m) ≡ o → _≡_ {A = Option Step} (elim o
-            [ none ↦ none | some r ↦ some (record { origin = resolved v first second; line = r }) ]) (some s) → ResolventIn earlier bytes l
+            [ none ↦ none | some r ↦ some (record { origin = resolved v first second; line = r }) ]) (some s)
+            → ResolventIn (WrittenAs bytes) earlier l
         by none d h = never h
         by (some r) d h =
             let i : record { origin = resolved v first second; line = r } ≡ s = inside h in
@@ -132,7 +145,8 @@ module _ (bytes : List ℕ) (l : Line) where
             derived-resolvent v u m e f (subst (λ (x : Line). encodeStep (record { origin = resolved v first second; line = x }) ≡ bytes) j
             (ap encodeStep i ∙ w)) (d ∙ ap some j)
 
-    named-resolvent : (s : Step) → resolventNamed earlier bytes ≡ some s → encodeStep s ≡ bytes → s .line ≡ l → ResolventIn earlier bytes l
+    named-resolvent : (s : Step) → resolventNamed earlier bytes ≡ some s → encodeStep s ≡ bytes → s .line ≡ l
+        → ResolventIn (WrittenAs bytes) earlier l
     unfolding resolventNamed
     named-resolvent s h w q = by (variableNamed (fieldAt layout.stepHow 1 bytes) (fieldAt layout.stepWhich 1 bytes)) h
       where
@@ -142,21 +156,21 @@ module _ (bytes : List ℕ) (l : Line) where
               | some v ↦ elim (derived v (getElem? earlier first) (getElem? earlier second))
                   [ none ↦ none | some r ↦ some (record { origin = resolved v first second; line = r }) ]
             ]) (some s)
-            → ResolventIn earlier bytes l
+            → ResolventIn (WrittenAs bytes) earlier l
         by none h = never h
         by (some v) h = parents-resolvent v s (getElem? earlier first) (getElem? earlier second) refl refl h w q
 
-    pub stated-follows : (parts : List Step) → statedLine parts earlier bytes ≡ some l → Follows parts earlier bytes l
+    pub stated-written : (parts : List Step) → statedLine parts earlier bytes ≡ some l → FollowsAs parts earlier bytes l
     unfolding statedLine
-    stated-follows parts h = by (lineAmong parts bytes) refl h
+    stated-written parts h = by (lineAmong parts bytes) refl h
       where
         one : (s : Step) → resolventNamed earlier bytes ≡ some s → Any (λ s. (encodeStep s ≡ bytes) × (s .line ≡ l)) (s ∷ [])
-            → ResolventIn earlier bytes l
+            → ResolventIn (WrittenAs bytes) earlier l
         one s r (inl k) = named-resolvent s r (k .0) (k .1)
         one s r (inr k) = absurd k
 
         result : (o : Option Step) → resolventNamed earlier bytes ≡ o
-            → _≡_ {A = Option Line} (elim o [ none ↦ none | some s ↦ lineAmong (s ∷ []) bytes ]) (some l) → Follows parts earlier bytes l
+            → _≡_ {A = Option Line} (elim o [ none ↦ none | some s ↦ lineAmong (s ∷ []) bytes ]) (some l) → FollowsAs parts earlier bytes l
         result none r h = never h
         result (some s) r h = inr (one s r (among-follows (s ∷ []) h))
 
@@ -164,15 +178,14 @@ module _ (bytes : List ℕ) (l : Line) where
           | some m ↦ some m
           | none ↦ elim
               (resolventNamed earlier bytes) [ none ↦ none | some s ↦ lineAmong (s ∷ []) bytes ]
-        ]) (some l) → Follows parts earlier bytes l
+        ]) (some l) → FollowsAs parts earlier bytes l
         by none e h = result (resolventNamed earlier bytes) refl h
         by (some m) e h = inl (among-follows parts (e ∙ h))
 
--- ---- and back, where the earlier lines come back from their bytes
-module _ (parts : List Step) (known : AllEncodable parts) (earlier : List Line) (few : length earlier ≤ limit.mostSteps)
-    (all : All Encodable earlier)
-    (bytes : List ℕ) (l : Line) where
-  resolvent-encodable : ResolventIn earlier bytes l → Encodable l
+-- ---- its line comes back from its bytes, where the earlier ones do
+module _ (stands : Step → Type 0) (parts : List Step) (known : AllEncodable parts) (earlier : List Line) (all : All Encodable earlier)
+    (l : Line) where
+  pub resolvent-encodable : ResolventIn stands earlier l → Encodable l
   resolvent-encodable r =
       let u = element-all Encodable earlier (r .first) (r .upper) (r .atFirst) all in
       let m = element-all Encodable earlier (r .second) (r .lower) (r .atSecond) all in
@@ -181,10 +194,14 @@ module _ (parts : List Step) (known : AllEncodable parts) (earlier : List Line) 
         small = overflows-no l .0 (r .fits);
       }
 
-  pub follows-encodable : Follows parts earlier bytes l → Encodable l
-  follows-encodable = ⊎-elim (λ k. all-any (λ s. Encodable (s .line)) (λ s. (encodeStep s ≡ bytes) × (s .line ≡ l)) parts
+  pub encodable-follows : FollowsBy stands parts earlier l → Encodable l
+  encodable-follows = ⊎-elim (λ k. all-any (λ s. Encodable (s .line)) (λ s. stands s × (s .line ≡ l)) parts
       (λ s h k. subst Encodable (k .1) h) known k) resolvent-encodable
 
+-- ---- and back
+module _ (parts : List Step) (known : AllEncodable parts) (earlier : List Line) (few : length earlier ≤ limit.mostSteps)
+    (all : All Encodable earlier)
+    (bytes : List ℕ) (l : Line) where
   part-stated : (ss : List Step) → AllEncodable ss → ((s : Step) → Any (λ x. x ≡ s) ss → Any (λ x. x ≡ s) parts)
       → Any (λ s. (encodeStep s ≡ bytes) × (s .line ≡ l)) ss → statedLine parts earlier bytes ≡ some l
   part-stated [] k f h = absurd h
@@ -192,10 +209,10 @@ module _ (parts : List Step) (known : AllEncodable parts) (earlier : List Line) 
       (stated-part s (k .0) parts earlier known (f s (inl refl)) ∙ ap some (h .1))
   part-stated (s ∷ ss) k f (inr h) = part-stated ss (k .1) (λ x m. f x (inr m)) h
 
-  resolvent-stated : ResolventIn earlier bytes l → statedLine parts earlier bytes ≡ some l
+  resolvent-stated : ResolventIn (WrittenAs bytes) earlier l → statedLine parts earlier bytes ≡ some l
   resolvent-stated r =
       let s : Step = record { origin = resolved (r .variable) (r .first) (r .second); line = l } in
-      let h = resolvent-encodable r in
+      let h = resolvent-encodable (WrittenAs bytes) parts known earlier all l r in
       let a = element-below earlier (r .first) (r .upper) (r .atFirst) in
       let b = element-below earlier (r .second) (r .lower) (r .atSecond) in
       let k = parents-back (r .variable) (r .first) (r .second) l (omega arith) (omega arith) in
@@ -204,5 +221,5 @@ module _ (parts : List Step) (known : AllEncodable parts) (earlier : List Line) 
       (named-back (r .variable) (r .first) (r .second) l) (k .0) (k .1) (r .atFirst) (r .atSecond) d in
       subst (λ (bs : List ℕ). statedLine parts earlier bs ≡ some l) (r .written) (stated-resolvent s h parts earlier known n)
 
-  pub follows-stated : Follows parts earlier bytes l → statedLine parts earlier bytes ≡ some l
-  follows-stated = ⊎-elim (part-stated parts known (λ s m. m)) resolvent-stated
+  pub written-stated : FollowsAs parts earlier bytes l → statedLine parts earlier bytes ≡ some l
+  written-stated = ⊎-elim (part-stated parts known (λ s m. m)) resolvent-stated

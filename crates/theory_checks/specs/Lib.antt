@@ -9,3 +9,5 @@ pub mod Following
 pub mod ProofAccepted
 pub mod EliminationAccepted
 pub mod ProofBytes
+pub mod Writable
+pub mod ByOffset

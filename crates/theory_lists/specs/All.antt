@@ -87,11 +87,6 @@ module _ {A : Type 0} where
   any-agree p q [] h = refl
   any-agree p q (a ∷ s) h = rw (h .0, any-agree p q s (h .1))
 
-  pub all-agree : (p q : A → Bool) (s : List A) → All (λ a. p a ≡ q a) s → all p s ≡ all q s
-  unfolding all
-  all-agree p q [] h = refl
-  all-agree p q (a ∷ s) h = rw (h .0, all-agree p q s (h .1))
-
   -- one element, kept where a test says so
   pub kept-one : (P : A → Type 0) (a : A) (r : List A) (t : Bool) → (T t → P a) → All P r → All P (elim t [ true ↦ a ∷ r | false ↦ r ])
   kept-one P a r true f h = (f tt, h)

@@ -48,3 +48,9 @@ module _ {A : Type 0} where
   element-below [] i a e = absurd (let z : _≡_ {A = ℕ} 0 1 = cc in omega arith)
   element-below (x ∷ s) zero a e = omega arith
   element-below (x ∷ s) (suc i) a e = let r = element-below s i a e in omega arith
+
+  -- there is one at each place below the length
+  pub element : (s : List A) (i : ℕ) → i < length s → (a : A) × (getElem? s i ≡ some a)
+  element [] i h = absurd (omega arith)
+  element (a ∷ s) zero h = (a, refl)
+  element (a ∷ s) (suc i) h = element s i (omega arith)

@@ -2,6 +2,7 @@ pub mod WellFormed
 pub mod NormalClause
 pub mod NormalForm
 pub mod Choosing
+pub mod Count
 pub mod Parts
 pub mod PartsGive
 pub mod PartsChosen

@@ -50,7 +50,7 @@ unfolding tested
 tested-yields good f start value true e = λ bytes place. of-true (good value) e
 tested-yields good f start value false e = λ bytes place. tt
 
-pub field-yields : (size : ℕ) (good : ℕ → Bool) (f : Refusal) → Yields (λ n. T (good n)) (field size good f)
+field-yields : (size : ℕ) (good : ℕ → Bool) (f : Refusal) → Yields (λ n. T (good n)) (field size good f)
 unfolding field
 field-yields size good f bytes place =
     after-gives (λ n. Unit {0}) (λ n. T (good n)) (number size bytes place) (λ value. tested (good value) f place value)

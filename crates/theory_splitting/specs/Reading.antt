@@ -28,7 +28,7 @@ unfolding literal
 literal-yields b = field-then (λ l. l .boolean < b) _ _ _ _ (λ code h bytes place. ltb→lt (code % 128) b h)
 
 -- ---- constraints
-pub amount-yields : (f : Refusal) → Yields Small (amount f)
+amount-yields : (f : Refusal) → Yields Small (amount f)
 unfolding amount
 amount-yields f = field-then Small _ _ _ _ (λ n h bytes place. range-small (fromUnsigned n) .0 h)
 
@@ -88,6 +88,7 @@ problem-yields =
     end-yields FormedBut _ (λ s. record {
       booleans = leb→le b limit.booleans h;
       rationals = leb→le r limit.rationals k;
+      few = rw e (leb→le n limit.clauses u);
       clauses = c;
       splits = s;
     })))))

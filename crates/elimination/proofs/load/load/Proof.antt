@@ -9,7 +9,7 @@ use Rattle.rules_types.specs.Limits as limit
 use Rattle.rules.specs.Split.{partsOf}
 use Rattle.problem_scan.specs.Values.{clauseAt}
 use Rattle.problem_scan.specs.Sound.{SoundClause}
-use Rattle.problem_parts.specs.Count.{parts-length}
+use Rattle.theory_splitting.specs.Count.{parts-length}
 use Rattle.elimination.specs.Loading.{AtClause, clauses-start, clauses-done, clause-sound, clause-splits, clause-next, clause-ended}
 use Rattle.elimination.proofs.load.load.Statement.{statement}
 use Rattle.elimination.proofs.load.load.Tie as tie
