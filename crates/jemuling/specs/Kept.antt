@@ -9,6 +9,7 @@ use Rattle.rules_types.specs.declared.answers.Evidence.{Evidence}
 use Rattle.rules_types.specs.Limits.{standard}
 use Rattle.rules_types.specs.Answers.{answerNumber, checkedNumber, checkedValue, evidenceNumber, evidenceLength}
 use Rattle.rules.specs.Calls.{solve, proofChecked, modelChecked, evidence}
+use Rattle.theory_bytes.specs.Bytes.{AllBytes}
 use Rattle.promises.specs.Numbers.{verdict-exactly, refusal-exactly, accepted-exactly, fails-exactly, refused-exactly, of-proof-exactly}
 use Rattle.promises.specs.Numbers.{of-model-exactly}
 use Rattle.promises.specs.Handing.{hands}
@@ -55,14 +56,14 @@ delivered input lentProof lentModel told proof model t b s =
       third = λ p e full. demand3 standard (omega arith) input p e lentProof lentModel full;
     }
 
-pub book-checked : (input proof : List ℕ) (told : Told) → told ≡ checkedTold (proofChecked standard input proof)
+pub book-checked : (input proof : List ℕ) (told : Told) → AllBytes proof → told ≡ checkedTold (proofChecked standard input proof)
     → BookChecked input proof told
-book-checked input proof told t =
+book-checked input proof told are t =
     let says = proofChecked standard input proof in
     record {
       says = says;
       tells = subst (λ (x : Told). TellsChecked x says) (sym t) (checked-tells says);
-      checks = checks-proof standard (omega arith) input proof;
+      checks = checks-proof standard (omega arith) input proof are;
     }
 
 pub sheet-checked : (input model : List ℕ) (told : Told) → told ≡ checkedTold (modelChecked input model) → SheetChecked input model told

@@ -1,6 +1,7 @@
 -- Demand 1, as far as it is about the definition of solving: what it says and leaves in proof and model, for a problem of arbitrary
 -- bytes and buffers of every length. The checks return an answer alone: they write nothing.
 use mathlib.Core.Path.{_≡_}
+use mathlib.Core.Logic.{_↔_}
 use mathlib.Core.List.{List, _++_}
 use Prim.Native.Nat.{ℕ, _≤_, _<_}
 use lib.ListN.{length, replicate, drop}
@@ -15,7 +16,11 @@ use Rattle.rules_types.specs.Limits as limit
 use Rattle.rules.specs.Problem.{Problem}
 use Rattle.rules.specs.Calls.{faulty, sound, read, Solving, solve, proofChecked, modelChecked}
 use Rattle.promises.specs.Words.{Comes, LimitMet, FullSize, HoldsLines, OurModel}
+use Rattle.theory_bytes.specs.Bytes.{AllBytes}
+use Rattle.theory_reading.specs.Statements.{IsProblem, FirstFault}
+use Rattle.theory_reading.specs.Theorems.{reads-exactly, names-first}
 use Rattle.promises.specs.Checked.{proof-refused, model-refused}
+use Rattle.promises.specs.Total.{Total, total}
 use Rattle.promises.specs.Left as left
 
 -- nothing is altered, and there are no pairs to report
@@ -25,7 +30,7 @@ untouched f place proof model = record { solved = record { answer = Refused f pl
 pub record Demand1 (limits : Limits) (input lentProof lentModel : List ℕ) (ours : Solving) : Type 0 where
   -- "The lent memory, for a question of arbitrary bytes and buffers of every length, ends as document 01 says: book and sheet after a
   -- verdict,": the lines, zeros, and what lay beyond; the value rule's model after "agrees", zeros otherwise, and what lay beyond
-  pub proof : FullSize limits lentProof lentModel → (p : Problem) → read input ≡ sound p → limits .steps ≤ 65536 → (v : Verdict)
+  pub proof : FullSize limits lentProof lentModel → (p : Problem) → read input ≡ sound p → limits .steps ≤ limit.mostSteps → (v : Verdict)
       → Comes v (ours .solved .answer) → HoldsLines limits p (ours .proof) lentProof
   pub satisfiable : FullSize limits lentProof lentModel → (p : Problem) → read input ≡ sound p → Comes Satisfiable (ours .solved .answer)
       → OurModel p ours lentModel
@@ -41,10 +46,14 @@ pub record Demand1 (limits : Limits) (input lentProof lentModel : List ℕ) (our
   -- "a zeroed book and the old sheet after a refused course."
   pub refusedElimination : FullSize limits lentProof lentModel → (p : Problem) → read input ≡ sound p → LimitMet (ours .solved .answer)
       → (ours .proof ≡ replicate (limit.proofBytes limits) 0 ++ drop (limit.proofBytes limits) lentProof) × (ours .model ≡ lentModel)
-  -- "and names the first fault in 01's order.": the checks too name the problem's before they look at proof or model
+  -- "and names the first fault in 01's order.": which problem the bytes are, or which fault is the first, is said of the bytes alone; the
+  -- checks too name it, before they look at proof or model
+  pub reads : AllBytes input → (p : Problem) → (read input ≡ sound p) ↔ IsProblem input p
+  pub names : AllBytes input → (f : Refusal) (place : ℕ) → (read input ≡ faulty f place) ↔ FirstFault input f place
   pub firstFault : (f : Refusal) (place : ℕ) → read input ≡ faulty f place → (bytes : List ℕ)
       → (proofChecked limits input bytes ≡ checked.Refused f place) × (modelChecked input bytes ≡ checked.Refused f place)
-  -- no buffer grows or shrinks
+  -- an answer comes in every case, and no buffer grows or shrinks
+  pub total : AllBytes input → Total limits input lentProof lentModel (ours .solved .answer)
   pub sizes : (length (ours .proof) ≡ length lentProof) × (length (ours .model) ≡ length lentModel)
 
 pub demand1 : (limits : Limits) (input proof model : List ℕ) → Demand1 limits input proof model (solve limits input proof model)
@@ -57,6 +66,9 @@ demand1 limits input proof model =
       shortModel = left.short-model limits input proof model;
       faultyInput = left.faulty-input limits input proof model;
       refusedElimination = left.refused-elimination limits input proof model;
+      reads = reads-exactly input;
+      names = names-first input;
       firstFault = λ f place e bytes. (proof-refused input f place e limits bytes, model-refused input f place e bytes);
+      total = total limits input proof model;
       sizes = left.sizes limits input proof model;
     }

@@ -56,8 +56,8 @@ pub record Demand3 (limits : Limits) (input : List ℕ) (p : Problem) (lentProof
   pub accepted : Comes Unsatisfiable (ours .solved .answer)
       → proofChecked limits input (take (limit.stepBytes * answerValue (ours .solved .answer)) (ours .proof)) ≡ Accepted
 
-pub demand3 : (limits : Limits) → limits .steps ≤ 65536 → (input : List ℕ) (p : Problem) → read input ≡ sound p → (proof model : List ℕ)
-    → FullSize limits proof model → Demand3 limits input p proof model (solve limits input proof model)
+pub demand3 : (limits : Limits) → limits .steps ≤ limit.mostSteps → (input : List ℕ) (p : Problem) → read input ≡ sound p
+    → (proof model : List ℕ) → FullSize limits proof model → Demand3 limits input p proof model (solve limits input proof model)
 demand3 limits few input p e proof model full =
     subst (Demand3 limits input p proof model) (sym (solve-is limits input p e proof model full))
     (record {

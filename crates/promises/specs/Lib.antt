@@ -15,6 +15,7 @@ pub mod Whole
 pub mod Memory
 pub mod Left
 pub mod Denominator
+pub mod Total
 pub mod Demand1
 pub mod Demand3
 pub mod HandedBack
