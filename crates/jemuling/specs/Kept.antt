@@ -41,12 +41,13 @@ unfolding evidenceTold
 part-tells e = record { ofProof = of-proof-exactly e; ofModel = of-model-exactly e }
 
 -- ---- the calls
-pub delivered : (input lentProof lentModel : List ℕ) (told : SolvedTold) (proof model : List ℕ)
+pub delivered : (input lentProof lentModel : List ℕ) (told : SolvedTold) (proof model : List ℕ) → AllBytes input
     → told ≡ solvedTold (solve standard input lentProof lentModel .solved) → proof ≡ solve standard input lentProof lentModel .proof
     → model ≡ solve standard input lentProof lentModel .model → Delivered input lentProof lentModel told proof model
-delivered input lentProof lentModel told proof model t b s =
+delivered input lentProof lentModel told proof model are t b s =
     let ours = solve standard input lentProof lentModel in
     record {
+      bytes = are;
       ours = ours;
       tells = subst (λ (x : SolvedTold). TellsSolved x (ours .solved)) (sym t) (solved-tells (ours .solved));
       leavesProof = b;
@@ -56,20 +57,22 @@ delivered input lentProof lentModel told proof model t b s =
       third = λ p e full. demand3 standard (omega arith) input p e lentProof lentModel full;
     }
 
-pub book-checked : (input proof : List ℕ) (told : Told) → AllBytes proof → told ≡ checkedTold (proofChecked standard input proof)
+pub book-checked : (input proof : List ℕ) (told : Told) → AllBytes input → AllBytes proof → told ≡ checkedTold (proofChecked standard input proof)
     → BookChecked input proof told
-book-checked input proof told are t =
+book-checked input proof told are lines t =
     let says = proofChecked standard input proof in
     record {
+      bytes = are;
       says = says;
       tells = subst (λ (x : Told). TellsChecked x says) (sym t) (checked-tells says);
-      checks = checks-proof standard (omega arith) input proof are;
+      checks = checks-proof standard (omega arith) input proof lines;
     }
 
-pub sheet-checked : (input model : List ℕ) (told : Told) → told ≡ checkedTold (modelChecked input model) → SheetChecked input model told
-sheet-checked input model told t =
+pub sheet-checked : (input model : List ℕ) (told : Told) → AllBytes input → told ≡ checkedTold (modelChecked input model) → SheetChecked input model told
+sheet-checked input model told are t =
     let says = modelChecked input model in
     record {
+      bytes = are;
       says = says;
       tells = subst (λ (x : Told). TellsChecked x says) (sym t) (checked-tells says);
       checks = checks-model input model;

@@ -15,6 +15,7 @@ use Rattle.rules_types.specs.Limits.{standard}
 use Rattle.rules_types.specs.Answers.{refusalNumber, verdictNumber, answerValue}
 use Rattle.rules.specs.Problem.{Problem}
 use Rattle.rules.specs.Calls.{sound, read, Solving}
+use Rattle.theory_bytes.specs.Bytes.{AllBytes}
 use Rattle.promises.specs.Words.{Comes, IsRefused, FullSize}
 use Rattle.promises.specs.Handing.{Hands}
 use Rattle.promises.specs.Checks.{ChecksProof, ChecksModel}
@@ -40,9 +41,10 @@ pub record TellsPart (told : Told) (part : Evidence) : Type 0 where
   pub ofProof : (n : ℕ) → ((told .number ≡ 69) × (told .value ≡ n)) ↔ (part ≡ OfProof n)
   pub ofModel : (n : ℕ) → ((told .number ≡ 70) × (told .value ≡ n)) ↔ (part ≡ OfModel n)
 
--- ---- the calls
+-- ---- the calls; a lent slice holds bytes, so what the demands say of bytes holds of it
 -- `jemuling_solve`: `lentProof` and `lentModel` are the buffers before it, `proof` and `model` what it left in them
 pub record Delivered (input lentProof lentModel : List ℕ) (told : SolvedTold) (proof model : List ℕ) : Type 0 where
+  pub bytes : AllBytes input
   pub ours : Solving
   pub tells : TellsSolved told (ours .solved)
   pub leavesProof : proof ≡ ours .proof
@@ -54,12 +56,14 @@ pub record Delivered (input lentProof lentModel : List ℕ) (told : SolvedTold) 
 
 -- `jemuling_check_book`
 pub record BookChecked (input proof : List ℕ) (told : Told) : Type 0 where
+  pub bytes : AllBytes input
   pub says : Checked
   pub tells : TellsChecked told says
   pub checks : ChecksProof standard input proof says
 
 -- `jemuling_check_sheet`
 pub record SheetChecked (input model : List ℕ) (told : Told) : Type 0 where
+  pub bytes : AllBytes input
   pub says : Checked
   pub tells : TellsChecked told says
   pub checks : ChecksModel input model says

@@ -1,5 +1,7 @@
 -- `calls::jemuling_check_book` meets its contract. Assumes nothing.
 use mathlib.Core.Path.{ap, _∙_}
+use native.Mathlib.Omega.{arith}
+use Rattle.theory_bytes.specs.Bytes.{all-bytes}
 use Rattle.jemuling.specs.Told.{checkedTold}
 use Rattle.jemuling.specs.Kept.{book-checked}
 use borrow.Author.Needs.{needs}
@@ -13,7 +15,14 @@ checked-told-requires : tie.Need-checked-told-requires
 checked-told-requires c κs = search needs
 
 returns : tie.Need-returns
-returns c = let e = c .checked-told .ensures ∙ ap checkedTold (c .before .check-standard .ensures) in (e, book-checked _ _ _ e)
+returns c =
+    let e = c .checked-told .ensures ∙ ap checkedTold (c .before .check-standard .ensures) in
+    let proof = c .before .before in
+    let input = proof .before in (
+      e,
+      book-checked _ _ _ (all-bytes (input .before .args .input .now) (λ i. omega (arith, input .shared-slice-known .given i)))
+          (all-bytes (input .before .args .proof .now) (λ i. omega (arith, proof .shared-slice-known2 .given i))) e,
+    )
 
 pub jemuling-check-book-spec : {M : Type 1} → statement M
 jemuling-check-book-spec = tie.close (tie.spec check-standard-requires checked-told-requires returns)

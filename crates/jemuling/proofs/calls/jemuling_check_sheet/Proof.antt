@@ -1,5 +1,7 @@
 -- `calls::jemuling_check_sheet` meets its contract. Assumes nothing.
 use mathlib.Core.Path.{ap, _∙_}
+use native.Mathlib.Omega.{arith}
+use Rattle.theory_bytes.specs.Bytes.{all-bytes}
 use Rattle.jemuling.specs.Told.{checkedTold}
 use Rattle.jemuling.specs.Kept.{sheet-checked}
 use borrow.Author.Needs.{needs}
@@ -13,7 +15,10 @@ checked-told-requires : tie.Need-checked-told-requires
 checked-told-requires c κs = search needs
 
 returns : tie.Need-returns
-returns c = let e = c .checked-told .ensures ∙ ap checkedTold (c .before .check-model .ensures) in (e, sheet-checked _ _ _ e)
+returns c =
+    let e = c .checked-told .ensures ∙ ap checkedTold (c .before .check-model .ensures) in
+    let input = c .before .before .before in
+    (e, sheet-checked _ _ _ (all-bytes (input .before .args .input .now) (λ i. omega (arith, input .shared-slice-known .given i))) e)
 
 pub jemuling-check-sheet-spec : {M : Type 1} → statement M
 jemuling-check-sheet-spec = tie.close (tie.spec check-model-requires checked-told-requires returns)

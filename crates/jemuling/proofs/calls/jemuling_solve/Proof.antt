@@ -1,5 +1,7 @@
 -- `calls::jemuling_solve` meets its contract. Assumes nothing.
 use mathlib.Core.Path.{ap, _∙_}
+use native.Mathlib.Omega.{arith}
+use Rattle.theory_bytes.specs.Bytes.{all-bytes}
 use Rattle.jemuling.specs.Told.{solvedTold}
 use Rattle.jemuling.specs.Kept.{delivered}
 use borrow.Author.Needs.{needs}
@@ -24,7 +26,9 @@ returns c =
     let t = c .solved-told .ensures ∙ ap solvedTold (k .solve .ensures .0) in
     let b = k .solve .ensures .1 .0 in
     let s = k .solve .ensures .1 .1 in
-    (t, (b, (s, delivered _ _ _ _ _ _ t b s)))
+    let input = k .before .before .before .before .before in
+    let are = all-bytes (input .before .args .input .now) (λ i. omega (arith, input .shared-slice-known .given i)) in
+    (t, (b, (s, delivered _ _ _ _ _ _ are t b s)))
 
 pub jemuling-solve-spec : {M : Type 1} → statement M
 jemuling-solve-spec =
