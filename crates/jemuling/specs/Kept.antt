@@ -57,8 +57,8 @@ delivered input lentProof lentModel told proof model are t b s =
       third = λ p e full. demand3 standard (omega arith) input p e lentProof lentModel full;
     }
 
-pub book-checked : (input proof : List ℕ) (told : Told) → AllBytes input → AllBytes proof → told ≡ checkedTold (proofChecked standard input proof)
-    → BookChecked input proof told
+pub book-checked : (input proof : List ℕ) (told : Told) → AllBytes input → AllBytes proof
+    → told ≡ checkedTold (proofChecked standard input proof) → BookChecked input proof told
 book-checked input proof told are lines t =
     let says = proofChecked standard input proof in
     record {
@@ -68,7 +68,8 @@ book-checked input proof told are lines t =
       checks = checks-proof standard (omega arith) input proof lines;
     }
 
-pub sheet-checked : (input model : List ℕ) (told : Told) → AllBytes input → told ≡ checkedTold (modelChecked input model) → SheetChecked input model told
+pub sheet-checked : (input model : List ℕ) (told : Told) → AllBytes input
+    → told ≡ checkedTold (modelChecked input model) → SheetChecked input model told
 sheet-checked input model told are t =
     let says = modelChecked input model in
     record {

@@ -1,30 +1,25 @@
 -- Lines are equal where the bytes behind their headers are.
 use mathlib.Core.Path.{_≡_, refl, sym, ap, subst, _∙_}
-use mathlib.Core.Bool.{Bool, true, false, _&&_, _||_, Bool·beq}
+use mathlib.Core.Bool.{Bool, true, false, _||_}
 use mathlib.Core.List.{List, _++_, append-assoc}
-use mathlib.Core.Option.{Option, none, some}
 use Prim.Native.Nat.{ℕ, _+_, _-_, _≤_, _<_}
 use native.Mathlib.Omega.{arith}
 use lib.Dec.{T, eqb, eqb→eq, eqb-refl}
 use lib.ListN.{length, take, drop, replicate, length-append}
 use lib.Seq.{drop-at, drop-drop}
-use mir.Facts.{yes-and}
 use Rattle.rules_types.specs.Limits.{stepBytes}
 use Rattle.rules_types.specs.Layout.{stepRelation}
 use Rattle.rules.specs.Lists.{any, same, tabulate}
-use Rattle.rules.specs.Arithmetic.{equal}
 use Rattle.rules.specs.Bytes.{fromBytes, fieldAt, padded}
-use Rattle.rules.specs.Problem.{Constraint}
 use Rattle.rules.specs.Lines as rules
-use Rattle.rules.specs.Lines.{sameConstraint, sameLine}
+use Rattle.rules.specs.Lines.{sameLine}
 use Rattle.rules.specs.Steps.{Step, Header, header, headerBytes, lineBytes}
 use Rattle.rules.specs.Elimination.{covered}
 use Rattle.theory_lists.specs.Tests.{tests-agree}
 use Rattle.theory_lists.specs.Tabulated.{length-tabulate, getD-tabulate}
 use Rattle.theory_lists.specs.Equal.{same-yes, yes-same}
 use Rattle.theory_lists.specs.Scan.{any-next, any-end}
-use Rattle.theory_vectors.specs.Sign.{equal-refl}
-use Rattle.theory_saturation.specs.Equal.{sameLine-yes}
+use Rattle.theory_saturation.specs.Equal.{sameLine-yes, sameLine-self}
 use Rattle.lines.specs.declared.line.Line.{Line}
 use Rattle.lines.specs.Line.{meaning}
 use Rattle.steps.specs.Origin.{headerOf, loadedBy}
@@ -32,27 +27,6 @@ use Rattle.steps.specs.Encoding.{encoded, encodeStep-is, length-headerBytes}
 use Rattle.steps.specs.Decoding.{decoded, decoded-encoded}
 use Rattle.steps.specs.Places.{stepAt}
 use Rattle.steps.specs.Held.{stepFrom, stepsIn, length-stepsIn, StepBytes, Held, Words, step-words}
-
--- ---- a line equals itself
-self : (a : Bool) → T (Bool·beq a a)
-self true = tt
-self false = tt
-
-constraint-self : (c : Option Constraint) → T (sameConstraint c c)
-unfolding sameConstraint
-constraint-self none = tt
-constraint-self (some c) =
-    yes-and (equal (c .bound) (c .bound) && Bool·beq (c .strict) (c .strict)) (same equal (c .coefficients) (c .coefficients))
-    (yes-and (equal (c .bound) (c .bound)) (Bool·beq (c .strict) (c .strict)) (equal-refl (c .bound)) (self (c .strict)))
-    (yes-same equal equal-refl (c .coefficients) (c .coefficients) refl)
-
-line-self : (l : rules.Line) → T (sameLine l l)
-unfolding sameLine
-line-self l =
-    yes-and (sameConstraint (l .constraint) (l .constraint) && same Bool·beq (l .positive) (l .positive)) (same Bool·beq (l .negative)
-    (l .negative)) (yes-and (sameConstraint (l .constraint) (l .constraint)) (same Bool·beq (l .positive) (l .positive))
-    (constraint-self (l .constraint)) (yes-same Bool·beq self (l .positive) (l .positive) refl))
-    (yes-same Bool·beq self (l .negative) (l .negative) refl)
 
 -- ---- the bytes behind the header
 unfoldable pub behind : List ℕ → List ℕ
@@ -91,7 +65,7 @@ module _ (b : List ℕ) (is : StepBytes b) (h : Header) (l : Line) (words : Word
       let f : tail (meaning (decoded b)) ≡ tail (meaning l) = sym behind-step ∙ e ∙ behind-encoded h (meaning l) in
       let g : decoded b ≡ l = sym (line-by-tail (decoded b) (step-words b is))
       ∙ ap (λ (x : List ℕ). decoded (headerBytes (headerOf (loadedBy 0 0)) ++ x)) f ∙ line-by-tail l words in
-      subst (λ (m : Line). T (sameLine (meaning (decoded b)) (meaning m))) g (line-self (meaning (decoded b))))
+      subst (λ (m : Line). T (sameLine (meaning (decoded b)) (meaning m))) g (sameLine-self (meaning (decoded b))))
       (λ t.
       let e : meaning (decoded b) ≡ meaning l = sameLine-yes (meaning (decoded b)) (meaning l) t in
       yes-same eqb eqb-refl (behind b) (behind (encoded h (meaning l))) (behind-step ∙ ap tail e ∙ sym (behind-encoded h (meaning l))))

@@ -102,49 +102,44 @@ module _ (stops : Stops) where
         ∙ sym (run-append (map part parts) ys (running [] 0))
 
   -- ---- one loop takes up its candidates
-  first : (x : Candidate) (xs : List Candidate) (held : List Step) (n m : ℕ) (state : State) → Passed stops held (x ∷ []) → m
-      ≡ n + pairs (x ∷ []) → Takes stops xs (keep held (x ∷ [])) m state → Takes stops (x ∷ xs) held n state
-  unfolding keep pairs
-  first (part s) xs held n m (running steps k)
-      p e h = record { passed = (p .0, h .passed); proof = h .proof; count = omega (arith, h .count, e) }
-  first (result s) xs held n m (running steps k)
-      p e h = record { passed = (p .0, p .1, h .passed); proof = h .proof; count = omega (arith, h .count, e) }
-  first dropped xs held n m (running steps k) p e h = record { passed = h .passed; proof = h .proof; count = omega (arith, h .count, e) }
-  first (part s) xs held n m (ended end steps k) p e h =
+  passed-first : (x : Candidate) (xs : List Candidate) (held : List Step) → Passed stops held (x ∷ [])
+      → Passed stops (keep held (x ∷ [])) xs → Passed stops held (x ∷ xs)
+  unfolding keep
+  passed-first (part s) xs held p h = (p .0, h)
+  passed-first (result s) xs held p h = (p .0, p .1, h)
+  passed-first dropped xs held p h = h
+
+  keep-first : (x : Candidate) (xs : List Candidate) (held : List Step) → keep (keep held (x ∷ [])) xs ≡ keep held (x ∷ xs)
+  unfolding keep
+  keep-first (part s) xs held = refl
+  keep-first (result s) xs held = refl
+  keep-first dropped xs held = refl
+
+  pairs-first : (x : Candidate) (xs : List Candidate) → pairs (x ∷ xs) ≡ pairs (x ∷ []) + pairs xs
+  unfolding pairs
+  pairs-first (part s) xs = omega arith
+  pairs-first (result s) xs = omega arith
+  pairs-first dropped xs = omega arith
+
+  first : (x : Candidate) (xs : List Candidate) (held : List Step) (n m : ℕ) (state : State) → Passed stops held (x ∷ [])
+      → m ≡ n + pairs (x ∷ []) → Takes stops xs (keep held (x ∷ [])) m state → Takes stops (x ∷ xs) held n state
+  first x xs held n m (running steps k) p e h =
       record {
-        done = part s ∷ h .done;
-        last = h .last;
-        rest = h .rest;
-        split = ap (λ (ys : List Candidate). part s ∷ ys)
-            (h .split);
-        passed = (p .0, h .passed);
-        because = h .because;
-        proof = h .proof;
-        count = omega (arith, h .count, e);
+        passed = passed-first x xs held p (h .passed);
+        proof = h .proof ∙ keep-first x xs held;
+        count = omega (arith, h .count, e, pairs-first x xs);
       }
-  first (result s) xs held n m (ended end steps k) p e h =
+  first x xs held n m (ended end steps k) p e h =
+      let i = keep-first x (h .done) held in
       record {
-        done = result s ∷ h .done;
+        done = x ∷ h .done;
         last = h .last;
         rest = h .rest;
-        split = ap (λ (ys : List Candidate). result s ∷ ys)
-            (h .split);
-        passed = (p .0, p .1, h .passed);
-        because = h .because;
-        proof = h .proof;
-        count = omega (arith, h .count, e);
-      }
-  first dropped xs held n m (ended end steps k) p e h =
-      record {
-        done = dropped ∷ h .done;
-        last = h .last;
-        rest = h .rest;
-        split = ap (λ (ys : List Candidate). dropped ∷ ys)
-            (h .split);
-        passed = h .passed;
-        because = h .because;
-        proof = h .proof;
-        count = omega (arith, h .count, e);
+        split = ap (λ (ys : List Candidate). x ∷ ys) (h .split);
+        passed = passed-first x (h .done) held p (h .passed);
+        because = subst (λ (now : List Step). Stopped stops end now (h .last)) i (h .because);
+        proof = h .proof ∙ ap (λ (now : List Step). proofAt stops end now (h .last)) i;
+        count = omega (arith, h .count, e, pairs-first x (h .done ++ (h .last ∷ [])));
       }
 
   stop : (x : Candidate) (xs : List Candidate) (held : List Step) (n : ℕ) (e : End) (steps : List Step) (m : ℕ) → Stopped stops e held x

@@ -63,7 +63,7 @@ sameConstraint-self (some c) =
     (yes-and (equal (c .bound) (c .bound)) (Bool·beq (c .strict) (c .strict)) (equal-refl (c .bound)) (beq-self (c .strict)))
     (yes-same equal equal-refl (c .coefficients) (c .coefficients) refl)
 
-sameLine-self : (l : Line) → T (sameLine l l)
+pub sameLine-self : (l : Line) → T (sameLine l l)
 unfolding sameLine
 sameLine-self l =
     yes-and (sameConstraint (l .constraint) (l .constraint) && same Bool·beq (l .positive) (l .positive))
