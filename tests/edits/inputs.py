@@ -85,6 +85,10 @@ def by_hand():
     yield solving("17 links", question(0, 1, sixteen + [([], many[:2]), x]))
     yield solving("16 links and a dropped clause", question(1, 1, sixteen + [([0, 128], many)]))
     yield solving("16 links and struck conditions", question(1, 1, sixteen + [([0], [(1, [0], -1)] * 4)]))
+    # link 31: x <= 0 or x <= 1; -x <= -5
+    last = [([], [(1, [0, 1], i) for i in range(8)])] * 2 + [([], [(1, [0, 1], i) for i in range(2)])]
+    last += [([], [(1, [1], 0), (1, [1], 1)]), alone(1, [-1], -5)]
+    yield solving("a pair by mark 31", question(16, 2, last))
     yield solving("9 figures, 5 marks", bytes([5, 9, 0, 0]))
     yield solving("3x <= 10^9; -2x <= 10^9", question(0, 1, [alone(1, [3], MOST), alone(1, [-2], MOST)]))
     yield solving("3x <= -10^9; -2x <= -10^9", question(0, 1, [alone(1, [3], -MOST), alone(1, [-2], -MOST)]))

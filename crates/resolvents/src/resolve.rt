@@ -34,13 +34,14 @@ pub fn finish(line: Line) -> Resolved
 {
     let n = normalize(line);
     let left = n.line;
+    let overflowing = left.overflows();
     if n.dropped {
         return Resolved {
             status: Status::Dropped,
             line: left,
         };
     }
-    if left.overflows() {
+    if overflowing {
         return Resolved {
             status: Status::Overflows,
             line: left,
