@@ -2,7 +2,7 @@
 
 mod common;
 
-use common::{from_c, root, solved, text, texts};
+use common::{from_c, root, solved, stored, text, texts, Stored};
 use notation::{decode, encode, parse, show, Names};
 use std::fs;
 
@@ -18,12 +18,15 @@ fn every_example_gives_its_question() {
 
 #[test]
 fn every_question_has_its_text() {
+    let mut questions = 0;
     for entry in fs::read_dir(root().join("examples")).unwrap() {
         let file = entry.unwrap().path();
         if file.extension().map_or(false, |end| end == "question") {
             assert!(file.with_extension("txt").exists(), "{}", file.display());
+            questions += 1;
         }
     }
+    assert_eq!(questions, 17);
 }
 
 #[test]
@@ -81,11 +84,9 @@ fn books_and_sheets_of_the_c_tests_are_the_second_solvers() {
     for number in 1..=9 {
         let question = from_c(&format!("example_{number}_question")).unwrap();
         let (_, book, sheet) = solved(&question);
-        if let Some(stored) = from_c(&format!("example_{number}_book")) {
-            assert_eq!(book[..stored.len()], stored);
-        }
-        if let Some(stored) = from_c(&format!("example_{number}_sheet")) {
-            assert_eq!(sheet, stored);
+        match stored(number) {
+            Stored::Book(stored) => assert_eq!(book[..stored.len()], stored),
+            Stored::Sheet(stored) => assert_eq!(sheet, stored),
         }
     }
 }

@@ -2,7 +2,7 @@
 
 mod common;
 
-use common::{from_c, solved, text};
+use common::{solved, stored, text, Stored};
 use notation::{decode, encode, explain_book, explain_sheet, Names, Text};
 
 fn sheet(name: &str) -> String {
@@ -111,13 +111,15 @@ fn books_and_sheets_of_the_c_tests() {
     for number in 1..=9 {
         let name = format!("example_{number:02}");
         let Text { names, question } = text(&name);
-        if let Some(stored) = from_c(&format!("example_{number}_book")) {
-            let words = explain_book(&question, &stored, None, &names).unwrap();
-            assert_eq!(words, book(&name));
-        }
-        if let Some(stored) = from_c(&format!("example_{number}_sheet")) {
-            let words = explain_sheet(&question, &stored, &names).unwrap();
-            assert_eq!(words, sheet(&name));
+        match stored(number) {
+            Stored::Book(stored) => {
+                let words = explain_book(&question, &stored, None, &names).unwrap();
+                assert_eq!(words, book(&name));
+            }
+            Stored::Sheet(stored) => {
+                let words = explain_sheet(&question, &stored, &names).unwrap();
+                assert_eq!(words, sheet(&name));
+            }
         }
     }
 }

@@ -31,6 +31,21 @@ pub fn from_c(name: &str) -> Option<Vec<u8>> {
     Some(numbers.map(|n| n.parse().unwrap()).collect())
 }
 
+/// What is stored beside an example of tests/c/examples.h: its book or its sheet.
+pub enum Stored {
+    Book(Vec<u8>),
+    Sheet(Vec<u8>),
+}
+
+pub fn stored(number: usize) -> Stored {
+    let [book, sheet] = ["book", "sheet"].map(|part| from_c(&format!("example_{number}_{part}")));
+    match (book, sheet) {
+        (Some(book), None) => Stored::Book(book),
+        (None, Some(sheet)) => Stored::Sheet(sheet),
+        _ => panic!("example {number} has one of book and sheet"),
+    }
+}
+
 /// What the second solver says: lines, book and sheet.
 pub fn solved(question: &[u8]) -> (reference::Answer, Vec<u8>, Vec<u8>) {
     let (mut book, mut sheet) = (vec![0; 65_536], vec![0; 64]);

@@ -1,31 +1,46 @@
-//! Arbitrary bytes and buffers of arbitrary length: no call panics, all name the same first fault
-//! of a question, and a fault leaves every lent byte as it was.
+//! Arbitrary bytes and buffers of arbitrary length and content: no call panics, both solvers answer
+//! alike and leave the same bytes, all calls name the same first fault of a question, and a fault
+//! leaves every lent byte as it was.
 
 use crate::buffers::{BOOK_LENGTH, SHEET_LENGTH};
-use crate::report::{equal, Group, Outcome, Sums};
+use crate::report::{demand, equal, Group, Outcome, Sums};
+use crate::solver::{Solver, BOTH};
 use questions::random::Random;
-use reference::{check_book, check_sheet, hand_back, print, read, solve};
-use reference::{Answer, Checked, Fault, Part};
+use reference::{print, read, Answer, Checked, Fault, Part};
 
 const CASES: usize = 5_000;
 const SEED: u64 = 4;
+/// How often each answer must come at least.
+const OFTEN: usize = 200;
+
+/// How often a short book, a short sheet, a fault of the question and a course came.
+type Tally = [usize; 4];
 
 pub fn run(sums: &mut Sums) {
     let mut group = Group::new("arbitrary bytes");
     let mut random = Random::new(SEED);
+    let mut tally = Tally::default();
     for number in 0..CASES {
         let question = question(&mut random);
-        let mut lengths = || match random.between(0, 3) {
-            0 => (random.between(0, 70_000), random.between(0, 70)),
-            _ => (random.between(65_530, 65_540), random.between(60, 70)),
-        };
-        let (book, sheet) = lengths();
+        let (book, sheet) = lengths(&mut random);
         let book = bytes(&mut random, book);
         let sheet = bytes(&mut random, sheet);
         let name = format!("number {number}");
-        group.case(&name, || check_calls(&question, &book, &sheet));
+        group.case(&name, || check_calls(&question, &book, &sheet, &mut tally));
     }
+    group.case("each answer comes often", || {
+        let often = tally.iter().all(|&count| count >= OFTEN);
+        demand(often, &format!("answers came {tally:?} times"))
+    });
     group.finish(sums);
+}
+
+/// Lengths of a book and a sheet, mostly about the shortest that solving takes.
+fn lengths(random: &mut Random) -> (i64, i64) {
+    match random.between(0, 3) {
+        0 => (random.between(0, 70_000), random.between(0, 70)),
+        _ => (random.between(65_533, 65_545), random.between(62, 72)),
+    }
 }
 
 fn bytes(random: &mut Random, length: i64) -> Vec<u8> {
@@ -50,11 +65,41 @@ fn question(random: &mut Random) -> Vec<u8> {
     question
 }
 
-fn check_calls(question: &[u8], book: &[u8], sheet: &[u8]) -> Outcome {
+/// All that the calls say and leave.
+#[derive(Debug, PartialEq)]
+struct Said {
+    answer: Answer,
+    book: Vec<u8>,
+    sheet: Vec<u8>,
+    checked: [Checked; 2],
+}
+
+fn check_calls(question: &[u8], book: &[u8], sheet: &[u8], tally: &mut Tally) -> Outcome {
     let fault = first_fault(question, book, sheet);
+    tally[match fault {
+        Some(Fault { number, .. }) => usize::from(number.min(3)) - 1,
+        None => 3,
+    }] += 1;
+    let [second, proved] = BOTH.map(|solver| said(solver, question, book, sheet, fault));
+    demand(second? == proved?, "the solvers differ")?;
+    if let Err(Fault { number, place }) = read(question) {
+        let printed = format!("refused {number} {place} 0\n");
+        equal("printed", &printed, &print(question))?;
+    }
+    Ok(())
+}
+
+/// What one solver says and leaves, which a fault settles.
+fn said(
+    solver: Solver,
+    question: &[u8],
+    book: &[u8],
+    sheet: &[u8],
+    fault: Option<Fault>,
+) -> Result<Said, String> {
     let (mut book_after, mut sheet_after) = (book.to_vec(), sheet.to_vec());
-    let answer = solve(question, &mut book_after, &mut sheet_after);
-    let part = hand_back(&answer, &book_after, &sheet_after);
+    let answer = solver.solve(question, &mut book_after, &mut sheet_after);
+    let part = solver.hand_back(&answer, &book_after, &sheet_after);
     if let Some(Fault { number, place }) = fault {
         let refused = Answer::Refused {
             number,
@@ -62,18 +107,24 @@ fn check_calls(question: &[u8], book: &[u8], sheet: &[u8]) -> Outcome {
             pairs: 0,
         };
         equal("answer", &refused, &answer)?;
-        equal("book", &book, &book_after.as_slice())?;
-        equal("sheet", &sheet, &sheet_after.as_slice())?;
+        demand(book == book_after, "the book altered")?;
+        demand(sheet == sheet_after, "the sheet altered")?;
         equal("part", &Part::Book(&[]), &part)?;
     }
-    let checked = [check_book(question, book), check_sheet(question, sheet)];
+    let checked = [
+        solver.check_book(question, book),
+        solver.check_sheet(question, sheet),
+    ];
     if let Err(Fault { number, place }) = read(question) {
         let refused = Checked::Refused { number, place };
         equal("checks", &[refused, refused], &checked)?;
-        let printed = format!("refused {number} {place} 0\n");
-        equal("printed", &printed, &print(question))?;
     }
-    Ok(())
+    Ok(Said {
+        answer,
+        book: book_after,
+        sheet: sheet_after,
+        checked,
+    })
 }
 
 /// The fault that solving must name: of the buffers first, then of the question.

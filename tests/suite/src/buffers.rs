@@ -2,7 +2,8 @@
 //! in them afterwards.
 
 use crate::report::{demand, equal, Outcome};
-use reference::{solve, Answer, Verdict};
+use crate::solver::Solver;
+use reference::{Answer, Verdict};
 
 pub const BOOK_LENGTH: usize = 65_536;
 pub const SHEET_LENGTH: usize = 64;
@@ -21,10 +22,10 @@ pub struct Solved {
 }
 
 /// Solves with buffers filled beforehand and somewhat longer than needed.
-pub fn solve_filled(question: &[u8]) -> Solved {
+pub fn solve_filled(solver: Solver, question: &[u8]) -> Solved {
     let mut book = vec![BOOK_FILL; BOOK_LENGTH + BEYOND];
     let mut sheet = vec![SHEET_FILL; SHEET_LENGTH + BEYOND];
-    let answer = solve(question, &mut book, &mut sheet);
+    let answer = solver.solve(question, &mut book, &mut sheet);
     Solved {
         answer,
         book,

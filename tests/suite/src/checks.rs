@@ -3,6 +3,7 @@
 
 use crate::buffers::{solve_filled, BOOK_LENGTH, LINE_LENGTH, SHEET_LENGTH};
 use crate::report::{demand, equal, Group, Outcome, Sums};
+use crate::solver::Solver;
 use crate::vectors;
 use questions::random::Random;
 use reference::{Answer, Checked, Verdict};
@@ -11,6 +12,8 @@ const SEED: u64 = 6;
 const BOOKS: usize = 100_000;
 const SHEETS: usize = 100_000;
 const FLIPPED: usize = 20;
+/// The books to turn come among the first so many cases.
+const TRIED: usize = 10_000;
 const FLIPPED_LINES: usize = 24;
 
 pub fn run(sums: &mut Sums) {
@@ -64,7 +67,7 @@ fn case(random: &mut Random) -> Case {
         true => random.dense_problem(6).encode(),
         false => random.problem().encode(),
     };
-    let solved = solve_filled(&question);
+    let solved = solve_filled(Solver::Second, &question);
     let verdict = match solved.answer {
         Answer::Verdict { verdict, .. } => Some(verdict),
         Answer::Refused { .. } => None,
@@ -80,12 +83,14 @@ fn case(random: &mut Random) -> Case {
 /// Every bit of right books turned.
 fn check_flipped(random: &mut Random, sums: &mut Sums) {
     let mut group = Group::new("checks: every bit of a right book turned");
-    let cases = std::iter::repeat_with(|| case(random));
+    let cases = std::iter::repeat_with(|| case(random)).take(TRIED);
     let right = cases.filter(|case| {
         let lines = case.book.len() / LINE_LENGTH;
         case.verdict == Some(Verdict::Cannot) && (3..=FLIPPED_LINES).contains(&lines)
     });
-    for (number, case) in right.take(FLIPPED).enumerate() {
+    let right: Vec<Case> = right.take(FLIPPED).collect();
+    group.case("enough books", || equal("books", &FLIPPED, &right.len()));
+    for (number, case) in right.iter().enumerate() {
         group.case(&format!("number {number}"), || {
             let accepted = proved::check_book(&case.question, &case.book);
             equal("check", &Checked::Accepted, &accepted)?;

@@ -3,10 +3,11 @@
 //! must find none. The checks must accept what solving wrote.
 
 use crate::buffers::{read_sheet, solve_filled, Solved};
-use crate::report::{demand, equal, Group, Outcome, Sums};
+use crate::report::{demand, equal, Outcome, Sums};
+use crate::solver::Solver;
 use questions::problem::{Assignment, Problem};
 use questions::random::Random;
-use reference::{check_book, check_sheet, Answer, Checked, Verdict};
+use reference::{Answer, Checked, Verdict};
 
 const CASES: usize = 20_000;
 const SEED: u64 = 1;
@@ -14,14 +15,14 @@ const SEED: u64 = 1;
 /// How often each answer came: agrees, cannot agree, unwritten, refused.
 type Tally = [usize; 4];
 
-pub fn run(sums: &mut Sums) {
-    let mut group = Group::new("random questions");
+pub fn run(solver: Solver, sums: &mut Sums) {
+    let mut group = solver.group("random questions");
     let mut random = Random::new(SEED);
     let mut tally = Tally::default();
     for number in 0..CASES {
         let problem = random.problem();
         let name = format!("number {number}");
-        group.case(&name, || check_problem(&problem, &mut tally));
+        group.case(&name, || check_problem(solver, &problem, &mut tally));
     }
     group.case("each answer comes often", || {
         let often = tally.iter().all(|&count| count >= 50);
@@ -30,9 +31,9 @@ pub fn run(sums: &mut Sums) {
     group.finish(sums);
 }
 
-fn check_problem(problem: &Problem, tally: &mut Tally) -> Outcome {
+fn check_problem(solver: Solver, problem: &Problem, tally: &mut Tally) -> Outcome {
     let question = problem.encode();
-    let solved = solve_filled(&question);
+    let solved = solve_filled(solver, &question);
     solved.check_buffers()?;
     match solved.answer {
         Answer::Verdict {
@@ -46,8 +47,8 @@ fn check_problem(problem: &Problem, tally: &mut Tally) -> Outcome {
             )?;
             tally[verdict as usize] += 1;
             match verdict {
-                Verdict::Agrees => check_agrees(problem, &question, &solved),
-                Verdict::Cannot => check_cannot(problem, &question, &solved),
+                Verdict::Agrees => check_agrees(solver, problem, &question, &solved),
+                Verdict::Cannot => check_cannot(solver, problem, &question, &solved),
                 Verdict::Unwritten => Ok(()),
             }
         }
@@ -58,7 +59,7 @@ fn check_problem(problem: &Problem, tally: &mut Tally) -> Outcome {
     }
 }
 
-fn check_agrees(problem: &Problem, question: &[u8], solved: &Solved) -> Outcome {
+fn check_agrees(solver: Solver, problem: &Problem, question: &[u8], solved: &Solved) -> Outcome {
     let model = read_sheet(problem.booleans, problem.rationals, solved.sheet())
         .map_err(|place| format!("the sheet is bad at byte {place}"))?;
     let assignment = Assignment {
@@ -67,13 +68,13 @@ fn check_agrees(problem: &Problem, question: &[u8], solved: &Solved) -> Outcome 
         numerators: &model.numerators,
     };
     equal("failing clause", &None, &problem.first_failing(&assignment))?;
-    let checked = check_sheet(question, solved.sheet());
+    let checked = solver.check_sheet(question, solved.sheet());
     equal("check of the sheet", &Checked::Accepted, &checked)
 }
 
-fn check_cannot(problem: &Problem, question: &[u8], solved: &Solved) -> Outcome {
+fn check_cannot(solver: Solver, problem: &Problem, question: &[u8], solved: &Solved) -> Outcome {
     demand(!satisfied_on_grid(problem), "an assignment satisfies it")?;
-    let checked = check_book(question, solved.used());
+    let checked = solver.check_book(question, solved.used());
     equal("check of the book", &Checked::Accepted, &checked)
 }
 

@@ -2,47 +2,58 @@
 //! problem that has a model, and name the line or clause that fails.
 
 use crate::buffers::{read_sheet, solve_filled, Solved, LINE_LENGTH, SHEET_LENGTH};
-use crate::report::{demand, equal, Group, Outcome, Sums};
+use crate::report::{demand, equal, Outcome, Sums};
+use crate::solver::Solver;
 use questions::problem::{Assignment, Problem};
 use questions::random::Random;
-use reference::{check_book, check_sheet, Answer, Checked, Verdict};
+use reference::{Answer, Checked, Verdict};
 
 const SEED: u64 = 3;
-/// So many problems of either verdict, each with at most so many lines.
+/// So many problems of either verdict, each with at most so many lines; they come among the first
+/// so many.
 const PROBLEMS: usize = 200;
+const TRIED: usize = 20_000;
 const MAX_LINES: usize = 24;
 
-pub fn run(sums: &mut Sums) {
-    let mut group = Group::new("damaged books and sheets");
+pub fn run(solver: Solver, sums: &mut Sums) {
+    let mut group = solver.group("damaged books and sheets");
     let mut random = Random::new(SEED);
-    let refuted = problems(Verdict::Cannot, &mut random);
-    let satisfied = problems(Verdict::Agrees, &mut random);
+    let refuted = problems(solver, Verdict::Cannot, &mut random);
+    let satisfied = problems(solver, Verdict::Agrees, &mut random);
+    group.case("enough problems", || {
+        equal("refuted", &PROBLEMS, &refuted.len())?;
+        equal("satisfied", &PROBLEMS, &satisfied.len())
+    });
     for (i, (problem, solved)) in refuted.iter().enumerate() {
         let question = problem.encode();
         let book = solved.used();
-        group.case(&format!("book {i}"), || damaged_book(&question, book));
+        group.case(&format!("book {i}"), || {
+            damaged_book(solver, &question, book)
+        });
         group.case(&format!("question of book {i}"), || {
-            damaged_question(&question, book)
+            damaged_question(solver, &question, book)
         });
     }
     for (i, (problem, solved)) in satisfied.iter().enumerate() {
         let book = solved.used();
         group.case(&format!("forged end {i}"), || {
-            forged_end(&problem.encode(), book)
+            forged_end(solver, &problem.encode(), book)
         });
         group.case(&format!("sheet {i}"), || {
-            damaged_sheet(problem, solved.sheet())
+            damaged_sheet(solver, problem, solved.sheet())
         });
     }
     group.finish(sums);
 }
 
 /// Random problems with this verdict and a short book of some lines.
-fn problems(wanted: Verdict, random: &mut Random) -> Vec<(Problem, Solved)> {
-    let solved = std::iter::repeat_with(|| random.problem()).map(|problem| {
-        let solved = solve_filled(&problem.encode());
-        (problem, solved)
-    });
+fn problems(solver: Solver, wanted: Verdict, random: &mut Random) -> Vec<(Problem, Solved)> {
+    let solved = std::iter::repeat_with(|| random.problem())
+        .take(TRIED)
+        .map(|problem| {
+            let solved = solve_filled(solver, &problem.encode());
+            (problem, solved)
+        });
     let wanted = |(_, solved): &(Problem, Solved)| match solved.answer {
         Answer::Verdict { verdict, lines, .. } => {
             verdict == wanted && (2..=MAX_LINES).contains(&lines)
@@ -68,10 +79,10 @@ fn for_each_change(bytes: &[u8], mut test: impl FnMut(usize, &[u8]) -> Outcome) 
 
 /// The first six bytes of a line settle the rest, so a change there fails at its own line; a
 /// change of those six leaves the earlier lines right.
-fn damaged_book(question: &[u8], book: &[u8]) -> Outcome {
+fn damaged_book(solver: Solver, question: &[u8], book: &[u8]) -> Outcome {
     for_each_change(book, |place, damaged| {
         let line = place / LINE_LENGTH;
-        let checked = check_book(question, damaged);
+        let checked = solver.check_book(question, damaged);
         if place % LINE_LENGTH >= 6 {
             return equal("check", &Checked::Fails(line), &checked);
         }
@@ -84,12 +95,12 @@ fn damaged_book(question: &[u8], book: &[u8]) -> Outcome {
 }
 
 /// A book for another question must not be accepted where that question has a model.
-fn damaged_question(question: &[u8], book: &[u8]) -> Outcome {
+fn damaged_question(solver: Solver, question: &[u8], book: &[u8]) -> Outcome {
     for_each_change(question, |_, damaged| {
-        if check_book(damaged, book) != Checked::Accepted {
+        if solver.check_book(damaged, book) != Checked::Accepted {
             return Ok(());
         }
-        let Solved { answer, sheet, .. } = solve_filled(damaged);
+        let Solved { answer, sheet, .. } = solve_filled(solver, damaged);
         let agrees = matches!(
             answer,
             Answer::Verdict {
@@ -97,18 +108,18 @@ fn damaged_question(question: &[u8], book: &[u8]) -> Outcome {
                 ..
             }
         );
-        let has_model = agrees && check_sheet(damaged, &sheet) == Checked::Accepted;
+        let has_model = agrees && solver.check_sheet(damaged, &sheet) == Checked::Accepted;
         demand(!has_model, "a book is accepted, and so is a sheet")
     })
 }
 
 /// No empty line follows from the lines of a satisfiable problem, whatever it names.
-fn forged_end(question: &[u8], book: &[u8]) -> Outcome {
+fn forged_end(solver: Solver, question: &[u8], book: &[u8]) -> Outcome {
     let lines = book.len() / LINE_LENGTH;
-    let missing_end = check_book(question, book);
+    let missing_end = solver.check_book(question, book);
     equal("check", &Checked::Fails(lines), &missing_end)?;
     for_each_change(book, |_, damaged| {
-        let accepted = check_book(question, damaged) == Checked::Accepted;
+        let accepted = solver.check_book(question, damaged) == Checked::Accepted;
         demand(!accepted, "a damaged book is accepted")
     })?;
     let mut forged = book.to_vec();
@@ -127,7 +138,7 @@ fn forged_end(question: &[u8], book: &[u8]) -> Outcome {
             ] {
                 let end = [how, which, first as u8, 0, second as u8, 0];
                 forged[book.len()..book.len() + 6].copy_from_slice(&end);
-                let checked = check_book(question, &forged);
+                let checked = solver.check_book(question, &forged);
                 equal("forged end", &Checked::Fails(lines), &checked)?;
             }
         }
@@ -136,12 +147,12 @@ fn forged_end(question: &[u8], book: &[u8]) -> Outcome {
 }
 
 /// The check of a sheet must say what the suite's own reading of the sheet says.
-fn damaged_sheet(problem: &Problem, sheet: &[u8]) -> Outcome {
+fn damaged_sheet(solver: Solver, problem: &Problem, sheet: &[u8]) -> Outcome {
     let question = problem.encode();
     equal("length", &SHEET_LENGTH, &sheet.len())?;
     for_each_change(sheet, |_, damaged| {
         let expected = judged(problem, damaged);
-        equal("check", &expected, &check_sheet(&question, damaged))
+        equal("check", &expected, &solver.check_sheet(&question, damaged))
     })
 }
 

@@ -3,8 +3,9 @@
 
 use crate::buffers::{read_sheet, solve_filled, Solved};
 use crate::report::{equal, Group, Outcome, Sums};
+use crate::solver::Solver;
 use questions::problem::{at_most, below, no, yes, Problem};
-use reference::{check_book, check_sheet, print, Answer, Checked, Verdict};
+use reference::{print, Answer, Checked, Verdict};
 
 /// An example and what 01 states of it.
 struct Example {
@@ -155,17 +156,17 @@ pub fn questions() -> Vec<(&'static str, Vec<u8>, Answer)> {
 }
 
 /// Runs the examples.
-pub fn run(sums: &mut Sums) {
-    let mut group = Group::new("examples 1 to 12");
+pub fn run(solver: Solver, sums: &mut Sums) {
+    let mut group = solver.group("examples 1 to 12");
     for example in examples_1_to_6().into_iter().chain(examples_7_to_12()) {
-        group.case(example.name, || check_example(&example));
+        group.case(example.name, || check_example(solver, &example));
     }
     group.finish(sums);
 }
 
-fn check_example(example: &Example) -> Outcome {
+fn check_example(solver: Solver, example: &Example) -> Outcome {
     let question = example.problem.encode();
-    let solved = solve_filled(&question);
+    let solved = solve_filled(solver, &question);
     solved.expect(&example.answer)?;
     solved.check_buffers()?;
     if let Some(values) = &example.values {
@@ -178,7 +179,7 @@ fn check_example(example: &Example) -> Outcome {
         } => equal(
             "check of the sheet",
             &Checked::Accepted,
-            &check_sheet(&question, solved.sheet()),
+            &solver.check_sheet(&question, solved.sheet()),
         ),
         Answer::Verdict {
             verdict: Verdict::Cannot,
@@ -186,7 +187,7 @@ fn check_example(example: &Example) -> Outcome {
         } => equal(
             "check of the book",
             &Checked::Accepted,
-            &check_book(&question, solved.used()),
+            &solver.check_book(&question, solved.used()),
         ),
         _ => Ok(()),
     }

@@ -1,26 +1,27 @@
 //! The lengths a book and a sheet to check may have: 01's 16 and 2.
 
 use crate::buffers::{BOOK_LENGTH, LINE_LENGTH, SHEET_LENGTH};
-use crate::report::{equal, Group, Outcome, Sums};
+use crate::report::{equal, Outcome, Sums};
+use crate::solver::Solver;
 use questions::problem::Problem;
-use reference::{check_book, check_sheet, Checked};
+use reference::Checked;
 
 const BOOKS: [usize; 11] = [
     0, 1, 63, 64, 65, 128, 65_535, 65_536, 65_537, 65_600, 131_072,
 ];
 const SHEETS: [usize; 5] = [0, 63, 64, 65, 128];
 
-pub fn run(sums: &mut Sums) {
-    let mut group = Group::new("lengths of books and sheets");
+pub fn run(solver: Solver, sums: &mut Sums) {
+    let mut group = solver.group("lengths of books and sheets");
     let question = Problem::new(0, 0).clause([]).encode();
     for length in BOOKS {
         group.case(&format!("book of {length} bytes"), || {
-            check_book_length(&question, length)
+            check_book_length(solver, &question, length)
         });
     }
     for length in SHEETS {
         group.case(&format!("sheet of {length} bytes"), || {
-            check_sheet_length(&question, length)
+            check_sheet_length(solver, &question, length)
         });
     }
     group.finish(sums);
@@ -28,7 +29,7 @@ pub fn run(sums: &mut Sums) {
 
 /// A zero line is the piece of an empty clause 0, so zeros are a right book at every length that
 /// a book may have.
-fn check_book_length(question: &[u8], length: usize) -> Outcome {
+fn check_book_length(solver: Solver, question: &[u8], length: usize) -> Outcome {
     let lines = length / LINE_LENGTH;
     let whole = lines * LINE_LENGTH == length;
     let expected = match whole && lines > 0 && length <= BOOK_LENGTH {
@@ -38,11 +39,15 @@ fn check_book_length(question: &[u8], length: usize) -> Outcome {
             place: length,
         },
     };
-    equal("check", &expected, &check_book(question, &vec![0; length]))
+    equal(
+        "check",
+        &expected,
+        &solver.check_book(question, &vec![0; length]),
+    )
 }
 
 /// A sheet that is long enough is read, and the empty clause fails.
-fn check_sheet_length(question: &[u8], length: usize) -> Outcome {
+fn check_sheet_length(solver: Solver, question: &[u8], length: usize) -> Outcome {
     let mut sheet = vec![0; length];
     if let Some(denominator) = sheet.get_mut(2) {
         *denominator = 1;
@@ -54,5 +59,5 @@ fn check_sheet_length(question: &[u8], length: usize) -> Outcome {
             place: 0,
         },
     };
-    equal("check", &expected, &check_sheet(question, &sheet))
+    equal("check", &expected, &solver.check_sheet(question, &sheet))
 }

@@ -1,5 +1,5 @@
-//! The test program: runs the second solver on the examples of document 01, on the vectors, on
-//! random problems and on damaged parts, and compares the proved code with it. One line for each
+//! The test program: runs the second solver and the proved code on the examples of document 01, on
+//! the vectors, on random problems and on damaged parts, and compares the two. One line for each
 //! group; the last line is the sum.
 
 mod arbitrary;
@@ -12,6 +12,7 @@ mod integers;
 mod lengths;
 mod reading;
 mod report;
+mod solver;
 mod solving;
 mod vectors;
 
@@ -21,13 +22,15 @@ use std::process::ExitCode;
 fn main() -> ExitCode {
     let mut sums = Sums::default();
     integers::run(&mut sums);
-    examples::run(&mut sums);
     examples::run_printed(&mut sums);
-    vectors::run(&mut sums);
-    consistency::run(&mut sums);
-    damage::run(&mut sums);
+    for solver in solver::BOTH {
+        examples::run(solver, &mut sums);
+        vectors::run(solver, &mut sums);
+        consistency::run(solver, &mut sums);
+        damage::run(solver, &mut sums);
+        lengths::run(solver, &mut sums);
+    }
     arbitrary::run(&mut sums);
-    lengths::run(&mut sums);
     reading::run(&mut sums);
     checks::run(&mut sums);
     solving::run(&mut sums);

@@ -13,6 +13,8 @@ const SEED: u64 = 5;
 const PREFIXED: usize = 50;
 const SMALL: usize = 20;
 const SMALL_LENGTH: usize = 64;
+/// The small questions come among the first so many.
+const TRIED: usize = 10_000;
 const DAMAGED: usize = 100_000;
 /// The faults that a question can have, and 0 for none.
 const FAULTS: [u64; 12] = [0, 3, 4, 5, 6, 7, 8, 9, 10, 11, 12, 13];
@@ -73,9 +75,13 @@ fn read_prefixes(random: &mut Random, sums: &mut Sums) {
 /// Every value of every byte of a small question.
 fn read_changed_bytes(random: &mut Random, sums: &mut Sums) {
     let mut group = Group::new("reading: every value of every byte");
-    let questions = std::iter::repeat_with(|| random.problem().encode());
+    let questions = std::iter::repeat_with(|| random.problem().encode()).take(TRIED);
     let small = questions.filter(|question| (16..=SMALL_LENGTH).contains(&question.len()));
-    for (number, question) in small.take(SMALL).enumerate() {
+    let small: Vec<Vec<u8>> = small.take(SMALL).collect();
+    group.case("enough questions", || {
+        equal("questions", &SMALL, &small.len())
+    });
+    for (number, question) in small.iter().enumerate() {
         group.case(&format!("number {number}"), || {
             let mut changed = question.clone();
             for place in 0..question.len() {

@@ -8,15 +8,15 @@ pub type Outcome = Result<(), String>;
 
 /// The cases of one group.
 pub struct Group {
-    name: &'static str,
+    name: String,
     passed: usize,
     failed: usize,
 }
 
 impl Group {
-    pub fn new(name: &'static str) -> Group {
+    pub fn new(name: impl Into<String>) -> Group {
         Group {
-            name,
+            name: name.into(),
             passed: 0,
             failed: 0,
         }

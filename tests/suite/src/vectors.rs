@@ -2,20 +2,24 @@
 //! read is a failure.
 
 use crate::buffers::{solve_filled, BOOK_LENGTH};
-use crate::report::{demand, equal, Group, Outcome, Sums};
-use reference::{check_book, check_sheet, hand_back, solve, Answer, Checked, Part, Verdict};
+use crate::report::{demand, equal, Outcome, Sums};
+use crate::solver::Solver;
+use reference::{Answer, Checked, Part, Verdict};
 use std::path::Path;
+
+/// The fewest cases that a file has.
+const FEWEST: usize = 20;
 
 /// The fields of one line.
 type Fields<'a> = [&'a str];
 
 /// Runs all five files.
-pub fn run(sums: &mut Sums) {
-    run_file("solve vectors", "solve.txt", solve_case, sums);
-    run_file("check_book vectors", "check_book.txt", book_case, sums);
-    run_file("check_sheet vectors", "check_sheet.txt", sheet_case, sums);
-    run_file("buffers vectors", "buffers.txt", buffers_case, sums);
-    run_file("hand_back vectors", "hand_back.txt", hand_back_case, sums);
+pub fn run(solver: Solver, sums: &mut Sums) {
+    run_file(solver, "solve.txt", solve_case, sums);
+    run_file(solver, "check_book.txt", book_case, sums);
+    run_file(solver, "check_sheet.txt", sheet_case, sums);
+    run_file(solver, "buffers.txt", buffers_case, sums);
+    run_file(solver, "hand_back.txt", hand_back_case, sums);
 }
 
 /// The questions of all files that have one.
@@ -65,21 +69,22 @@ fn padded(start: &str, zeros: &str) -> Result<Vec<u8>, String> {
     Ok(question)
 }
 
-fn run_file(name: &'static str, file: &str, case: fn(&Fields) -> Outcome, sums: &mut Sums) {
-    let mut group = Group::new(name);
+fn run_file(solver: Solver, file: &str, case: fn(Solver, &Fields) -> Outcome, sums: &mut Sums) {
+    let mut group = solver.group(&format!("vectors of {file}"));
     let cases = lines(file);
     for (number, line) in cases.iter().enumerate() {
         let fields: Vec<&str> = line.split('|').collect();
-        group.case(&format!("{} (case {number})", fields[0]), || case(&fields));
+        group.case(&format!("{} (case {number})", fields[0]), || {
+            case(solver, &fields)
+        });
     }
-    if cases.is_empty() {
-        group.case(file, || demand(false, "no case could be read"));
-    }
+    let enough = cases.len() >= FEWEST;
+    group.case(file, || demand(enough, "cases are missing"));
     group.finish(sums);
 }
 
 /// name, question, answer, sheet after, hash of the book after.
-fn solve_case(fields: &Fields) -> Outcome {
+fn solve_case(solver: Solver, fields: &Fields) -> Outcome {
     let (question, a, b, c, rest) = match fields {
         [_, question, a, b, c, rest @ ..] => (question, a, b, c, rest),
         _ => return Err("malformed".into()),
@@ -89,7 +94,7 @@ fn solve_case(fields: &Fields) -> Outcome {
         [sheet, hash] => (sheet, hash),
         _ => return Err("malformed".into()),
     };
-    let solved = solve_filled(&bytes(question)?);
+    let solved = solve_filled(solver, &bytes(question)?);
     solved.expect(&answer)?;
     solved.check_buffers()?;
     equal("sheet after", &bytes(sheet)?.as_slice(), &solved.sheet())?;
@@ -102,27 +107,27 @@ fn solve_case(fields: &Fields) -> Outcome {
 }
 
 /// name, question, book, what the check says.
-fn book_case(fields: &Fields) -> Outcome {
+fn book_case(solver: Solver, fields: &Fields) -> Outcome {
     let (question, book, expected) = match fields {
         [_, question, book, expected @ ..] => (question, book, expected),
         _ => return Err("malformed".into()),
     };
-    let got = check_book(&bytes(question)?, &bytes(book)?);
+    let got = solver.check_book(&bytes(question)?, &bytes(book)?);
     equal("check", &checked(expected)?, &got)
 }
 
 /// name, question, sheet, what the check says.
-fn sheet_case(fields: &Fields) -> Outcome {
+fn sheet_case(solver: Solver, fields: &Fields) -> Outcome {
     let (question, sheet, expected) = match fields {
         [_, question, sheet, expected @ ..] => (question, sheet, expected),
         _ => return Err("malformed".into()),
     };
-    let got = check_sheet(&bytes(question)?, &bytes(sheet)?);
+    let got = solver.check_sheet(&bytes(question)?, &bytes(sheet)?);
     equal("check", &checked(expected)?, &got)
 }
 
 /// question's start, zeros after it, book's length, sheet's length, answer; all zero before.
-fn buffers_case(fields: &Fields) -> Outcome {
+fn buffers_case(solver: Solver, fields: &Fields) -> Outcome {
     let (start, zeros, book, sheet, a, b, c, rest) = match fields {
         [start, zeros, book, sheet, a, b, c, rest @ ..] => {
             (start, zeros, book, sheet, a, b, c, rest)
@@ -136,14 +141,18 @@ fn buffers_case(fields: &Fields) -> Outcome {
     let question = padded(start, zeros)?;
     let mut book = vec![0; number(book)?];
     let mut sheet = vec![0; number(sheet)?];
-    equal("answer", &answer, &solve(&question, &mut book, &mut sheet))?;
+    equal(
+        "answer",
+        &answer,
+        &solver.solve(&question, &mut book, &mut sheet),
+    )?;
     let altered = book.iter().chain(&sheet).any(|&byte| byte != 0);
     let faulty = matches!(answer, Answer::Refused { number: 0..=13, .. });
     demand(!(faulty && altered), "a byte of the buffers altered")
 }
 
 /// answer, book's length, sheet's length, part of which buffer, its length.
-fn hand_back_case(fields: &Fields) -> Outcome {
+fn hand_back_case(solver: Solver, fields: &Fields) -> Outcome {
     let (a, b, c, rest) = match fields {
         [a, b, c, rest @ ..] => (a, b, c, rest),
         _ => return Err("malformed".into()),
@@ -162,12 +171,8 @@ fn hand_back_case(fields: &Fields) -> Outcome {
         _ => None,
     };
     let expected = expected.ok_or("malformed")?;
-    equal("part", &expected, &hand_back(&answer, &book, &sheet))?;
-    equal(
-        "proved part",
-        &expected,
-        &proved::hand_back(&answer, &book, &sheet),
-    )
+    let part = solver.hand_back(&answer, &book, &sheet);
+    equal("part", &expected, &part)
 }
 
 /// Bytes that differ from place to place.

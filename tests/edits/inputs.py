@@ -1,0 +1,237 @@
+"""What the trials run on: the vectors, questions by hand and at random, and books and sheets that are right, damaged or made by hand.
+Every run makes the same ones."""
+
+from struct import pack, unpack_from
+
+BOOK, SHEET, LINE = 65536, 64, 64
+MOST = 1_000_000_000
+
+
+class Input:
+    """One call with its arguments: S solves, B checks a book, M a sheet, H hands back; of buffers to write, the lengths alone."""
+
+    def __init__(self, name, call, question=b"", book=b"", sheet=b"", number=0, lines=0):
+        self.name, self.call, self.question = name, call, bytes(question)
+        self.book, self.sheet, self.number, self.lines = book, sheet, number, lines
+
+    def packed(self):
+        sizes = [part if isinstance(part, int) else len(part) for part in (self.book, self.sheet)]
+        head = pack("<IIIIQQ", ord(self.call), len(self.question), *sizes, self.number, self.lines)
+        return head + self.question + b"".join(part for part in (self.book, self.sheet) if not isinstance(part, int))
+
+
+def solving(name, question, book=BOOK + 16, sheet=SHEET + 16):
+    return Input(name, "S", question, book, sheet)
+
+
+# ---- questions by their parts: a clause is its literals' codes and its constraints, a constraint its relation, coefficients and bound
+
+def question(b, r, clauses):
+    out = pack("<BBH", b, r, len(clauses))
+    for literals, constraints in clauses:
+        out += bytes([len(literals), *literals, len(constraints)])
+        for relation, coefficients, bound in constraints:
+            row = (list(coefficients) + [0] * r)[:r]
+            out += pack(f"<B{r}ii", relation, *row, bound)
+    return out
+
+
+def alone(relation, coefficients, bound):
+    return ([], [(relation, coefficients, bound)])
+
+
+# a line of a book
+def line(how, which, first, second, relation=0, positive=0, negative=0, coefficients=(), bound=0):
+    row = (list(coefficients) + [0] * 8)[:8]
+    return pack("<BBHHBBII8ii12x", how, which, first, second, relation, 0, positive, negative, *row, bound)
+
+
+def sheet(booleans, denominator, numerators):
+    out = bytes([len(booleans), *booleans, len(numerators)]) + pack(f"<i{len(numerators)}i", denominator, *numerators)
+    return out + bytes(SHEET - len(out))
+
+
+# ---- the vectors
+
+def vectors(folder):
+    def rows(name):
+        with open(f"{folder}/{name}", encoding="utf-8") as text:
+            return [row.rstrip("\n").split("|") for row in text if not row.startswith("#")]
+
+    for name, asked, *_ in rows("solve.txt"):
+        yield solving(name, bytes.fromhex(asked))
+    for name, asked, book, *_ in rows("check_book.txt"):
+        yield Input(f"book: {name}", "B", bytes.fromhex(asked), bytes.fromhex(book))
+    for name, asked, given, *_ in rows("check_sheet.txt"):
+        yield Input(f"sheet: {name}", "M", bytes.fromhex(asked), b"", bytes.fromhex(given))
+    for start, zeros, book, given, *_ in rows("buffers.txt"):
+        asked = bytes.fromhex(start) + bytes(int(zeros))
+        yield solving(f"{len(asked)} bytes, buffers of {book} and {given}", asked, int(book), int(given))
+    numbers = {"agrees": 64, "cannot": 65, "unwritten": 66}
+    for word, second, third, *rest in rows("hand_back.txt"):
+        number, lines = (numbers[word], second) if word in numbers else (int(second), third)
+        book, given = rest[-4:-2]
+        name = f"handing back: {word} {lines}, buffers of {book} and {given}"
+        yield Input(name, "H", b"", int(book), int(given), number, int(lines))
+
+
+# ---- by hand
+
+def by_hand():
+    x = alone(1, [1], 5)
+    many = [(1, [1], i) for i in range(8)]
+    sixteen = [([], many), ([], many), ([], many[:3])]
+    yield solving("16 links", question(0, 1, sixteen))
+    yield solving("17 links", question(0, 1, sixteen + [([], many[:2]), x]))
+    yield solving("16 links and a dropped clause", question(1, 1, sixteen + [([0, 128], many)]))
+    yield solving("16 links and struck conditions", question(1, 1, sixteen + [([0], [(1, [0], -1)] * 4)]))
+    # link 31: x <= 0 or x <= 1; -x <= -5
+    last = [([], [(1, [0, 1], i) for i in range(8)])] * 2 + [([], [(1, [0, 1], i) for i in range(2)])]
+    last += [([], [(1, [1], 0), (1, [1], 1)]), alone(1, [-1], -5)]
+    yield solving("a pair by mark 31", question(16, 2, last))
+    yield solving("9 figures, 5 marks", bytes([5, 9, 0, 0]))
+    yield solving("3x <= 10^9; -2x <= 10^9", question(0, 1, [alone(1, [3], MOST), alone(1, [-2], MOST)]))
+    yield solving("3x <= -10^9; -2x <= -10^9", question(0, 1, [alone(1, [3], -MOST), alone(1, [-2], -MOST)]))
+    # two lines by a mark, each with a condition
+    two = question(1, 1, [([0], [(1, [1], 0)]), ([128], [(1, [-1], -5)])])
+    lines = line(0, 0, 0, 0, 1, 1, 0, [1], 0) + line(0, 0, 1, 0, 1, 0, 1, [-1], -5)
+    yield Input("book: by a mark, both with a condition", "B", two, lines + line(2, 0, 0, 1, 1, 0, 0, [1], 0))
+    # a line that names a later one
+    pair = question(0, 1, [alone(2, [1], 5), alone(1, [-1], -5)])
+    upper, lower = line(0, 0, 0, 0, 2, 0, 0, [1], 5), line(0, 0, 1, 0, 1, 0, 0, [-1], -5)
+    yield Input("book: a later second parent", "B", pair, upper + line(1, 0, 0, 2) + lower + line(1, 0, 0, 2))
+    yield Input("book: a later first parent", "B", pair, lower + line(1, 0, 2, 0) + upper + line(1, 0, 2, 0))
+    # sheets with a numerator beyond its range
+    three = question(2, 3, [])
+    for i in range(3):
+        for size in (MOST + 1, -MOST - 1):
+            numerators = [size if j == i else j for j in range(3)]
+            yield Input(f"sheet: numerator {i} is {size}", "M", three, b"", sheet([0, 1], 7, numerators))
+    for length in (0, 63, 64, 65):
+        yield Input(f"sheet: {length} bytes", "M", three, b"", (sheet([1, 1], 1, [0, 0, 0]) + bytes(64))[:length])
+    for number, lines in ((64, 3), (65, 3), (66, 3), (14, 3), (65, 1024), (64, 1025), (65, 0)):
+        for book, given in ((BOOK, SHEET), (BOOK - 1, SHEET), (BOOK, SHEET - 1), (SHEET, BOOK)):
+            yield Input(f"handing back: {number} {lines}, buffers of {book} and {given}", "H", b"", book, given, number, lines)
+
+
+# ---- at random
+
+class Random:
+    """splitmix64, with the problems of tests/questions."""
+
+    def __init__(self, seed):
+        self.state = seed
+
+    def word(self):
+        mask = (1 << 64) - 1
+        self.state = (self.state + 0x9E3779B97F4A7C15) & mask
+        z = self.state
+        z = (z ^ (z >> 30)) * 0xBF58476D1CE4E5B9 & mask
+        z = (z ^ (z >> 27)) * 0x94D049BB133111EB & mask
+        return z ^ (z >> 31)
+
+    def between(self, first, last):
+        return first + self.word() % (last - first + 1)
+
+    def once_in(self, times):
+        return self.between(1, times) == 1
+
+    def literal(self, b):
+        return self.between(0, b - 1) + 128 * self.between(0, 1)
+
+    def amount(self, size):
+        return 0 if self.once_in(3) else self.between(-size, size)
+
+    def constraint(self, r, size):
+        bound = max(-MOST, min(MOST, self.between(-2 * size, 2 * size)))
+        return (2 if self.once_in(3) else 1, [self.amount(size) for _ in range(r)], bound)
+
+    def few(self):
+        return min(self.between(0, 3), self.between(0, 3))
+
+    def problem(self):
+        b, r = self.between(0, 3), self.between(0, 3)
+        size = {0: 40_000, 1: MOST}.get(self.between(0, 15), 3)
+        clauses = []
+        for _ in range(self.between(0, 9)):
+            literals = [self.literal(b) for _ in range(self.few())] if b else []
+            count = max(self.few(), int(not literals and not self.once_in(40)))
+            clauses.append((literals, [self.constraint(r, size) for _ in range(count)]))
+        return question(b, r, clauses)
+
+    # one or two bytes changed, or the end cut or lengthened
+    def damaged(self, right):
+        out = bytearray(right)
+        for _ in range(self.between(1, 2)):
+            out[self.between(0, len(out) - 1)] = self.word() % 256 if self.once_in(2) else self.between(0, 9)
+        if self.once_in(4):
+            return bytes(out + b"\0\0\0")[:self.between(0, len(out) + 1)]
+        return bytes(out)
+
+
+def at_random(count):
+    random = Random(1)
+    for i in range(count):
+        asked = random.problem()
+        yield solving(f"random question {i}", asked)
+        yield solving(f"random question {i}, damaged", random.damaged(asked))
+
+
+# ---- books and sheets that solving left, right and damaged
+
+def left_by(solved, data):
+    """The inputs that were solved, each with its number, its book's used lines and its sheet."""
+    at = 0
+    for given in solved:
+        number, lines = unpack_from("<QQ", data, at)
+        at += 16
+        book, at = data[at:at + LINE * lines], at + LINE * lines
+        yield given, number, book, data[at:at + SHEET]
+        at += SHEET
+
+
+def books(given, book):
+    """A right book; its lines one by one left out, cut behind, their parents exchanged; and every byte one more and one less."""
+    def checks(what, changed):
+        return Input(f"book of {given.name}{what}", "B", given.question, bytes(changed))
+
+    yield checks("", book)
+    yield checks(", a byte short", book[:-1])
+    for start in range(0, len(book), LINE):
+        i = start // LINE
+        yield checks(f" to line {i}", book[:start])
+        yield checks(f", line {i} left out", book[:start] + book[start + LINE:])
+        swapped = bytearray(book)
+        swapped[start + 2:start + 6] = book[start + 4:start + 6] + book[start + 2:start + 4]
+        yield checks(f", parents of line {i} exchanged", swapped)
+    for place in range(len(book)):
+        for change in (1, 255):
+            changed = bytearray(book)
+            changed[place] = (book[place] + change) % 256
+            yield checks(f", byte {place} is {changed[place]}", changed)
+
+
+def sheets(given, right):
+    def checks(what, changed):
+        return Input(f"sheet of {given.name}{what}", "M", given.question, b"", bytes(changed))
+
+    yield checks("", right)
+    yield checks(", a byte short", right[:-1])
+    for place in range(SHEET):
+        for change in (1, 255):
+            changed = bytearray(right)
+            changed[place] = (right[place] + change) % 256
+            yield checks(f", byte {place} is {changed[place]}", changed)
+
+
+def damaged(left, most_books=30, most_sheets=40):
+    """Of short books, and of sheets after "agrees"."""
+    for given, number, book, right in left:
+        if number == 65 and 3 * LINE <= len(book) <= 12 * LINE and most_books:
+            most_books -= 1
+            yield from books(given, book)
+        if number in (64, 66) and 2 * LINE <= len(book) <= 8 * LINE:
+            yield Input(f"book of {given.name}", "B", given.question, book)
+        if number == 64 and most_sheets:
+            most_sheets -= 1
+            yield from sheets(given, right)
