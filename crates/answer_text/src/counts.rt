@@ -1,0 +1,35 @@
+// Lines of numbers, and of a word and numbers.
+use crate::words::put_number;
+use crate::words::put_word;
+ghost use mathlib.Core.List.{[], _∷_, map};
+ghost use Prim.Native.Nat.{_+_, _≤_};
+ghost use lib.ListN.{length};
+ghost use Rattle.rules.specs.Print.{ascii, decimal, printLine};
+ghost use Rattle.answer_text.specs.Appended.{Appended};
+
+pub fn put_pair(out: &mut [u8], at: usize, a: u64, b: u64) -> usize
+    requires { ⌜ at + 42 ≤ length (now out) ⌝ }
+    ensures { λ r. ⌜ Appended at (printLine (decimal a) (decimal b ∷ [])) (now (out .entry)) (now (out .exit)) r ⌝ }
+    ensures { λ r. ⌜ r ≤ at + 42 ⌝ }
+{
+    let next = put_number(out, at, a, b' ');
+    put_number(out, next, b, b'\n')
+}
+
+pub fn put_count(out: &mut [u8], at: usize, word: &[u8], n: u64) -> usize
+    requires { ⌜ at + length (now word) + 22 ≤ length (now out) ⌝ }
+    ensures { λ r. ⌜ Appended at (printLine (now (word .entry)) (decimal n ∷ [])) (now (out .entry)) (now (out .exit)) r ⌝ }
+    ensures { λ r. ⌜ r ≤ at + length (now (word .entry)) + 22 ⌝ }
+{
+    let next = put_word(out, at, word, b' ');
+    put_number(out, next, n, b'\n')
+}
+
+pub fn put_counts(out: &mut [u8], at: usize, word: &[u8], a: u64, b: u64) -> usize
+    requires { ⌜ at + length (now word) + 43 ≤ length (now out) ⌝ }
+    ensures { λ r. ⌜ Appended at (printLine (now (word .entry)) (decimal a ∷ decimal b ∷ [])) (now (out .entry)) (now (out .exit)) r ⌝ }
+    ensures { λ r. ⌜ r ≤ at + length (now (word .entry)) + 43 ⌝ }
+{
+    let next = put_word(out, at, word, b' ');
+    put_pair(out, next, a, b)
+}

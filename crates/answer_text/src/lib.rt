@@ -1,0 +1,3 @@
+// The text of an answer, made in a lent buffer: what the program prints (`printed` in rules/Print).
+pub mod counts;
+pub mod words;
