@@ -1,10 +1,11 @@
 // Lines of numbers, and of a word and numbers.
 use crate::words::put_number;
 use crate::words::put_word;
-ghost use mathlib.Core.List.{[], _∷_, map};
+use rules_types::answers::Refusal;
+ghost use mathlib.Core.List.{[], _∷_};
 ghost use Prim.Native.Nat.{_+_, _≤_};
 ghost use lib.ListN.{length};
-ghost use Rattle.rules.specs.Print.{ascii, decimal, printLine};
+ghost use Rattle.rules.specs.Print.{decimal, printLine, printRefusal};
 ghost use Rattle.answer_text.specs.Appended.{Appended};
 
 pub fn put_pair(out: &mut [u8], at: usize, a: u64, b: u64) -> usize
@@ -32,4 +33,16 @@ pub fn put_counts(out: &mut [u8], at: usize, word: &[u8], a: u64, b: u64) -> usi
 {
     let next = put_word(out, at, word, b' ');
     put_pair(out, next, a, b)
+}
+
+// "refused with number, place, pairs"
+pub fn put_refusal(out: &mut [u8], at: usize, f: Refusal, place: usize, pairs: u64) -> usize
+    requires { ⌜ at + 71 ≤ length (now out) ⌝ }
+    ensures { λ r. ⌜ Appended at (printRefusal f place pairs) (now (out .entry)) (now (out .exit)) r ⌝ }
+    ensures { λ r. ⌜ r ≤ at + 71 ⌝ }
+{
+    let number = f.number();
+    let first = put_word(out, at, b"refused", b' ');
+    let second = put_number(out, first, number as u64, b' ');
+    put_pair(out, second, place as u64, pairs)
 }

@@ -20,8 +20,7 @@ unfolding printLine ascii
 returns c =
     let q = c .before .before in
     let p = q .before .before .before .before in
-    let s = p .before .before .before .before in
-    (
+    let s = p .before .before .before .before in (
       appended-++ (omega (arith, s .pre)) (p .put-word .ensures .0) (q .put-pair .ensures .0),
       omega (arith, p .put-word .ensures .1, q .put-pair .ensures .1),
     )
