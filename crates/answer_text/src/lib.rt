@@ -1,5 +1,6 @@
 // The text of an answer, made in a lent buffer: what the program prints (`printed` in rules/Print).
-pub mod counts;
-pub mod model;
-pub mod proof;
-pub mod words;
+pub mod answer;
+mod counts;
+mod model;
+mod proof;
+mod words;
