@@ -3,8 +3,8 @@ use mathlib.Core.Path.{_≡_, refl, sym, ap, _∙_}
 use mathlib.Core.List.{List, [], _∷_, _++_}
 use Prim.Native.Nat.{ℕ, _+_, _≤_, _<_}
 use native.Mathlib.Omega.{arith}
-use lib.ListN.{length, set, length-append}
-use lib.Seq.{sets-eq}
+use lib.ListN.{length, set, take, drop, length-append}
+use lib.Seq.{sets-eq, take-at}
 use Rattle.fields.specs.Field.{stored, length-stored, stored-++, stored-nothing, byte-stored}
 
 -- the buffer holds the text from a place on, and is as before elsewhere; the place behind the text
@@ -39,3 +39,14 @@ appended-++ {at} {middle} {next} {front} {back} {old} {new} {newer} h a b =
       ends = omega (arith, a .ends, b .ends, length-append front back);
       bytes = b .bytes ∙ (λ i. stored (a .ends i) back (a .bytes i)) ∙ stored-++ at front back old h;
     }
+
+-- ---- text from the start on: the first bytes, no more than there are
+module _ {text old new : List ℕ} {next : ℕ} (a : Appended 0 text old new next) where
+  length-text : length text ≡ next
+  length-text = omega (arith, a .ends)
+
+  pub taken : take next new ≡ text
+  taken = ap (take next) (a .bytes) ∙ take-at text (drop (0 + length text) old) next length-text
+
+  pub within : next ≤ length new
+  within = omega (arith, length-text, ap length (a .bytes), length-append text (drop (0 + length text) old))

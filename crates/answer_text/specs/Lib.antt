@@ -4,3 +4,5 @@ pub mod Texts
 pub mod Answers
 pub mod Encoded
 pub mod Origins
+pub mod Written
+pub mod Printed

@@ -1,6 +1,13 @@
 use borrow.Author.Needs.{needs}
-use mathlib.Core.Path.{_≡_}
-use lib.ListN.{length}
+use mathlib.Core.Path.{_≡_, sym, ap, _∙_}
+use mathlib.Core.List.{List}
+use Prim.Native.Nat.{ℕ, _+_, _≤_}
+use native.Mathlib.Omega.{arith}
+use lib.ListN.{length, take, replicate, length-append, length-replicate}
+use Rattle.rules_types.specs.Limits.{modelBytes, proofBytes, standard}
+use Rattle.rules.specs.Print.{printed}
+use Rattle.answer_text.specs.Printed.{Told, solved-told}
+use Rattle.answer_text.specs.Appended.{taken, within}
 use Rattle.answer_text.specs.Answers.{textBytes}
 use Rattle.answer_text.proofs.answer.answer_text.Statement.{statement}
 use Rattle.answer_text.proofs.answer.answer_text.Tie as tie
@@ -8,6 +15,18 @@ use Rattle.answer_text.proofs.answer.answer_text.Reads as reads
 use Rattle.answer_text.proofs.answer.answer_text.Lts as lts
 use Rattle.answer_text.proofs.answer.put_solved.Reads as put-solved-reads
 use Rattle.solving.proofs.solve.solve.Reads as solve-reads
+
+told : (b : tie.After-solve)
+    → Told (printed standard (b .before .before .before .before .args .input .now)) (b .solve .result) (b .solve .last .1 .0)
+    (b .solve .last .1 .1 .0)
+told b =
+    let s = b .before .before .before .before in
+    let e = b .solve .ensures in
+    let k = b .solve .kept in
+    let proof = length-replicate {A = ℕ} (proofBytes standard) 0 in
+    let model = length-replicate {A = ℕ} modelBytes 0 in
+    solved-told (replicate (proofBytes standard) 0) (replicate modelBytes 0) (s .args .input .now) proof model (b .solve .result)
+    (b .solve .last .1 .0) (b .solve .last .1 .1 .0) (e .0) (e .1 .0) (e .1 .1) (k .1 .0 ∙ proof) (k .1 .1 .0 ∙ model)
 
 -- src/answer.rt:81:31
 slice-aggregate-solve : tie.Need-slice-aggregate-solve
@@ -33,11 +52,14 @@ slice-aggregate-put-solved-2 c = search needs
 put-solved-requires : tie.Need-put-solved-requires
 put-solved-requires c κs =
     let g = c .before .before .put-solved-arg .given in
-    let h : length (c .before .before .before .before .before .before .before .before .before .args .out .now) ≡ textBytes = g .0 .1 in (?, ?)
+    (told (c .before .before .before .before .before) .ready, omega (arith, g .0 .1))
 
 -- src/answer.rt:75:1
 returns : tie.Need-returns
-returns c = ?
+returns c =
+    let g = c .before .before .before .put-solved-arg .given in
+    let a = c .put-solved .ensures in
+    (taken a ∙ told (c .before .before .before .before .before .before) .is, omega (arith, within a, c .put-solved .kept .0, g .0 .1))
 
 pub answer-text-spec : {M : Type 1} → statement M
 answer-text-spec =

@@ -50,10 +50,9 @@ put-decided-requires c κs =
     let b = c .before in
     let a = b .before .before .before .before in
     let s = a .before .before .before .before .before in
-    let x = a .answer .given .0 in
-    (
+    let x = a .answer .given .0 in (
       subst (Handed (x .0) (x .1 .0)) (sym (handed b))
-      (subst (λ y. ReadyAnswer y (s .args .proof .now) (s .args .model .now)) (a .answer .given .1) (s .pre .0)),
+          (subst (λ y. ReadyAnswer y (s .args .proof .now) (s .args .model .now)) (a .answer .given .1) (s .pre .0)),
       s .pre .1,
     )
 

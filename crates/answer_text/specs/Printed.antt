@@ -1,0 +1,190 @@
+-- The text of what solving says and leaves is what the definitions print.
+use mathlib.Core.Path.{_≡_, refl, sym, ap, subst, _∙_}
+use mathlib.Core.Bool.{false, _||_}
+use mathlib.Core.List.{List, [], _∷_, _++_, map, append-assoc}
+use mathlib.Core.Option.{Option, none, some}
+use Prim.Native.Nat.{ℕ, _*_, _-_, _≤_}
+use native.Mathlib.Omega.{arith}
+use borrow.Author.Tests.{le-ltb}
+use lib.Dec.{ltb}
+use lib.ListN.{length, take, drop, replicate}
+use lib.Seq.{take-at}
+use Rattle.rules_types.specs.declared.answers.Verdict.{Verdict}
+use Rattle.rules_types.specs.declared.answers.Verdict.the-variants.{Satisfiable, Unsatisfiable, Unwritten}
+use Rattle.rules_types.specs.declared.answers.Solved.{Solved}
+use Rattle.rules_types.specs.declared.limits.Limits.{Limits}
+use Rattle.rules_types.specs.Limits as limit
+use Rattle.rules_types.specs.Answers.{verdictNumber}
+use Rattle.rules.specs.Problem.{Problem}
+use Rattle.rules.specs.Steps.{Step, encodeProof}
+use Rattle.rules.specs.Elimination.{State, running, ended, empty, overflow, outOfSteps, order, limited, loadableOf, elimination}
+use Rattle.rules.specs.Needs.{stepsOf}
+use Rattle.rules.specs.Values.{walk}
+use Rattle.rules.specs.Model.{written}
+use Rattle.rules.specs.Calls.{Reading, faulty, sound, read, Outcome, faulted, stopped, decided, concluded, outcome}
+use Rattle.rules.specs.Calls.{lent, said, proofAfter, modelAfter, Solving, solve, evidence, evidenceBytes}
+use Rattle.rules.specs.Print.{ascii, decimal, printLine, printModel, printProof, printRefusal, printed}
+use Rattle.theory_lists.specs.All.{All, all-map, all-both}
+use Rattle.theory_resolution.specs.Formed.{Formed}
+use Rattle.theory_bytes.specs.Steps.{proof-length, take-proof}
+use Rattle.theory_splitting.specs.Reading.{read-well-formed}
+use Rattle.theory_splitting.specs.WellFormed.{WellFormed}
+use Rattle.theory_elimination.specs.WithinLimits.{limited-held}
+use Rattle.theory_elimination.specs.Sound.{Sound, elimination-sound}
+use Rattle.jemuling.specs.Evidence.{refused, handedBack, part-model, part-proof}
+use Rattle.answer_text.specs.Texts.{Printable, proofText}
+use Rattle.answer_text.specs.Encoded.{Numbered, proof-text}
+use Rattle.answer_text.specs.Origins.{Fits, elimination-fits}
+use Rattle.answer_text.specs.Written.{written-printable}
+use Rattle.answer_text.specs.Answers.{satisfiableText, unsatisfiableText, solvedText, Ready}
+
+-- ---- what is known of an outcome
+abbrev Sane : Verdict → List Step → List ℕ → Type 0
+Sane Satisfiable steps bytes = Printable bytes
+Sane Unsatisfiable steps bytes = All Numbered steps
+Sane Unwritten steps bytes = Unit {0}
+
+abbrev SaneOutcome : Outcome → Type 0
+SaneOutcome (faulted f place) = Unit {0}
+SaneOutcome (stopped f steps pairs) = Unit {0}
+SaneOutcome (decided v steps pairs bytes) = (length steps ≤ limit.steps) × Sane v steps bytes
+
+module _ (p : Problem) (w : WellFormed p) where
+  concluded-sane : (s : State) → length (stepsOf s) ≤ limit.steps → All Numbered (stepsOf s) → SaneOutcome (concluded p s)
+  unfolding concluded stepsOf
+  concluded-sane (running steps pairs) n h = by (written (p .booleans) (p .rationals) (walk order (map (λ s. s .line) steps))) refl
+    where
+      by : (o : Option (List ℕ)) → written (p .booleans) (p .rationals) (walk order (map (λ s. s .line) steps)) ≡ o
+          → SaneOutcome (concluded p (running steps pairs))
+      by none e = rw (e, concluded) (n, tt)
+      by (some bytes) e =
+          rw (e, concluded) (
+            n,
+            written-printable (p .booleans) (p .rationals) (walk order (map (λ s. s .line) steps)) bytes (w .booleans)
+                (w .rationals) e,
+          )
+  concluded-sane (ended empty steps pairs) n h = (n, h)
+  concluded-sane (ended overflow steps pairs) n h = tt
+  concluded-sane (ended outOfSteps steps pairs) n h = tt
+
+numbered : (q : List ℕ) (p : Problem) → read q ≡ sound p → (stops : Limits) → stops .steps ≤ limit.mostSteps
+    → All Numbered (stepsOf (elimination (limited stops) p))
+unfolding elimination
+numbered q p e limits h =
+    let w = read-well-formed q p e in
+    let steps = stepsOf (elimination (limited limits) p) in
+    all-map (λ s. Sound (s .line) × Fits s) Numbered steps
+    (λ s k. record { formed = k .0 .formed; first = k .1 .first; second = k .1 .second })
+    (all-both (λ s. Sound (s .line)) Fits steps (elimination-sound p w (limited limits) order)
+    (elimination-fits q p e w (limited limits) (omega (arith, limited-held limits order (loadableOf p)))))
+
+outcome-sane : (q : List ℕ) → SaneOutcome (outcome limit.standard q)
+unfolding outcome elimination
+outcome-sane q = by (read q) refl
+  where
+    by : (r : Reading) → read q ≡ r → SaneOutcome (outcome limit.standard q)
+    by (faulty f place) e = rw (e, outcome) tt
+    by (sound p) e =
+        rw (e, outcome) (concluded-sane p (read-well-formed q p e) (elimination (limited limit.standard) p)
+        (limited-held limit.standard order (loadableOf p)) (numbered q p e limit.standard (omega arith)))
+
+-- ---- what is handed back
+module _ (n : ℕ) (proof model : List ℕ) (l : length proof ≡ limit.proofBytes limit.standard) (m : length model ≡ limit.modelBytes)
+    (h : n ≤ limit.steps) where
+  whole : refused limit.standard n proof model ≡ false
+  unfolding refused
+  whole = rw (
+    le-ltb (length proof) (limit.proofBytes limit.standard) (omega arith),
+    le-ltb (length model) limit.modelBytes (omega arith),
+    le-ltb limit.steps n h,
+  )
+
+  handed-model : handedBack limit.standard (verdictNumber Satisfiable) n proof model ≡ take limit.modelBytes model
+  unfolding evidenceBytes verdictNumber
+  handed-model = ap (λ e. evidenceBytes e proof model) (part-model limit.standard 64 n proof model whole refl)
+
+  handed-proof : handedBack limit.standard (verdictNumber Unsatisfiable) n proof model ≡ take (limit.stepBytes * n) proof
+  unfolding evidenceBytes verdictNumber
+  handed-proof = ap (λ e. evidenceBytes e proof model) (part-proof limit.standard 65 n proof model whole refl refl)
+
+-- ---- the text, and that it can be made
+abbrev printedOf : Outcome → List ℕ
+printedOf (faulted f place) = printRefusal f place 0
+printedOf (stopped f steps pairs) = printRefusal f steps pairs
+printedOf (decided Satisfiable steps pairs bytes) = printLine (ascii "agrees") (map decimal (length steps ∷ pairs ∷ [])) ++ printModel bytes
+printedOf (decided Unsatisfiable steps pairs bytes) =
+    printLine (ascii "cannot") (map decimal (length steps ∷ pairs ∷ [])) ++ printProof steps
+printedOf (decided Unwritten steps pairs bytes) = printLine (ascii "unwritten") (map decimal (length steps ∷ pairs ∷ []))
+
+pub record Told (text : List ℕ) (said : Solved) (proof model : List ℕ) : Type 0 where
+  pub ready : Ready said proof model
+  pub is : solvedText said proof model ≡ text
+
+module _ (proof model : List ℕ) where
+  outcome-told : (o : Outcome) → SaneOutcome o → length (proofAfter limit.standard o proof) ≡ limit.proofBytes limit.standard
+      → length (modelAfter o model) ≡ limit.modelBytes
+      → Told (printedOf o) (said o) (proofAfter limit.standard o proof) (modelAfter o model)
+  unfolding said proofAfter modelAfter
+  outcome-told (faulted f place) s l m = record { ready = tt; is = refl }
+  outcome-told (stopped f steps pairs) s l m = record { ready = tt; is = refl }
+  outcome-told (decided Satisfiable steps pairs bytes) s l m =
+      let e = handed-model (length steps) _ _ l m (s .0) ∙ take-at bytes (drop limit.modelBytes model) limit.modelBytes (s .1 .whole) in
+      record { ready = subst Printable (sym e) (s .1); is = ap (satisfiableText (length steps) pairs) e }
+  outcome-told (decided Unsatisfiable steps pairs bytes) s l m =
+      let zeros = replicate {A = ℕ} (limit.proofBytes limit.standard - limit.stepBytes * length steps) 0 in
+      let rest = drop (limit.proofBytes limit.standard) proof in
+      let formed = all-map Numbered (λ s. Formed (s .line)) steps (λ s k. k .formed) (s .1) in
+      let e = handed-proof (length steps) _ _ l m (s .0)
+      ∙ ap (take (limit.stepBytes * length steps)) (append-assoc (encodeProof steps) zeros rest)
+      ∙ take-proof steps (zeros ++ rest) formed in
+      record {
+        ready = (s .0, subst (λ (x : List ℕ). limit.stepBytes * length steps ≤ length x) (sym e) (omega (arith, proof-length steps formed)));
+        is = ap (unsatisfiableText (length steps) pairs) e
+            ∙ ap (λ (x : List ℕ). printLine (ascii "cannot") (map decimal (length steps ∷ pairs ∷ [])) ++ x) (proof-text steps (s .1));
+      }
+  outcome-told (decided Unwritten steps pairs bytes) s l m = record { ready = tt; is = refl }
+
+  -- solving with buffers of full size
+  module _ (q : List ℕ) (l : length proof ≡ limit.proofBytes limit.standard) (m : length model ≡ limit.modelBytes) where
+    lent-whole : lent limit.standard q proof model ≡ outcome limit.standard q
+    unfolding lent
+    lent-whole = rw (
+      le-ltb (length proof) (limit.proofBytes limit.standard) (omega arith),
+      lent,
+      le-ltb (length model) limit.modelBytes (omega arith),
+    )
+
+    printed-is : printedOf (outcome limit.standard q) ≡ printed limit.standard q
+    unfolding printed
+    printed-is = by (outcome limit.standard q)
+      where
+        by : (o : Outcome) → printedOf o ≡ elim o [
+          | faulted f place ↦ printRefusal f place 0
+          | stopped f steps pairs ↦ printRefusal f steps pairs
+          | decided v steps pairs bytes ↦
+              let counts = map decimal (length steps ∷ pairs ∷ []) in
+              elim v [
+                | Satisfiable ↦ printLine (ascii "agrees") counts ++ printModel bytes
+                | Unsatisfiable ↦ printLine (ascii "cannot") counts ++ printProof steps
+                | Unwritten ↦ printLine (ascii "unwritten") counts
+              ]
+        ]
+        by (faulted f place) = refl
+        by (stopped f steps pairs) = refl
+        by (decided Satisfiable steps pairs bytes) = refl
+        by (decided Unsatisfiable steps pairs bytes) = refl
+        by (decided Unwritten steps pairs bytes) = refl
+
+    pub solved-told : (s : Solved) (after filled : List ℕ) → s ≡ solve limit.standard q proof model .solved
+        → after ≡ solve limit.standard q proof model .proof
+        → filled ≡ solve limit.standard q proof model .model
+        → length after ≡ limit.proofBytes limit.standard
+        → length filled ≡ limit.modelBytes
+        → Told (printed limit.standard q) s after filled
+    unfolding solve
+    solved-told s after filled e f g lp lm =
+        let o = outcome limit.standard q in
+        let e′ : s ≡ said o = e ∙ ap said lent-whole in
+        let f′ : after ≡ proofAfter limit.standard o proof = f ∙ ap (λ o. proofAfter limit.standard o proof) lent-whole in
+        let g′ : filled ≡ modelAfter o model = g ∙ ap (λ o. modelAfter o model) lent-whole in
+        rw (e′, f′, g′, ← printed-is) (outcome-told o (outcome-sane q) (rw f′ at lp) (rw g′ at lm))
