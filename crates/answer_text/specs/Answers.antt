@@ -11,7 +11,7 @@ use Rattle.rules_types.specs.Limits as limit
 use Rattle.rules_types.specs.Answers.{verdictNumber}
 use Rattle.rules.specs.Print.{ascii, decimal, printLine, printModel, printRefusal}
 use Rattle.jemuling.specs.Evidence.{handedBack}
-use Rattle.answer_text.specs.Texts.{proofText, Printable}
+use Rattle.printing.specs.Texts.{proofText, Printable}
 
 -- as many bytes as the longest text may take
 abbrev pub textBytes : ℕ

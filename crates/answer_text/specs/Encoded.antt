@@ -9,7 +9,7 @@ use Rattle.rules_types.specs.Limits as limit
 use Rattle.rules_types.specs.Layout as layout
 use Rattle.rules.specs.Lists.{concat, tabulate}
 use Rattle.rules.specs.Bytes.{fromBytes, fieldAt}
-use Rattle.rules.specs.Steps.{Step, Header, header, encodeStep, encodeProof}
+use Rattle.rules.specs.Steps.{Step, header, encodeStep, encodeProof}
 use Rattle.rules.specs.Print.{ascii, decimal, printLine, printStep, printProof}
 use Rattle.theory_lists.specs.All.{All}
 use Rattle.theory_lists.specs.Tabulated.{tabulate-cong}
@@ -17,8 +17,7 @@ use Rattle.theory_resolution.specs.Formed.{Formed}
 use Rattle.theory_bytes.specs.Steps.{step-length, take-step}
 use Rattle.theory_bytes.specs.Headers.{how-back, which-back, first-back, second-back}
 use Rattle.steps.specs.Places.{stepAt, field-stepAt}
-use Rattle.steps.specs.Origin.{headerOf, originAt}
-use Rattle.answer_text.specs.Texts.{texts, headerText, stepText, stepsText, proofText}
+use Rattle.printing.specs.Texts.{texts, headerText, stepText, stepsText, proofText}
 
 -- a step of 64 bytes, with numbers of two
 pub record Numbered (s : Step) : Type 0 where
@@ -52,7 +51,8 @@ module _ (s : Step) (ss : List Step) (n : Numbered s) where
   })
 
   -- ---- the steps behind it
-  field-next : (i at size : ℕ) → fieldAt (limit.stepBytes * suc i + at) size bytes ≡ fieldAt (limit.stepBytes * i + at) size (encodeProof ss)
+  field-next : (i at size : ℕ)
+      → fieldAt (limit.stepBytes * suc i + at) size bytes ≡ fieldAt (limit.stepBytes * i + at) size (encodeProof ss)
   unfolding fieldAt encodeProof
   field-next i at size =
       let k = limit.stepBytes * i + at in

@@ -1,6 +1,3 @@
-pub mod Appended
-pub mod Decimals
-pub mod Texts
 pub mod Answers
 pub mod Encoded
 pub mod Origins

@@ -1,6 +1,5 @@
 -- The numbers of an elimination's steps fit two bytes: of clauses and parts as a problem was read, of parents as the steps are held.
 use mathlib.Core.Path.{_≡_, refl, subst}
-use mathlib.Core.Bool.{Bool}
 use mathlib.Core.Logic.{⊎-elim, inl, inr}
 use mathlib.Core.List.{List, [], _∷_, _++_}
 use mathlib.Core.Option.{Option, none, some}
@@ -15,7 +14,7 @@ use Rattle.rules.specs.Split.{partsOf, splitsOf, overSplit}
 use Rattle.rules.specs.Steps.{Step, resolved, header}
 use Rattle.rules.specs.Elimination.{Stops, order, partSteps, loadable, loadableOf, eliminate}
 use Rattle.rules.specs.Needs.{stepsOf}
-use Rattle.rules.specs.Calls.{faulty, sound, withinSplits, read}
+use Rattle.rules.specs.Calls.{sound, withinSplits, read}
 use Rattle.theory_lists.specs.Tests.{split, is-true, is-false}
 use Rattle.theory_lists.specs.All.{All, all-any, all-append}
 use Rattle.theory_lists.specs.Places.{place-below}
@@ -109,7 +108,8 @@ module _ (q : List ℕ) (p : Problem) (e : read q ≡ sound p) (w : WellFormed p
       → All Fits ss
   each-fits earlier [] n h = tt
   each-fits earlier (s ∷ ss) n h =
-      (justified-fits earlier s (omega arith) (h .0), each-fits (earlier ++ (s ∷ [])) ss (omega (arith, length-append earlier (s ∷ []))) (h .1))
+      let n′ = length-append earlier (s ∷ []) in
+      (justified-fits earlier s (omega arith) (h .0), each-fits (earlier ++ (s ∷ [])) ss (omega (arith, n′)) (h .1))
 
   pub elimination-fits : (stops : Stops) → length (stepsOf (eliminate stops order (loadableOf p))) ≤ limit.mostSteps
       → All Fits (stepsOf (eliminate stops order (loadableOf p)))

@@ -1,12 +1,11 @@
 -- The text of what solving says and leaves is what the definitions print.
 use mathlib.Core.Path.{_≡_, refl, sym, ap, subst, _∙_}
-use mathlib.Core.Bool.{false, _||_}
+use mathlib.Core.Bool.{false}
 use mathlib.Core.List.{List, [], _∷_, _++_, map, append-assoc}
 use mathlib.Core.Option.{Option, none, some}
 use Prim.Native.Nat.{ℕ, _*_, _-_, _≤_}
 use native.Mathlib.Omega.{arith}
 use borrow.Author.Tests.{le-ltb}
-use lib.Dec.{ltb}
 use lib.ListN.{length, take, drop, replicate}
 use lib.Seq.{take-at}
 use Rattle.rules_types.specs.declared.answers.Verdict.{Verdict}
@@ -22,7 +21,7 @@ use Rattle.rules.specs.Needs.{stepsOf}
 use Rattle.rules.specs.Values.{walk}
 use Rattle.rules.specs.Model.{written}
 use Rattle.rules.specs.Calls.{Reading, faulty, sound, read, Outcome, faulted, stopped, decided, concluded, outcome}
-use Rattle.rules.specs.Calls.{lent, said, proofAfter, modelAfter, Solving, solve, evidence, evidenceBytes}
+use Rattle.rules.specs.Calls.{lent, said, proofAfter, modelAfter, solve, evidenceBytes}
 use Rattle.rules.specs.Print.{ascii, decimal, printLine, printModel, printProof, printRefusal, printed}
 use Rattle.theory_lists.specs.All.{All, all-map, all-both}
 use Rattle.theory_resolution.specs.Formed.{Formed}
@@ -32,7 +31,7 @@ use Rattle.theory_splitting.specs.WellFormed.{WellFormed}
 use Rattle.theory_elimination.specs.WithinLimits.{limited-held}
 use Rattle.theory_elimination.specs.Sound.{Sound, elimination-sound}
 use Rattle.jemuling.specs.Evidence.{refused, handedBack, part-model, part-proof}
-use Rattle.answer_text.specs.Texts.{Printable, proofText}
+use Rattle.printing.specs.Texts.{Printable}
 use Rattle.answer_text.specs.Encoded.{Numbered, proof-text}
 use Rattle.answer_text.specs.Origins.{Fits, elimination-fits}
 use Rattle.answer_text.specs.Written.{written-printable}
@@ -134,11 +133,12 @@ module _ (proof model : List ℕ) where
       let zeros = replicate {A = ℕ} (limit.proofBytes limit.standard - limit.stepBytes * length steps) 0 in
       let rest = drop (limit.proofBytes limit.standard) proof in
       let formed = all-map Numbered (λ s. Formed (s .line)) steps (λ s k. k .formed) (s .1) in
+      let used = proof-length steps formed in
       let e = handed-proof (length steps) _ _ l m (s .0)
       ∙ ap (take (limit.stepBytes * length steps)) (append-assoc (encodeProof steps) zeros rest)
       ∙ take-proof steps (zeros ++ rest) formed in
       record {
-        ready = (s .0, subst (λ (x : List ℕ). limit.stepBytes * length steps ≤ length x) (sym e) (omega (arith, proof-length steps formed)));
+        ready = (s .0, subst (λ (x : List ℕ). limit.stepBytes * length steps ≤ length x) (sym e) (omega (arith, used)));
         is = ap (unsatisfiableText (length steps) pairs) e
             ∙ ap (λ (x : List ℕ). printLine (ascii "cannot") (map decimal (length steps ∷ pairs ∷ [])) ++ x) (proof-text steps (s .1));
       }

@@ -1,7 +1,7 @@
 -- The bytes of a model that was written can be printed: they have room for their variables.
-use mathlib.Core.Path.{_≡_, refl, sym, ap, _∙_}
+use mathlib.Core.Path.{_≡_, refl, ap, _∙_}
 use mathlib.Core.Bool.{Bool, true, false, _||_}
-use mathlib.Core.List.{List, [], _∷_, _++_, append-assoc}
+use mathlib.Core.List.{List, _∷_, _++_, append-assoc}
 use mathlib.Core.Option.{none, some}
 use Prim.Native.Nat.{ℕ, _+_, _-_, _≤_}
 use native.Mathlib.Omega.{arith}
@@ -17,7 +17,7 @@ use Rattle.rules.specs.Model.{booleanByte, encodeModel, tooLarge, written}
 use Rattle.theory_lists.specs.Tabulated.{length-tabulate}
 use Rattle.theory_bytes.specs.Bytes.{length-toBytes, length-padded}
 use Rattle.theory_bytes.specs.Amounts.{length-amountBytes}
-use Rattle.answer_text.specs.Texts.{Printable}
+use Rattle.printing.specs.Texts.{Printable}
 
 written-is : (b r : ℕ) (w : Walked) (bytes : List ℕ) → written b r w ≡ some bytes → bytes ≡ encodeModel b r (w .assignment)
 unfolding written

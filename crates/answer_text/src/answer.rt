@@ -1,22 +1,23 @@
 // The text of an answer: the verdict's line or the refusal's, and what follows it.
-use crate::counts::put_counts;
-use crate::counts::put_refusal;
-use crate::model::put_model;
-use crate::proof::put_proof;
 use jemuling::evidence::hand_back;
 use jemuling::told::verdict_number;
+use printing::counts::put_counts;
+use printing::counts::put_refusal;
+use printing::model::put_model;
+use printing::proof::put_proof;
 use rules_types::answers::Answer;
 use rules_types::answers::Solved;
 use rules_types::answers::Verdict;
 use rules_types::limits::Limits;
 use solving::solve::solve;
 ghost use mathlib.Core.Path.{_≡_};
-ghost use Prim.Native.Nat.{_+_, _*_, _≤_};
+ghost use Prim.Native.Nat.{_*_, _≤_};
 ghost use lib.ListN.{length, take};
 ghost use Rattle.rules_types.specs.Limits.{stepBytes, steps, standard};
 ghost use Rattle.rules.specs.Print.{printed};
-ghost use Rattle.answer_text.specs.Appended.{Appended};
-ghost use Rattle.answer_text.specs.Texts.{Printable};
+ghost use Rattle.io.specs.Counts.{Counts};
+ghost use Rattle.printing.specs.Appended.{Appended};
+ghost use Rattle.printing.specs.Texts.{Printable};
 ghost use Rattle.answer_text.specs.Answers.{satisfiableText, unsatisfiableText, decidedText, solvedText, Handed, Ready, textBytes};
 
 // Enough: a line for each of 1,024 steps has four numbers of at most 20 digits, and the lines before them have less than 100 bytes.
@@ -74,7 +75,7 @@ fn put_solved<'a>(out: &mut [u8], solved: Solved, proof: &'a [u8], model: &'a [u
 // The text of what solving says of a problem: the first so many bytes.
 pub fn answer_text(input: &[u8], out: &mut [u8; TEXT_BYTES]) -> usize
     ensures { λ k. ⌜ take k (now (out .exit)) ≡ printed standard (now (input .entry)) ⌝ }
-    ensures { λ k. ⌜ k ≤ textBytes ⌝ }
+    ensures { λ k. ⌜ Counts k (now (out .exit)) ⌝ }
 {
     let mut proof = [0u8; Limits::STEPS as usize * Limits::STEP_BYTES];
     let mut model = [0u8; Limits::MODEL_BYTES];

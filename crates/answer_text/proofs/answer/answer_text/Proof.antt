@@ -1,20 +1,16 @@
-use borrow.Author.Needs.{needs}
-use mathlib.Core.Path.{_≡_, sym, ap, _∙_}
-use mathlib.Core.List.{List}
-use Prim.Native.Nat.{ℕ, _+_, _≤_}
+-- `answer_text` meets its contract. Assumes nothing.
+use mathlib.Core.Path.{sym, _∙_}
+use Prim.Native.Nat.{ℕ}
 use native.Mathlib.Omega.{arith}
-use lib.ListN.{length, take, replicate, length-append, length-replicate}
+use borrow.Author.Needs.{needs}
+use lib.ListN.{replicate, length-replicate}
+use lib.Seq.{length-take-le}
 use Rattle.rules_types.specs.Limits.{modelBytes, proofBytes, standard}
 use Rattle.rules.specs.Print.{printed}
+use Rattle.printing.specs.Appended.{taken, within}
 use Rattle.answer_text.specs.Printed.{Told, solved-told}
-use Rattle.answer_text.specs.Appended.{taken, within}
-use Rattle.answer_text.specs.Answers.{textBytes}
 use Rattle.answer_text.proofs.answer.answer_text.Statement.{statement}
 use Rattle.answer_text.proofs.answer.answer_text.Tie as tie
-use Rattle.answer_text.proofs.answer.answer_text.Reads as reads
-use Rattle.answer_text.proofs.answer.answer_text.Lts as lts
-use Rattle.answer_text.proofs.answer.put_solved.Reads as put-solved-reads
-use Rattle.solving.proofs.solve.solve.Reads as solve-reads
 
 told : (b : tie.After-solve)
     → Told (printed standard (b .before .before .before .before .args .input .now)) (b .solve .result) (b .solve .last .1 .0)
@@ -28,38 +24,32 @@ told b =
     solved-told (replicate (proofBytes standard) 0) (replicate modelBytes 0) (s .args .input .now) proof model (b .solve .result)
     (b .solve .last .1 .0) (b .solve .last .1 .1 .0) (e .0) (e .1 .0) (e .1 .1) (k .1 .0 ∙ proof) (k .1 .1 .0 ∙ model)
 
--- src/answer.rt:81:31
 slice-aggregate-solve : tie.Need-slice-aggregate-solve
 slice-aggregate-solve c = search needs
 
--- src/answer.rt:81:43
 slice-aggregate-solve-2 : tie.Need-slice-aggregate-solve-2
 slice-aggregate-solve-2 c = search needs
 
--- src/answer.rt:81:9
 solve-requires : tie.Need-solve-requires
 solve-requires c κs = search needs
 
--- src/answer.rt:82:29
 slice-aggregate-put-solved : tie.Need-slice-aggregate-put-solved
 slice-aggregate-put-solved c = search needs
 
--- src/answer.rt:82:37
 slice-aggregate-put-solved-2 : tie.Need-slice-aggregate-put-solved-2
 slice-aggregate-put-solved-2 c = search needs
 
--- src/answer.rt:82:5
 put-solved-requires : tie.Need-put-solved-requires
 put-solved-requires c κs =
     let g = c .before .before .put-solved-arg .given in
     (told (c .before .before .before .before .before) .ready, omega (arith, g .0 .1))
 
--- src/answer.rt:75:1
 returns : tie.Need-returns
 returns c =
-    let g = c .before .before .before .put-solved-arg .given in
     let a = c .put-solved .ensures in
-    (taken a ∙ told (c .before .before .before .before .before .before) .is, omega (arith, within a, c .put-solved .kept .0, g .0 .1))
+    let k = c .put-solved .result in
+    let bytes = c .put-solved .last .0 in
+    (taken a ∙ told (c .before .before .before .before .before .before) .is, (within a, sym (length-take-le k bytes (within a))))
 
 pub answer-text-spec : {M : Type 1} → statement M
 answer-text-spec =

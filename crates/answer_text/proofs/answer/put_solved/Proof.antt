@@ -1,18 +1,12 @@
-use borrow.Author.Needs.{needs}
+-- `put_solved` meets its contract. Assumes nothing.
 use mathlib.Core.Path.{_≡_, sym, subst, _∙_}
+use borrow.Author.Needs.{needs}
 use Rattle.rules_types.specs.Limits.{standard}
 use Rattle.rules_types.specs.Answers.{verdictNumber}
 use Rattle.jemuling.specs.Evidence.{handedBack}
 use Rattle.answer_text.specs.Answers.{Handed, ReadyAnswer}
 use Rattle.answer_text.proofs.answer.put_solved.Statement.{statement}
 use Rattle.answer_text.proofs.answer.put_solved.Tie as tie
-use Rattle.answer_text.proofs.answer.put_solved.Reads as reads
-use Rattle.answer_text.proofs.answer.put_solved.Lts as lts
-use Rattle.answer_text.proofs.answer.put_decided.Reads as put-decided-reads
-use Rattle.answer_text.proofs.counts.put_refusal.Reads as put-refusal-reads
-use Rattle.jemuling.proofs.evidence.hand_back.Reads as hand-back-reads
-use Rattle.jemuling.proofs.told.verdict_number.Reads as verdict-number-reads
-use Rattle.rules_types.proofs.limits.Limits.standard.Reads as standard-reads
 
 -- the part that is handed back
 handed : (b : tie.After-hand-back)
@@ -28,23 +22,18 @@ handed b =
     ∙ (λ i. handedBack (b .before .before .standard .ensures i) (b .before .verdict-number .ensures i) (x .1 .0) (s .args .proof .now)
     (s .args .model .now))
 
--- src/answer.rt:66:25
 enum-known-answer : tie.Need-enum-known-answer
 enum-known-answer c = search needs
 
--- src/answer.rt:67:38
 standard-requires : tie.Need-standard-requires
 standard-requires c κs = search needs
 
--- src/answer.rt:67:58
 verdict-number-requires : tie.Need-verdict-number-requires
 verdict-number-requires c κs = search needs
 
--- src/answer.rt:67:17
 hand-back-requires : tie.Need-hand-back-requires
 hand-back-requires c κs = search needs
 
--- src/answer.rt:68:13
 put-decided-requires : tie.Need-put-decided-requires
 put-decided-requires c κs =
     let b = c .before in
@@ -56,19 +45,15 @@ put-decided-requires c κs =
       s .pre .1,
     )
 
--- src/answer.rt:70:25
 enum-known-answer-2 : tie.Need-enum-known-answer-2
 enum-known-answer-2 c = search needs
 
--- src/answer.rt:70:38
 put-refusal-requires : tie.Need-put-refusal-requires
 put-refusal-requires c κs = search needs
 
--- src/answer.rt:58:1
 same-length : tie.Need-same-length
 same-length c = search needs
 
--- src/answer.rt:58:1
 returns : tie.Need-returns
 returns c =
     let q = c .before .before in
@@ -76,11 +61,9 @@ returns c =
     let a = b .before .before .before .before in
     rw (a .answer .given .1, ← handed b) (q .put-decided .ensures)
 
--- src/answer.rt:58:1
 same-length-2 : tie.Need-same-length-2
 same-length-2 c = search needs
 
--- src/answer.rt:58:1
 returns-2 : tie.Need-returns-2
 returns-2 c =
     let q = c .before .before in

@@ -1,31 +1,23 @@
-use borrow.Author.Needs.{needs}
+-- `put_unsatisfiable` meets its contract. Assumes nothing.
 use native.Mathlib.Omega.{arith}
+use borrow.Author.Needs.{needs}
 use Rattle.rules.specs.Print.{ascii}
-use Rattle.answer_text.specs.Appended.{appended-++}
+use Rattle.printing.specs.Appended.{appended-++}
 use Rattle.answer_text.proofs.answer.put_unsatisfiable.Statement.{statement}
 use Rattle.answer_text.proofs.answer.put_unsatisfiable.Tie as tie
-use Rattle.answer_text.proofs.answer.put_unsatisfiable.Reads as reads
-use Rattle.answer_text.proofs.answer.put_unsatisfiable.Lts as lts
-use Rattle.answer_text.proofs.counts.put_counts.Reads as put-counts-reads
-use Rattle.answer_text.proofs.proof.put_proof.Reads as put-proof-reads
 
--- src/answer.rt:40:35
 slice-aggregate-put-counts : tie.Need-slice-aggregate-put-counts
 slice-aggregate-put-counts c = search needs
 
--- src/answer.rt:40:9
 put-counts-requires : tie.Need-put-counts-requires
 put-counts-requires c κs = search needs
 
--- src/answer.rt:41:5
 put-proof-requires : tie.Need-put-proof-requires
 put-proof-requires c κs = search needs
 
--- src/answer.rt:34:1
 same-length : tie.Need-same-length
 same-length c = search needs
 
--- src/answer.rt:34:1
 returns : tie.Need-returns
 unfolding ascii
 returns c =
