@@ -1,6 +1,6 @@
 //! The test program: runs the second solver on the examples of document 01, on the vectors, on
-//! random problems and on damaged parts, and compares the proved code with it. One line for each
-//! group; the last line is the sum.
+//! random problems and on damaged parts, and compares the proved code and what the program prints
+//! with it. One line for each group; the last line is the sum.
 
 mod arbitrary;
 mod buffers;
@@ -10,6 +10,7 @@ mod damage;
 mod examples;
 mod integers;
 mod lengths;
+mod program;
 mod reading;
 mod report;
 mod solving;
@@ -31,6 +32,7 @@ fn main() -> ExitCode {
     reading::run(&mut sums);
     checks::run(&mut sums);
     solving::run(&mut sums);
+    program::run(&mut sums);
     println!("{} passed, {} failed", sums.passed, sums.failed);
     match sums.failed {
         0 => ExitCode::SUCCESS,
