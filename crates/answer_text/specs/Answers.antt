@@ -1,6 +1,6 @@
 -- The text of what solving said and left: the verdict's line or the refusal's, and what follows it.
 use mathlib.Core.List.{List, [], _∷_, _++_, map}
-use Prim.Native.Nat.{ℕ, _*_, _≤_}
+use Prim.Native.Nat.{ℕ, _+_, _*_, _≤_}
 use lib.ListN.{length}
 use Rattle.rules_types.specs.declared.answers.Verdict.{Verdict}
 use Rattle.rules_types.specs.declared.answers.Verdict.the-variants.{Satisfiable, Unsatisfiable, Unwritten}
@@ -11,11 +11,12 @@ use Rattle.rules_types.specs.Limits as limit
 use Rattle.rules_types.specs.Answers.{verdictNumber}
 use Rattle.rules.specs.Print.{ascii, decimal, printLine, printModel, printRefusal}
 use Rattle.jemuling.specs.Evidence.{handedBack}
+use Rattle.printing.specs.Room.{countsRoom, proofRoom}
 use Rattle.printing.specs.Texts.{proofText, Printable}
 
--- as many bytes as the longest text may take
+-- as many bytes as the longest text may take: "cannot" and two numbers, and all lines of a proof
 abbrev pub textBytes : ℕ
-textBytes = 98304
+textBytes = 6 + countsRoom + proofRoom limit.steps
 
 -- ---- a verdict, with the part that is handed back
 abbrev pub satisfiableText : ℕ → ℕ → List ℕ → List ℕ

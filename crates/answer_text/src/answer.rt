@@ -20,8 +20,8 @@ ghost use Rattle.printing.specs.Appended.{Appended};
 ghost use Rattle.printing.specs.Texts.{Printable};
 ghost use Rattle.answer_text.specs.Answers.{satisfiableText, unsatisfiableText, decidedText, solvedText, Handed, Ready, textBytes};
 
-// Enough: a line for each of 1,024 steps has four numbers of at most 20 digits, and the lines before them have less than 100 bytes.
-pub const TEXT_BYTES: usize = 98304;
+// As many as the longest text may take: 1,024 lines of four numbers, each of at most 20 digits, behind two lines of 76 bytes.
+pub const TEXT_BYTES: usize = 86092;
 
 fn put_satisfiable(out: &mut [u8], n: usize, pairs: u64, model: &[u8]) -> usize
     requires { ⌜ Printable (now model) ⌝ }

@@ -1,3 +1,4 @@
 pub mod Appended
 pub mod Decimals
+pub mod Room
 pub mod Texts

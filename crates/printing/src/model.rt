@@ -16,14 +16,15 @@ ghost use lib.ListN.{length};
 ghost use Rattle.rules_types.specs.Layout.{modelFlags, modelNumerators};
 ghost use Rattle.rules.specs.Print.{decimal, signedDecimal, printLine, printModel};
 ghost use Rattle.printing.specs.Appended.{Appended};
+ghost use Rattle.printing.specs.Room.{numberRoom, booleansRoom, rationalRoom, rationalsRoom, modelRoom};
 ghost use Rattle.printing.specs.Texts.{flagsText, booleansText, numeratorsText, rationalsText, Printable};
 
 // A byte for each of b Boolean variables.
 fn put_flags(out: &mut [u8], at: usize, model: &[u8], b: u8) -> usize
     requires { ⌜ modelFlags + b ≤ length (now model) ⌝ }
-    requires { ⌜ at + 21 * b ≤ length (now out) ⌝ }
+    requires { ⌜ at + numberRoom * b ≤ length (now out) ⌝ }
     ensures { λ r. ⌜ Appended at (flagsText (now (model .entry)) b) (now (out .entry)) (now (out .exit)) r ⌝ }
-    ensures { λ r. ⌜ r ≤ at + 21 * b ⌝ }
+    ensures { λ r. ⌜ r ≤ at + numberRoom * b ⌝ }
 {
     let count = b as usize;
     let mut next = at;
@@ -38,18 +39,18 @@ fn put_flags(out: &mut [u8], at: usize, model: &[u8], b: u8) -> usize
 
 fn put_booleans(out: &mut [u8], at: usize, model: &[u8], b: u8) -> usize
     requires { ⌜ modelFlags + b ≤ length (now model) ⌝ }
-    requires { ⌜ at + 27 + 21 * b ≤ length (now out) ⌝ }
+    requires { ⌜ at + booleansRoom b ≤ length (now out) ⌝ }
     ensures { λ r. ⌜ Appended at (booleansText (now (model .entry)) b) (now (out .entry)) (now (out .exit)) r ⌝ }
-    ensures { λ r. ⌜ r ≤ at + 27 + 21 * b ⌝ }
+    ensures { λ r. ⌜ r ≤ at + booleansRoom b ⌝ }
 {
     let next = put_count(out, at, b"marks", b as u64);
     put_flags(out, next, model, b)
 }
 
 fn put_rational(out: &mut [u8], at: usize, numerator: i64, denominator: u64) -> usize
-    requires { ⌜ at + 43 ≤ length (now out) ⌝ }
+    requires { ⌜ at + rationalRoom ≤ length (now out) ⌝ }
     ensures { λ r. ⌜ Appended at (printLine (signedDecimal numerator) (decimal denominator ∷ [])) (now (out .entry)) (now (out .exit)) r ⌝ }
-    ensures { λ r. ⌜ r ≤ at + 43 ⌝ }
+    ensures { λ r. ⌜ r ≤ at + rationalRoom ⌝ }
 {
     let next = put_signed(out, at, numerator, b' ');
     put_number(out, next, denominator, b'\n')
@@ -58,9 +59,9 @@ fn put_rational(out: &mut [u8], at: usize, numerator: i64, denominator: u64) -> 
 // The numerators, each with the common denominator.
 fn put_numerators(out: &mut [u8], at: usize, model: &[u8], b: u8, r: u8) -> usize
     requires { ⌜ modelNumerators b + 4 * r ≤ length (now model) ⌝ }
-    requires { ⌜ at + 43 * r ≤ length (now out) ⌝ }
+    requires { ⌜ at + rationalRoom * r ≤ length (now out) ⌝ }
     ensures { λ n. ⌜ Appended at (numeratorsText (now (model .entry)) b r) (now (out .entry)) (now (out .exit)) n ⌝ }
-    ensures { λ n. ⌜ n ≤ at + 43 * r ⌝ }
+    ensures { λ n. ⌜ n ≤ at + rationalRoom * r ⌝ }
 {
     let denominator = u32_at(model, model_denominator(b));
     let numerators = model_numerators(b);
@@ -77,9 +78,9 @@ fn put_numerators(out: &mut [u8], at: usize, model: &[u8], b: u8, r: u8) -> usiz
 
 fn put_rationals(out: &mut [u8], at: usize, model: &[u8], b: u8, r: u8) -> usize
     requires { ⌜ modelNumerators b + 4 * r ≤ length (now model) ⌝ }
-    requires { ⌜ at + 29 + 43 * r ≤ length (now out) ⌝ }
+    requires { ⌜ at + rationalsRoom r ≤ length (now out) ⌝ }
     ensures { λ n. ⌜ Appended at (rationalsText (now (model .entry)) b r) (now (out .entry)) (now (out .exit)) n ⌝ }
-    ensures { λ n. ⌜ n ≤ at + 29 + 43 * r ⌝ }
+    ensures { λ n. ⌜ n ≤ at + rationalsRoom r ⌝ }
 {
     let next = put_count(out, at, b"figures", r as u64);
     put_numerators(out, next, model, b, r)
@@ -87,9 +88,9 @@ fn put_rationals(out: &mut [u8], at: usize, model: &[u8], b: u8, r: u8) -> usize
 
 pub fn put_model(out: &mut [u8], at: usize, model: &[u8]) -> usize
     requires { ⌜ Printable (now model) ⌝ }
-    requires { ⌜ at + 1024 ≤ length (now out) ⌝ }
+    requires { ⌜ at + modelRoom ≤ length (now out) ⌝ }
     ensures { λ n. ⌜ Appended at (printModel (now (model .entry))) (now (out .entry)) (now (out .exit)) n ⌝ }
-    ensures { λ n. ⌜ n ≤ at + 1024 ⌝ }
+    ensures { λ n. ⌜ n ≤ at + modelRoom ⌝ }
 {
     let b = u8_at(model, MODEL_BOOLEANS);
     let r = u8_at(model, model_rationals(b));

@@ -2,7 +2,6 @@
 use crate::counts::put_count;
 use crate::counts::put_pair;
 use crate::words::put_number;
-use rules_types::limits::Limits;
 use steps::access::origin_at;
 use steps::origin::Origin;
 ghost use Prim.Native.Nat.{_+_, _*_, _≤_};
@@ -10,12 +9,13 @@ ghost use lib.ListN.{length};
 ghost use Rattle.rules_types.specs.Limits.{stepBytes};
 ghost use Rattle.steps.specs.Origin.{headerOf};
 ghost use Rattle.printing.specs.Appended.{Appended};
+ghost use Rattle.printing.specs.Room.{stepRoom, proofRoom};
 ghost use Rattle.printing.specs.Texts.{headerText, stepsText, proofText};
 
 fn put_origin(out: &mut [u8], at: usize, o: Origin) -> usize
-    requires { ⌜ at + 84 ≤ length (now out) ⌝ }
+    requires { ⌜ at + stepRoom ≤ length (now out) ⌝ }
     ensures { λ r. ⌜ Appended at (headerText (headerOf o)) (now (out .entry)) (now (out .exit)) r ⌝ }
-    ensures { λ r. ⌜ r ≤ at + 84 ⌝ }
+    ensures { λ r. ⌜ r ≤ at + stepRoom ⌝ }
 {
     let which = put_number(out, at, o.how as u64, b' ');
     let parents = put_number(out, which, o.which as u64, b' ');
@@ -25,9 +25,9 @@ fn put_origin(out: &mut [u8], at: usize, o: Origin) -> usize
 // The first n steps.
 fn put_steps(out: &mut [u8], at: usize, proof: &[u8], n: usize) -> usize
     requires { ⌜ stepBytes * n ≤ length (now proof) ⌝ }
-    requires { ⌜ at + 84 * n ≤ length (now out) ⌝ }
+    requires { ⌜ at + stepRoom * n ≤ length (now out) ⌝ }
     ensures { λ r. ⌜ Appended at (stepsText (now (proof .entry)) n) (now (out .entry)) (now (out .exit)) r ⌝ }
-    ensures { λ r. ⌜ r ≤ at + 84 * n ⌝ }
+    ensures { λ r. ⌜ r ≤ at + stepRoom * n ⌝ }
 {
     let mut next = at;
     let mut i: usize = 0;
@@ -41,9 +41,9 @@ fn put_steps(out: &mut [u8], at: usize, proof: &[u8], n: usize) -> usize
 
 pub fn put_proof(out: &mut [u8], at: usize, proof: &[u8], n: usize) -> usize
     requires { ⌜ stepBytes * n ≤ length (now proof) ⌝ }
-    requires { ⌜ at + 27 + 84 * n ≤ length (now out) ⌝ }
+    requires { ⌜ at + proofRoom n ≤ length (now out) ⌝ }
     ensures { λ r. ⌜ Appended at (proofText (now (proof .entry)) n) (now (out .entry)) (now (out .exit)) r ⌝ }
-    ensures { λ r. ⌜ r ≤ at + 27 + 84 * n ⌝ }
+    ensures { λ r. ⌜ r ≤ at + proofRoom n ⌝ }
 {
     let next = put_count(out, at, b"lines", n as u64);
     put_steps(out, next, proof, n)

@@ -6,6 +6,7 @@ ghost use Prim.Native.Nat.{_+_, _≤_};
 ghost use lib.ListN.{length};
 ghost use Rattle.rules.specs.Print.{decimal, signedDecimal};
 ghost use Rattle.printing.specs.Appended.{Appended, ended};
+ghost use Rattle.printing.specs.Room.{numberRoom, signedRoom};
 
 pub fn put_word(out: &mut [u8], at: usize, word: &[u8], end: u8) -> usize
     requires { ⌜ at + length (now word) + 1 ≤ length (now out) ⌝ }
@@ -19,9 +20,9 @@ pub fn put_word(out: &mut [u8], at: usize, word: &[u8], end: u8) -> usize
 }
 
 pub fn put_number(out: &mut [u8], at: usize, n: u64, end: u8) -> usize
-    requires { ⌜ at + 21 ≤ length (now out) ⌝ }
+    requires { ⌜ at + numberRoom ≤ length (now out) ⌝ }
     ensures { λ r. ⌜ Appended at (ended (decimal n) end) (now (out .entry)) (now (out .exit)) r ⌝ }
-    ensures { λ r. ⌜ r ≤ at + 21 ⌝ }
+    ensures { λ r. ⌜ r ≤ at + numberRoom ⌝ }
 {
     let mut digits = [0u8; 20];
     let k = io::decimal(n, &mut digits);
@@ -30,9 +31,9 @@ pub fn put_number(out: &mut [u8], at: usize, n: u64, end: u8) -> usize
 
 // A minus for a negative number, then its size.
 pub fn put_signed(out: &mut [u8], at: usize, z: i64, end: u8) -> usize
-    requires { ⌜ at + 22 ≤ length (now out) ⌝ }
+    requires { ⌜ at + signedRoom ≤ length (now out) ⌝ }
     ensures { λ r. ⌜ Appended at (ended (signedDecimal z) end) (now (out .entry)) (now (out .exit)) r ⌝ }
-    ensures { λ r. ⌜ r ≤ at + 22 ⌝ }
+    ensures { λ r. ⌜ r ≤ at + signedRoom ⌝ }
 {
     let n = size(z);
     if z < 0 {

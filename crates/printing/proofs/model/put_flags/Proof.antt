@@ -4,18 +4,19 @@ use Prim.Native.Nat.{_-_, _≤_}
 use native.Mathlib.Omega.{arith}
 use borrow.Author.Needs.{needs}
 use Rattle.rules.specs.Print.{ascii, printLine}
+use Rattle.printing.specs.Room.{numberRoom}
 use Rattle.printing.specs.Texts.{flagText, Making, making-none, making-more}
 use Rattle.printing.proofs.model.put_flags.Statement.{statement}
 use Rattle.printing.proofs.model.put_flags.Tie as tie
 
 abbrev Inv-loop : tie.InvT-loop
-Inv-loop out₀ at model b count next₀ i₀ out next i = (i ≤ b) × Making at 21 (flagText model) out₀ out next i
+Inv-loop out₀ at model b count next₀ i₀ out next i = (i ≤ b) × Making at numberRoom (flagText model) out₀ out next i
 
 abbrev μ-loop : tie.MeasureT-loop
 μ-loop out₀ at model b count next₀ i₀ out next i = count - i
 
 loop-holds : tie.Need-loop-holds Inv-loop μ-loop
-loop-holds c = let a = c .before .before .args in (omega arith, making-none (a .at) 21 (flagText (a .model .now)) (a .out .now))
+loop-holds c = let a = c .before .before .args in (omega arith, making-none (a .at) numberRoom (flagText (a .model .now)) (a .out .now))
 
 add-u8-at : tie.Need-add-u8-at Inv-loop μ-loop
 add-u8-at c = search needs
@@ -50,7 +51,7 @@ loop-again c =
     let e = q .put-number .ensures in
     let t = rw (o .u8-at .ensures) at (e .0) in (
       omega (arith, o .before .loop-test .taken),
-      making-more (a .at) 21 (flagText (a .model .now)) (a .out .now) (l .loop .i) (omega (arith, s .pre .1)) (l .loop .inv .1)
+      making-more (a .at) numberRoom (flagText (a .model .now)) (a .out .now) (l .loop .i) (omega (arith, s .pre .1)) (l .loop .inv .1)
           (q .put-number .kept .0) t (e .1),
     )
 

@@ -8,12 +8,13 @@ use mir.Val.{SFits}
 use mir.Facts.{toZ-ofZ}
 use Rattle.rules_types.specs.Layout as layout
 use Rattle.rules.specs.Bytes.{fromUnsigned, fieldAt}
+use Rattle.printing.specs.Room.{rationalRoom}
 use Rattle.printing.specs.Texts.{numeratorText, Making, making-none, making-more}
 use Rattle.printing.proofs.model.put_numerators.Statement.{statement}
 use Rattle.printing.proofs.model.put_numerators.Tie as tie
 
 abbrev Inv-loop : tie.InvT-loop
-Inv-loop out₀ at model b r denominator numerators count next₀ i₀ out next i = (i ≤ r) × Making at 43 (numeratorText model b) out₀ out next i
+Inv-loop out₀ at model b r denominator numerators count next₀ i₀ out next i = (i ≤ r) × Making at rationalRoom (numeratorText model b) out₀ out next i
 
 abbrev μ-loop : tie.MeasureT-loop
 μ-loop out₀ at model b r denominator numerators count next₀ i₀ out next i = count - i
@@ -29,7 +30,7 @@ model-numerators-requires c κs = search needs
 
 loop-holds : tie.Need-loop-holds Inv-loop μ-loop
 loop-holds c = let a = c .before .before .before .before .before .args in
-    (omega arith, making-none (a .at) 43 (numeratorText (a .model .now) (a .b)) (a .out .now))
+    (omega arith, making-none (a .at) rationalRoom (numeratorText (a .model .now) (a .b)) (a .out .now))
 
 mul-amount-at : tie.Need-mul-amount-at Inv-loop μ-loop
 mul-amount-at c = search needs
@@ -70,7 +71,7 @@ loop-again c =
     let f : SFits w64 (o .amount-at .result) = record { sfits = o .amount-at .ok } in
     let t = rw (toZ-ofZ f, y, z) at (e .0) in (
       omega (arith, o .before .loop-test .taken),
-      making-more (a .at) 43 (numeratorText (a .model .now) (a .b)) (a .out .now) (l .loop .i) (omega (arith, s .pre .1))
+      making-more (a .at) rationalRoom (numeratorText (a .model .now) (a .b)) (a .out .now) (l .loop .i) (omega (arith, s .pre .1))
           (l .loop .inv .1) (q .put-rational .kept .0) t (e .1),
     )
 

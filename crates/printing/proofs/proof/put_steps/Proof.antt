@@ -3,18 +3,19 @@ use mathlib.Core.Path.{_≡_}
 use Prim.Native.Nat.{_-_, _≤_}
 use native.Mathlib.Omega.{arith}
 use borrow.Author.Needs.{needs}
+use Rattle.printing.specs.Room.{stepRoom}
 use Rattle.printing.specs.Texts.{stepText, Making, making-none, making-more}
 use Rattle.printing.proofs.proof.put_steps.Statement.{statement}
 use Rattle.printing.proofs.proof.put_steps.Tie as tie
 
 abbrev Inv-loop : tie.InvT-loop
-Inv-loop out₀ at proof n next₀ i₀ out next i = (i ≤ n) × Making at 84 (stepText proof) out₀ out next i
+Inv-loop out₀ at proof n next₀ i₀ out next i = (i ≤ n) × Making at stepRoom (stepText proof) out₀ out next i
 
 abbrev μ-loop : tie.MeasureT-loop
 μ-loop out₀ at proof n next₀ i₀ out next i = n - i
 
 loop-holds : tie.Need-loop-holds Inv-loop μ-loop
-loop-holds c = let a = c .before .before .args in (omega arith, making-none (a .at) 84 (stepText (a .proof .now)) (a .out .now))
+loop-holds c = let a = c .before .before .args in (omega arith, making-none (a .at) stepRoom (stepText (a .proof .now)) (a .out .now))
 
 origin-at-requires : tie.Need-origin-at-requires Inv-loop μ-loop
 origin-at-requires c κs = search needs
@@ -42,7 +43,7 @@ loop-again c =
     let e = q .put-origin .ensures in
     let t = rw (o .origin-at .ensures) at (e .0) in (
       omega (arith, o .before .loop-test .taken),
-      making-more (a .at) 84 (stepText (a .proof .now)) (a .out .now) (l .loop .i) (omega (arith, s .pre .1)) (l .loop .inv .1)
+      making-more (a .at) stepRoom (stepText (a .proof .now)) (a .out .now) (l .loop .i) (omega (arith, s .pre .1)) (l .loop .inv .1)
           (q .put-origin .kept .0) t (e .1),
     )
 

@@ -29,7 +29,7 @@ same-length : tie.Need-same-length
 same-length c =
     let p = c .before .before in
     let a = p .before .before .before .before .before .args in
-    p .put-number .kept .0 ∙ length-set (a .out .now) (a .at) 45
+    p .put-number .kept .0 ∙ length-set (a .out .now) (a .at) _
 
 returns : tie.Need-returns
 returns c =
