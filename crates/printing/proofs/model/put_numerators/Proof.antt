@@ -14,7 +14,8 @@ use Rattle.printing.proofs.model.put_numerators.Statement.{statement}
 use Rattle.printing.proofs.model.put_numerators.Tie as tie
 
 abbrev Inv-loop : tie.InvT-loop
-Inv-loop out₀ at model b r denominator numerators count next₀ i₀ out next i = (i ≤ r) × Making at rationalRoom (numeratorText model b) out₀ out next i
+Inv-loop out₀ at model b r denominator numerators count next₀ i₀ out next i =
+    (i ≤ r) × Making at rationalRoom (numeratorText model b) out₀ out next i
 
 abbrev μ-loop : tie.MeasureT-loop
 μ-loop out₀ at model b r denominator numerators count next₀ i₀ out next i = count - i
