@@ -26,6 +26,7 @@ use Rattle.rules.specs.Print.{ascii, decimal, printLine, printModel, printProof
 use Rattle.theory_lists.specs.All.{All, all-map, all-both}
 use Rattle.theory_resolution.specs.Formed.{Formed}
 use Rattle.theory_bytes.specs.Steps.{proof-length, take-proof}
+use Rattle.theory_splitting.specs.Lent.{lent-full}
 use Rattle.theory_splitting.specs.Reading.{read-well-formed}
 use Rattle.theory_splitting.specs.WellFormed.{WellFormed}
 use Rattle.theory_elimination.specs.WithinLimits.{limited-held}
@@ -66,16 +67,15 @@ module _ (p : Problem) (w : WellFormed p) where
   concluded-sane (ended overflow steps pairs) n h = tt
   concluded-sane (ended outOfSteps steps pairs) n h = tt
 
-numbered : (q : List ℕ) (p : Problem) → read q ≡ sound p → (stops : Limits) → stops .steps ≤ limit.mostSteps
-    → All Numbered (stepsOf (elimination (limited stops) p))
+numbered : (p : Problem) → WellFormed p → (limits : Limits) → limits .steps ≤ limit.mostSteps
+    → All Numbered (stepsOf (elimination (limited limits) p))
 unfolding elimination
-numbered q p e limits h =
-    let w = read-well-formed q p e in
+numbered p w limits h =
     let steps = stepsOf (elimination (limited limits) p) in
     all-map (λ s. Sound (s .line) × Fits s) Numbered steps
     (λ s k. record { formed = k .0 .formed; first = k .1 .first; second = k .1 .second })
     (all-both (λ s. Sound (s .line)) Fits steps (elimination-sound p w (limited limits) order)
-    (elimination-fits q p e w (limited limits) (omega (arith, limited-held limits order (loadableOf p)))))
+    (elimination-fits p w (limited limits) (omega (arith, limited-held limits order (loadableOf p)))))
 
 outcome-sane : (q : List ℕ) → SaneOutcome (outcome limit.standard q)
 unfolding outcome elimination
@@ -85,7 +85,7 @@ outcome-sane q = by (read q) refl
     by (faulty f place) e = rw (e, outcome) tt
     by (sound p) e =
         rw (e, outcome) (concluded-sane p (read-well-formed q p e) (elimination (limited limit.standard) p)
-        (limited-held limit.standard order (loadableOf p)) (numbered q p e limit.standard (omega arith)))
+        (limited-held limit.standard order (loadableOf p)) (numbered p (read-well-formed q p e) limit.standard (omega arith)))
 
 -- ---- what is handed back
 module _ (n : ℕ) (proof model : List ℕ) (l : length proof ≡ limit.proofBytes limit.standard) (m : length model ≡ limit.modelBytes)
@@ -147,12 +147,7 @@ module _ (proof model : List ℕ) where
   -- solving with buffers of full size
   module _ (q : List ℕ) (l : length proof ≡ limit.proofBytes limit.standard) (m : length model ≡ limit.modelBytes) where
     lent-whole : lent limit.standard q proof model ≡ outcome limit.standard q
-    unfolding lent
-    lent-whole = rw (
-      le-ltb (length proof) (limit.proofBytes limit.standard) (omega arith),
-      lent,
-      le-ltb (length model) limit.modelBytes (omega arith),
-    )
+    lent-whole = lent-full limit.standard q proof model (omega arith) (omega arith)
 
     printed-is : printedOf (outcome limit.standard q) ≡ printed limit.standard q
     unfolding printed

@@ -88,6 +88,7 @@ problem-yields =
     end-yields FormedBut _ (λ s. record {
       booleans = leb→le b limit.booleans h;
       rationals = leb→le r limit.rationals k;
+      few = omega (arith, e, leb→le n limit.clauses u);
       clauses = c;
       splits = s;
     })))))

@@ -30,5 +30,6 @@ splitsIn (c ∷ cs) = splitsOf c + splitsIn cs
 pub record WellFormed (p : Problem) : Type 0 where
   pub booleans : p .booleans ≤ limit.booleans
   pub rationals : p .rationals ≤ limit.rationals
+  pub few : length (p .clauses) ≤ limit.clauses
   pub clauses : All (WellFormedClause (p .booleans) (p .rationals)) (p .clauses)
   pub splits : splitsIn (p .clauses) ≤ limit.splits
