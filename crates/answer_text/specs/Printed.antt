@@ -39,23 +39,23 @@ use Rattle.answer_text.specs.Written.{written-printable}
 use Rattle.answer_text.specs.Answers.{satisfiableText, unsatisfiableText, solvedText, Ready}
 
 -- ---- what is known of an outcome
-abbrev Sane : Verdict → List Step → List ℕ → Type 0
-Sane Satisfiable steps bytes = Printable bytes
-Sane Unsatisfiable steps bytes = All Numbered steps
-Sane Unwritten steps bytes = Unit {0}
+abbrev PrintableVerdict : Verdict → List Step → List ℕ → Type 0
+PrintableVerdict Satisfiable steps bytes = Printable bytes
+PrintableVerdict Unsatisfiable steps bytes = All Numbered steps
+PrintableVerdict Unwritten steps bytes = Unit {0}
 
-abbrev SaneOutcome : Outcome → Type 0
-SaneOutcome (faulted f place) = Unit {0}
-SaneOutcome (stopped f steps pairs) = Unit {0}
-SaneOutcome (decided v steps pairs bytes) = (length steps ≤ limit.steps) × Sane v steps bytes
+abbrev PrintableOutcome : Outcome → Type 0
+PrintableOutcome (faulted f place) = Unit {0}
+PrintableOutcome (stopped f steps pairs) = Unit {0}
+PrintableOutcome (decided v steps pairs bytes) = (length steps ≤ limit.steps) × PrintableVerdict v steps bytes
 
 module _ (p : Problem) (w : WellFormed p) where
-  concluded-sane : (s : State) → length (stepsOf s) ≤ limit.steps → All Numbered (stepsOf s) → SaneOutcome (concluded p s)
+  concluded-printable : (s : State) → length (stepsOf s) ≤ limit.steps → All Numbered (stepsOf s) → PrintableOutcome (concluded p s)
   unfolding concluded stepsOf
-  concluded-sane (running steps pairs) n h = by (written (p .booleans) (p .rationals) (walk order (map (λ s. s .line) steps))) refl
+  concluded-printable (running steps pairs) n h = by (written (p .booleans) (p .rationals) (walk order (map (λ s. s .line) steps))) refl
     where
       by : (o : Option (List ℕ)) → written (p .booleans) (p .rationals) (walk order (map (λ s. s .line) steps)) ≡ o
-          → SaneOutcome (concluded p (running steps pairs))
+          → PrintableOutcome (concluded p (running steps pairs))
       by none e = rw (e, concluded) (n, tt)
       by (some bytes) e =
           rw (e, concluded) (
@@ -63,9 +63,9 @@ module _ (p : Problem) (w : WellFormed p) where
             written-printable (p .booleans) (p .rationals) (walk order (map (λ s. s .line) steps)) bytes (w .booleans)
                 (w .rationals) e,
           )
-  concluded-sane (ended empty steps pairs) n h = (n, h)
-  concluded-sane (ended overflow steps pairs) n h = tt
-  concluded-sane (ended outOfSteps steps pairs) n h = tt
+  concluded-printable (ended empty steps pairs) n h = (n, h)
+  concluded-printable (ended overflow steps pairs) n h = tt
+  concluded-printable (ended outOfSteps steps pairs) n h = tt
 
 numbered : (p : Problem) → WellFormed p → (limits : Limits) → limits .steps ≤ limit.mostSteps
     → All Numbered (stepsOf (elimination (limited limits) p))
@@ -77,14 +77,14 @@ numbered p w limits h =
     (all-both (λ s. Sound (s .line)) Fits steps (elimination-sound p w (limited limits) order)
     (elimination-fits p w (limited limits) (omega (arith, limited-held limits order (loadableOf p)))))
 
-outcome-sane : (q : List ℕ) → SaneOutcome (outcome limit.standard q)
+outcome-printable : (q : List ℕ) → PrintableOutcome (outcome limit.standard q)
 unfolding outcome elimination
-outcome-sane q = by (read q) refl
+outcome-printable q = by (read q) refl
   where
-    by : (r : Reading) → read q ≡ r → SaneOutcome (outcome limit.standard q)
+    by : (r : Reading) → read q ≡ r → PrintableOutcome (outcome limit.standard q)
     by (faulty f place) e = rw (e, outcome) tt
     by (sound p) e =
-        rw (e, outcome) (concluded-sane p (read-well-formed q p e) (elimination (limited limit.standard) p)
+        rw (e, outcome) (concluded-printable p (read-well-formed q p e) (elimination (limited limit.standard) p)
         (limited-held limit.standard order (loadableOf p)) (numbered p (read-well-formed q p e) limit.standard (omega arith)))
 
 -- ---- what is handed back
@@ -115,14 +115,15 @@ printedOf (decided Unsatisfiable steps pairs bytes) =
     printLine (ascii "cannot") (map decimal (length steps ∷ pairs ∷ [])) ++ printProof steps
 printedOf (decided Unwritten steps pairs bytes) = printLine (ascii "unwritten") (map decimal (length steps ∷ pairs ∷ []))
 
-pub record Told (text : List ℕ) (said : Solved) (proof model : List ℕ) : Type 0 where
+-- what solving said and left can be printed, and its text is this
+pub record TextOf (text : List ℕ) (said : Solved) (proof model : List ℕ) : Type 0 where
   pub ready : Ready said proof model
   pub is : solvedText said proof model ≡ text
 
 module _ (proof model : List ℕ) where
-  outcome-told : (o : Outcome) → SaneOutcome o → length (proofAfter limit.standard o proof) ≡ limit.proofBytes limit.standard
+  outcome-told : (o : Outcome) → PrintableOutcome o → length (proofAfter limit.standard o proof) ≡ limit.proofBytes limit.standard
       → length (modelAfter o model) ≡ limit.modelBytes
-      → Told (printedOf o) (said o) (proofAfter limit.standard o proof) (modelAfter o model)
+      → TextOf (printedOf o) (said o) (proofAfter limit.standard o proof) (modelAfter o model)
   unfolding said proofAfter modelAfter
   outcome-told (faulted f place) s l m = record { ready = tt; is = refl }
   outcome-told (stopped f steps pairs) s l m = record { ready = tt; is = refl }
@@ -151,35 +152,25 @@ module _ (proof model : List ℕ) where
 
     printed-is : printedOf (outcome limit.standard q) ≡ printed limit.standard q
     unfolding printed
-    printed-is = by (outcome limit.standard q)
+    printed-is = by (outcome limit.standard q) refl
       where
-        by : (o : Outcome) → printedOf o ≡ elim o [
-          | faulted f place ↦ printRefusal f place 0
-          | stopped f steps pairs ↦ printRefusal f steps pairs
-          | decided v steps pairs bytes ↦
-              let counts = map decimal (length steps ∷ pairs ∷ []) in
-              elim v [
-                | Satisfiable ↦ printLine (ascii "agrees") counts ++ printModel bytes
-                | Unsatisfiable ↦ printLine (ascii "cannot") counts ++ printProof steps
-                | Unwritten ↦ printLine (ascii "unwritten") counts
-              ]
-        ]
-        by (faulted f place) = refl
-        by (stopped f steps pairs) = refl
-        by (decided Satisfiable steps pairs bytes) = refl
-        by (decided Unsatisfiable steps pairs bytes) = refl
-        by (decided Unwritten steps pairs bytes) = refl
+        by : (o : Outcome) → outcome limit.standard q ≡ o → printedOf (outcome limit.standard q) ≡ printed limit.standard q
+        by (faulted f place) e = rw (e, printed)
+        by (stopped f steps pairs) e = rw (e, printed)
+        by (decided Satisfiable steps pairs bytes) e = rw (e, printed)
+        by (decided Unsatisfiable steps pairs bytes) e = rw (e, printed)
+        by (decided Unwritten steps pairs bytes) e = rw (e, printed)
 
     pub solved-told : (s : Solved) (after filled : List ℕ) → s ≡ solve limit.standard q proof model .solved
         → after ≡ solve limit.standard q proof model .proof
         → filled ≡ solve limit.standard q proof model .model
         → length after ≡ limit.proofBytes limit.standard
         → length filled ≡ limit.modelBytes
-        → Told (printed limit.standard q) s after filled
+        → TextOf (printed limit.standard q) s after filled
     unfolding solve
     solved-told s after filled e f g lp lm =
         let o = outcome limit.standard q in
         let e′ : s ≡ said o = e ∙ ap said lent-whole in
         let f′ : after ≡ proofAfter limit.standard o proof = f ∙ ap (λ o. proofAfter limit.standard o proof) lent-whole in
         let g′ : filled ≡ modelAfter o model = g ∙ ap (λ o. modelAfter o model) lent-whole in
-        rw (e′, f′, g′, ← printed-is) (outcome-told o (outcome-sane q) (rw f′ at lp) (rw g′ at lm))
+        rw (e′, f′, g′, ← printed-is) (outcome-told o (outcome-printable q) (rw f′ at lp) (rw g′ at lm))

@@ -8,12 +8,12 @@ use lib.Seq.{length-take-le}
 use Rattle.rules_types.specs.Limits.{modelBytes, proofBytes, standard}
 use Rattle.rules.specs.Print.{printed}
 use Rattle.printing.specs.Appended.{taken, within}
-use Rattle.answer_text.specs.Printed.{Told, solved-told}
+use Rattle.answer_text.specs.Printed.{TextOf, solved-told}
 use Rattle.answer_text.proofs.answer.answer_text.Statement.{statement}
 use Rattle.answer_text.proofs.answer.answer_text.Tie as tie
 
 told : (b : tie.After-solve)
-    → Told (printed standard (b .before .before .before .before .args .input .now)) (b .solve .result) (b .solve .last .1 .0)
+    → TextOf (printed standard (b .before .before .before .before .args .input .now)) (b .solve .result) (b .solve .last .1 .0)
     (b .solve .last .1 .1 .0)
 told b =
     let s = b .before .before .before .before in
