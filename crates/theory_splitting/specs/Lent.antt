@@ -23,7 +23,7 @@ module _ (limits : Limits) (input proof model : List ℕ) where
     lent-short-model k = rw (le-ltb (length proof) (limit.proofBytes limits) h, lent, lt-ltb (length model) limit.modelBytes k)
 
     module _ (k : limit.modelBytes ≤ length model) where
-      lent-full : lent limits input proof model ≡ outcome limits input
+      pub lent-full : lent limits input proof model ≡ outcome limits input
       unfolding lent
       lent-full = rw (le-ltb (length proof) (limit.proofBytes limits) h, lent, le-ltb (length model) limit.modelBytes k)
 

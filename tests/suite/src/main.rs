@@ -1,6 +1,6 @@
 //! The test program: runs the second solver and the proved code on the examples of document 01, on
-//! the vectors, on random problems and on damaged parts, and compares the two. One line for each
-//! group; the last line is the sum.
+//! the vectors, on random problems and on damaged parts, compares the two, and what the program
+//! prints with the second solver. One line for each group; the last line is the sum.
 
 mod arbitrary;
 mod buffers;
@@ -10,6 +10,7 @@ mod damage;
 mod examples;
 mod integers;
 mod lengths;
+mod program;
 mod reading;
 mod report;
 mod solver;
@@ -34,6 +35,7 @@ fn main() -> ExitCode {
     reading::run(&mut sums);
     checks::run(&mut sums);
     solving::run(&mut sums);
+    program::run(&mut sums);
     println!("{} passed, {} failed", sums.passed, sums.failed);
     match sums.failed {
         0 => ExitCode::SUCCESS,

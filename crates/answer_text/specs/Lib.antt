@@ -1,0 +1,4 @@
+pub mod Answers
+pub mod Encoded
+pub mod Written
+pub mod Printed

@@ -1,0 +1,4 @@
+pub mod Appended
+pub mod Decimals
+pub mod Room
+pub mod Texts
