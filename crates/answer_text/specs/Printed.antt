@@ -24,6 +24,7 @@ use Rattle.rules.specs.Calls.{Reading, faulty, sound, read, Outcome, faulted, s
 use Rattle.rules.specs.Calls.{lent, said, proofAfter, modelAfter, solve, evidenceBytes}
 use Rattle.rules.specs.Print.{ascii, decimal, printLine, printModel, printProof, printRefusal, printed}
 use Rattle.theory_lists.specs.All.{All, all-map}
+use Rattle.theory_resolution.specs.Formed.{Formed}
 use Rattle.theory_bytes.specs.Steps.{proof-length, take-proof}
 use Rattle.theory_layout.specs.Steps.{Writable}
 use Rattle.theory_splitting.specs.Lent.{lent-full}
