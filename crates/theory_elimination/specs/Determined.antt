@@ -27,13 +27,13 @@ use Rattle.theory_elimination.specs.OneLoop.{one, run, run-ended, run-ap
 
 module _ (stops : Stops) where
   -- ---- the loop over candidates comes to one state
-  pass-one : (x : Candidate) (held : List Step) (n : ℕ) → Passed stops held (x ∷ []) → one stops x held n
-      ≡ running (keep held (x ∷ [])) (n + pairs (x ∷ []))
+  pass-one : (x : Candidate) (held : List Step) (n : ℕ) → Passed stops held (x ∷ [])
+      → one stops x held n ≡ running (keep held (x ∷ [])) (n + pairs (x ∷ []))
   unfolding one keep pairs add placed keepOne
   pass-one (part s) held n h = by (covered (s .line) held) (stops .atSteps (length held)) (isEmpty (s .line)) (h .0)
     where
-      by : (known many blank : Bool) → (T (not known) → T (not many) × T (not blank)) → placed false known many blank s held n
-          ≡ running (elim known [ true ↦ held | false ↦ held ++ (s ∷ []) ]) (n + 0)
+      by : (known many blank : Bool) → (T (not known) → T (not many) × T (not blank))
+          → placed false known many blank s held n ≡ running (elim known [ true ↦ held | false ↦ held ++ (s ∷ []) ]) (n + 0)
       by true many blank g = ap (running held) (omega arith)
       by false true blank g = absurd (g tt .0)
       by false false true g = absurd (g tt .1)
@@ -50,8 +50,8 @@ module _ (stops : Stops) where
       by false false false false w g = ap (running (held ++ (s ∷ []))) (omega arith)
   pass-one dropped held n h = ap (running held) (omega arith)
 
-  pass-all : (xs : List Candidate) (held : List Step) (n : ℕ) → Passed stops held xs → run stops xs (running held n)
-      ≡ running (keep held xs) (n + pairs xs)
+  pass-all : (xs : List Candidate) (held : List Step) (n : ℕ) → Passed stops held xs
+      → run stops xs (running held n) ≡ running (keep held xs) (n + pairs xs)
   unfolding run keep pairs
   pass-all [] held n h = ap (running held) (omega arith)
   pass-all (part s ∷ xs) held n h =
@@ -63,20 +63,19 @@ module _ (stops : Stops) where
   pass-all (dropped ∷ xs) held n h = ap (run stops xs) (pass-one dropped held n tt) ∙ pass-all xs held (n + 1) h
       ∙ ap (running (keep held xs)) (omega arith)
 
-  stop-one : (e : End) (x : Candidate) (held : List Step) (n : ℕ) → Stopped stops e held x → one stops x held n
-      ≡ ended e (proofAt stops e held x) (n + pairs (x ∷ []))
+  stop-one : (e : End) (x : Candidate) (held : List Step) (n : ℕ) → Stopped stops e held x
+      → one stops x held n ≡ ended e (proofAt stops e held x) (n + pairs (x ∷ []))
   unfolding one keep pairs add placed keepOne
   stop-one e dropped held n h = absurd h
   stop-one overflow (part s) held n h = absurd h
-  stop-one outOfSteps (part s) held n h = rw
-      (is-false (covered (s .line) held) (h .0), is-true (stops .atSteps (length held)) (h .1), placed)
+  stop-one outOfSteps (part s) held n h =
+      rw (is-false (covered (s .line) held) (h .0), is-true (stops .atSteps (length held)) (h .1), placed)
       (ap (ended outOfSteps held) (omega arith))
   stop-one empty (part s) held n h =
       rw (
         is-false (covered (s .line) held) (h .0),
         is-false (stops .atSteps (length held)) (h .1),
-        is-true (isEmpty (s .line))
-            (h .2),
+        is-true (isEmpty (s .line)) (h .2),
         placed,
         keepOne,
       ) (ap (ended empty (held ++ (s ∷ []))) (omega arith))
@@ -85,16 +84,14 @@ module _ (stops : Stops) where
       rw (
         is-false (stops .atLine (s .line)) (h .0),
         is-false (covered (s .line) held) (h .1 .0),
-        is-true (stops .atSteps (length held))
-            (h .1 .1),
+        is-true (stops .atSteps (length held)) (h .1 .1),
         placed,
       ) (ap (ended outOfSteps held) (omega arith))
   stop-one empty (result s) held n h =
       rw (
         is-false (stops .atLine (s .line)) (h .0),
         is-false (covered (s .line) held) (h .1 .0),
-        is-false (stops .atSteps (length held))
-            (h .1 .1),
+        is-false (stops .atSteps (length held)) (h .1 .1),
         is-true (isEmpty (s .line)) (h .1 .2),
         placed,
         keepOne,
@@ -107,8 +104,8 @@ module _ (stops : Stops) where
   pairs-append (result s ∷ xs) ys = omega (arith, pairs-append xs ys)
   pairs-append (dropped ∷ xs) ys = omega (arith, pairs-append xs ys)
 
-  determined : (xs : List Candidate) (held : List Step) (n : ℕ) (state : State) → Takes stops xs held n state → state
-      ≡ run stops xs (running held n)
+  determined : (xs : List Candidate) (held : List Step) (n : ℕ) (state : State) → Takes stops xs held n state
+      → state ≡ run stops xs (running held n)
   unfolding run
   determined xs held n (running steps m) h = (λ i. running (h .proof i) (h .count i)) ∙ sym (pass-all xs held n (h .passed))
   determined xs held n (ended e steps m) h =
@@ -122,8 +119,8 @@ module _ (stops : Stops) where
       ∙ sym (run-append stops (h .done) (h .last ∷ h .rest) (running held n))
       ∙ ap (λ (ys : List Candidate). run stops ys (running held n)) (sym (h .split))
     where
-      at-running : (x : Candidate) (xs : List Candidate) (held : List Step) (n : ℕ) → run stops xs (one stops x held n)
-          ≡ run stops (x ∷ xs) (running held n)
+      at-running : (x : Candidate) (xs : List Candidate) (held : List Step) (n : ℕ)
+          → run stops xs (one stops x held n) ≡ run stops (x ∷ xs) (running held n)
       at-running x xs held n = refl
 
   -- ---- the lines that a round adds belong to later rounds, whatever proof its pairs are taken from
@@ -161,8 +158,7 @@ module _ (stops : Stops) where
     pairs-late t v a [] h = tt
     pairs-late t v a (p ∷ ps) h = (
       result-late t v p (resolve v (p .upper .line) (p .lower .line)) (pair-later variables t v a S p (h .0)),
-      pairs-late t v a ps
-          (h .1),
+      pairs-late t v a ps (h .1),
     )
 
     weaker : (t : ℕ) (x : Candidate) → Of (Late variables (suc t)) x → Of (Late variables t) x
@@ -179,8 +175,8 @@ module _ (stops : Stops) where
         (all-map (Of (Late variables (suc t))) (Of (Late variables t)) (resultsFrom variables (suc t) vs S) (weaker t)
         (results-late (suc t) vs (drop-next variables t v vs e)))
 
-    rounds-only : (t : ℕ) (vs : List Variable) (steps : List Step) (n : ℕ) → drop t variables ≡ vs → S
-        ≡ stepsOf (run stops (resultsFrom variables t vs S) (running steps n))
+    rounds-only : (t : ℕ) (vs : List Variable) (steps : List Step) (n : ℕ) → drop t variables ≡ vs
+        → S ≡ stepsOf (run stops (resultsFrom variables t vs S) (running steps n))
         → run stops (resultsFrom variables t vs S) (running steps n) ≡ rounds stops variables t vs (running steps n)
     unfolding rounds resultsFrom run
     rounds-only t [] steps n e h = refl
