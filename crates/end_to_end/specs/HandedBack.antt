@@ -16,7 +16,6 @@ use Rattle.rules_types.specs.Limits as limit
 use Rattle.rules_types.specs.Limits.{standard}
 use Rattle.rules_types.specs.Answers.{verdictNumber, answerNumber, answerValue}
 use Rattle.rules.specs.Calls.{Solving, proofChecked, modelChecked}
-use Rattle.theory_bytes.specs.Bytes.{AllBytes}
 use Rattle.theory_layout.specs.Fields.{take-bytes}
 use Rattle.theory_checks.specs.ProofChecked.{CheckedProof, checked-proof}
 use Rattle.theory_checks.specs.ModelChecked.{CheckedModel, model-checked-satisfies}
@@ -37,7 +36,7 @@ pub record Handed (input : List ℕ) (told : SolvedTold) (proof model : List ℕ
       → (t .value ≡ 0) ⊎ ((check : Told) → BookChecked input (take (t .value) proof) check → check .number ≡ 67)
 
 module _ {input lentProof lentModel : List ℕ} {told : SolvedTold} {proof model : List ℕ}
-    (d : Delivered input lentProof lentModel told proof model) (are : AllBytes proof) where
+    (d : Delivered input lentProof lentModel told proof model) where
   abbrev ours : Solving
   ours = d .ours
 
@@ -73,7 +72,7 @@ module _ {input lentProof lentModel : List ℕ} {told : SolvedTold} {proof model
             let a = subst (λ (s : List ℕ). proofChecked standard input (take n s) ≡ Accepted) (sym (d .leavesProof)) b in
             let c : CheckedProof input (take n proof) = checked-proof standard input (take n proof) a in
             k .tells .accepted .1 (k .checks .accepted (c .problem) (c .reads) .1
-            (d .second (c .problem) (c .reads) .proof standard (omega arith) (take n proof) (take-bytes n proof are) .0 a))
+            (d .second (c .problem) (c .reads) .proof standard (omega arith) (take n proof) (take-bytes n proof (d .bytesLeft .0)) .0 a))
 
     pub handed : Handed input told proof model t
     handed =

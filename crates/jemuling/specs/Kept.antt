@@ -41,13 +41,15 @@ unfolding evidenceTold
 part-tells e = record { ofProof = of-proof-exactly e; ofModel = of-model-exactly e }
 
 -- ---- the calls
-pub delivered : (input lentProof lentModel : List ℕ) (told : SolvedTold) (proof model : List ℕ) → AllBytes input
-    → told ≡ solvedTold (solve standard input lentProof lentModel .solved) → proof ≡ solve standard input lentProof lentModel .proof
+pub delivered : (input lentProof lentModel : List ℕ) (told : SolvedTold) (proof model : List ℕ) → AllBytes input → AllBytes proof
+    → AllBytes model → told ≡ solvedTold (solve standard input lentProof lentModel .solved)
+    → proof ≡ solve standard input lentProof lentModel .proof
     → model ≡ solve standard input lentProof lentModel .model → Delivered input lentProof lentModel told proof model
-delivered input lentProof lentModel told proof model are t b s =
+delivered input lentProof lentModel told proof model are lines sheet t b s =
     let ours = solve standard input lentProof lentModel in
     record {
       bytes = are;
+      bytesLeft = (lines, sheet);
       ours = ours;
       tells = subst (λ (x : SolvedTold). TellsSolved x (ours .solved)) (sym t) (solved-tells (ours .solved));
       leavesProof = b;

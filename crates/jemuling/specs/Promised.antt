@@ -45,6 +45,7 @@ pub record TellsPart (told : Told) (part : Evidence) : Type 0 where
 -- `jemuling_solve`: `lentProof` and `lentModel` are the buffers before it, `proof` and `model` what it left in them
 pub record Delivered (input lentProof lentModel : List ℕ) (told : SolvedTold) (proof model : List ℕ) : Type 0 where
   pub bytes : AllBytes input
+  pub bytesLeft : AllBytes proof × AllBytes model
   pub ours : Solving
   pub tells : TellsSolved told (ours .solved)
   pub leavesProof : proof ≡ ours .proof

@@ -1,4 +1,4 @@
--- Answers as numbers: the number and the value of every case, as types/Answers states them.
+-- Answers as numbers: the number and the value of every case, as rules_types/Answers states them.
 use Prim.Native.Nat.{ℕ}
 use Rattle.rules_types.specs.declared.answers.Refusal.{Refusal}
 use Rattle.rules_types.specs.declared.answers.Answer.{Answer}

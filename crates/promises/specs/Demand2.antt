@@ -2,15 +2,16 @@
 use mathlib.Core.Path.{_≡_}
 use mathlib.Core.Logic.{_↔_}
 use mathlib.Core.List.{List, []}
-use Prim.Native.Nat.{ℕ, _≤_}
+use Prim.Native.Nat.{ℕ, _-_, _≤_}
 use lib.Dec.{T}
 use lib.ListN.{length}
 use Rattle.rules_types.specs.declared.answers.Checked.the-variants.{Accepted}
 use Rattle.rules_types.specs.declared.limits.Limits.{Limits}
 use Rattle.rules_types.specs.Limits as limit
 use Rattle.rules_types.specs.Answers.{answerNumber, answerValue}
-use Rattle.rules.specs.Problem.{Problem}
+use Rattle.rules.specs.Problem.{Clause, Problem}
 use Rattle.rules.specs.Lines.{Line, Variable}
+use Rattle.rules.specs.Split.{partsOf, splitsOf}
 use Rattle.rules.specs.Steps.{Step}
 use Rattle.rules.specs.Elimination.{Stops, State, order, covered, roundPairs, loadableOf, elimination}
 use Rattle.rules.specs.Needs.{stepsOf}
@@ -18,7 +19,8 @@ use Rattle.rules.specs.Calls.{sound, read, solve, proofChecked, modelChecked, e
 use Rattle.theory_lists.specs.All.{All, Any}
 use Rattle.theory_saturation.specs.Equal.{covered-exactly}
 use Rattle.theory_bytes.specs.Bytes.{AllBytes}
-use Rattle.theory_splitting.specs.Named.{PartAmong, loadable-parts}
+use Rattle.theory_splitting.specs.EveryPart.{EveryPart, every-part}
+use Rattle.theory_splitting.specs.Count.{splits-number}
 use Rattle.theory_splitting.specs.Reading.{read-well-formed}
 use Rattle.theory_elimination.specs.Sound.{Sound}
 use Rattle.theory_elimination.specs.Origins.{Each, Justified, Fresh}
@@ -27,7 +29,7 @@ use Rattle.theory_elimination.specs.Exactly.{Exactly}
 use Rattle.theory_elimination.specs.Loaded.{AllLoaded}
 use Rattle.promises.specs.Words.{WholeLines, Refutes, WritesAssignment}
 use Rattle.promises.specs.Elimination.{elimination-lines, elimination-distinct, elimination-is, elimination-only, elimination-parts}
-use Rattle.promises.specs.Elimination.{elimination-tidied}
+use Rattle.promises.specs.Elimination.{elimination-normalized}
 use Rattle.promises.specs.Checked.{model-exactly}
 use Rattle.promises.specs.Whole.{accepted-lines}
 use Rattle.promises.specs.Handing.{hands}
@@ -38,11 +40,12 @@ use Rattle.promises.specs.Demand3.{demand3}
 pub record Demand2 (input : List ℕ) (p : Problem) : Type 0 where
   -- "Our book is the course of the published Davis-Putnam and Fourier-Motzkin rules as 01 sets it out: each line is the clause or
   -- resolvent it names,": a part, the one that it names, or the resolvent of two earlier lines of its round; no two are equal,
-  -- and all are tidied: no mark in both signs, no constant condition, no common divisor
+  -- and all are normalized: no Boolean variable in both signs, no constant constraint, no common divisor
   pub lines : (stops : Stops) → Each (Justified order (loadableOf p)) [] (stepsOf (elimination stops p))
-  pub parts : All (PartAmong 0 (p .booleans) (p .clauses)) (loadableOf p)
+  pub parts : EveryPart p (loadableOf p)
+  pub splits : (k : ℕ) (c : Clause) → splitsOf c ≡ length (partsOf k c) - 1
   pub distinct : (stops : Stops) → Each Fresh [] (stepsOf (elimination stops p))
-  pub tidied : (stops : Stops) → All (λ s. Sound (s .line)) (stepsOf (elimination stops p))
+  pub normalized : (stops : Stops) → All (λ s. Sound (s .line)) (stepsOf (elimination stops p))
   -- "and none is left out.": the lines are exactly the parts and resolvents in 01's order, without those that normalizing drops or an
   -- earlier one equals, up to the one that ended it; the pairs are the resolvents counted; and no other proof is that
   pub exactly : (stops : Stops) → Exactly stops order (loadableOf p) (elimination stops p)
@@ -59,9 +62,10 @@ pub record Demand2 (input : List ℕ) (p : Problem) : Type 0 where
 pub demand2 : (input : List ℕ) (p : Problem) → read input ≡ sound p → Demand2 input p
 demand2 input p e = record {
   lines = elimination-lines p;
-  parts = loadable-parts p;
+  parts = every-part p;
+  splits = splits-number;
   distinct = elimination-distinct p;
-  tidied = λ stops. elimination-tidied p stops (read-well-formed input p e);
+  normalized = λ stops. elimination-normalized p stops (read-well-formed input p e);
   exactly = elimination-is p;
   only = elimination-only p;
   inOrder = round-in-order order;

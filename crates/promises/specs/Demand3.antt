@@ -2,10 +2,12 @@
 -- whatever they hold, and every limit N of lines up to 65,536. Document 01's limit is 1,024, and N × N / 4 is then 262,144.
 use mathlib.Core.Path.{_≡_, sym, subst}
 use mathlib.Core.Logic.{_↔_}
+use mathlib.Core.Bool.{not}
 use mathlib.Core.List.{List}
 use mathlib.Core.Option.{none, some}
 use Prim.Native.Nat.{ℕ, _*_, _/_, _≤_}
 use native.Mathlib.Omega.{arith}
+use lib.Dec.{T}
 use lib.ListN.{length, take}
 use Rattle.rules_types.specs.declared.answers.Refusal.the-variants as refusal
 use Rattle.rules_types.specs.declared.answers.Verdict.{Verdict}
@@ -15,15 +17,18 @@ use Rattle.rules_types.specs.declared.limits.Limits.{Limits}
 use Rattle.rules_types.specs.Limits as limit
 use Rattle.rules_types.specs.Answers.{answerValue}
 use Rattle.rules.specs.Problem.{Problem}
-use Rattle.rules.specs.Elimination.{limited, overflow, outOfSteps, order, loadableOf, elimination}
+use Rattle.rules.specs.Lines.{Line}
+use Rattle.rules.specs.Elimination.{limited, overflows, overflow, outOfSteps, order, loadableOf, elimination}
 use Rattle.rules.specs.Needs.{stepsOf, pairsOf, Fits}
 use Rattle.rules.specs.Calls.{sound, read, Solving, solve, proofChecked}
+use Rattle.theory_vectors.specs.Amounts.{SmallAmounts, overflows-no}
 use Rattle.theory_elimination.specs.Events.{events}
 use Rattle.promises.specs.Decided.{NoAssignment}
 use Rattle.theory_splitting.specs.Reading.{read-well-formed}
 use Rattle.theory_checks.specs.ProofChecked.{proof-checked-refutes}
 use Rattle.promises.specs.Words.{SomeAssignment, modelOf, GivesModel, OurModel, HoldsLines, Comes, IsRefused, LimitMet, firstStop}
 use Rattle.promises.specs.Words.{FullSize}
+use Rattle.promises.specs.Unwritten.{RuleSaysSo, rule-says-so}
 use Rattle.promises.specs.Outcomes.{unsatisfiable-exactly, satisfiable-exactly, unwritten-exactly, otherwise}
 use Rattle.promises.specs.Reported.{solve-is, reported-lines, reported-pairs, at-most, lines-held}
 use Rattle.promises.specs.First.{overflow-first, out-of-steps-first}
@@ -38,12 +43,14 @@ pub record Demand3 (limits : Limits) (input : List ℕ) (p : Problem) (lentProof
   pub modelIs : Comes Satisfiable (ours .solved .answer) → OurModel p ours lentModel
   -- ""Unwritten" comes exactly when one does and the rule says so."
   pub unwritten : Fits limits p → Comes Unwritten (ours .solved .answer) ↔ (SomeAssignment p × (modelOf p ≡ none))
+  pub saysSo : (modelOf p ≡ none) ↔ RuleSaysSo p
   -- "Otherwise, and only otherwise, "wide" or "full" comes, whichever the course meets first."
   pub otherwise : LimitMet (ours .solved .answer) ↔ (Fits limits p → ⊥)
   pub isOverflow : IsRefused refusal.Overflow (ours .solved .answer)
       ↔ (firstStop (limited limits) (events order (loadableOf p)) ≡ some overflow)
   pub isOutOfSteps : IsRefused refusal.OutOfSteps (ours .solved .answer)
       ↔ (firstStop (limited limits) (events order (loadableOf p)) ≡ some outOfSteps)
+  pub wide : (l : Line) → T (not (overflows l)) ↔ SmallAmounts (l .constraint)
   -- "In every case the lines and pairs reported are those the course holds and tries, the pairs at most 262,144,"
   pub lines : answerValue (ours .solved .answer) ≡ length (stepsOf (elimination (limited limits) p))
   pub pairs : ours .solved .pairs ≡ pairsOf (elimination (limited limits) p)
@@ -65,9 +72,11 @@ demand3 limits few input p e proof model full =
       satisfiable = satisfiable-exactly limits p (read-well-formed input p e);
       modelIs = our-model limits input p e proof model;
       unwritten = unwritten-exactly limits p (read-well-formed input p e);
+      saysSo = rule-says-so p;
       otherwise = otherwise limits p (read-well-formed input p e);
       isOverflow = overflow-first p limits;
       isOutOfSteps = out-of-steps-first p limits;
+      wide = overflows-no;
       lines = reported-lines p (elimination (limited limits) p);
       pairs = reported-pairs p (elimination (limited limits) p);
       atMost = at-most limits p (read-well-formed input p e);

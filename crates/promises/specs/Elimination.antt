@@ -30,9 +30,9 @@ module _ (p : Problem) (stops : Stops) where
   unfolding elimination
   elimination-only other h = exactly-one stops order (loadableOf p) other h
 
-  pub elimination-tidied : WellFormed p → All (λ s. Sound (s .line)) (stepsOf (elimination stops p))
+  pub elimination-normalized : WellFormed p → All (λ s. Sound (s .line)) (stepsOf (elimination stops p))
   unfolding elimination
-  elimination-tidied w = elimination-sound p w stops order
+  elimination-normalized w = elimination-sound p w stops order
 
   pub elimination-parts : AllLoaded stops (loadableOf p) (elimination stops p)
   unfolding elimination

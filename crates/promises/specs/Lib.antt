@@ -4,6 +4,7 @@ pub mod Decided
 pub mod Words
 pub mod Numbers
 pub mod Handing
+pub mod Unwritten
 pub mod Outcomes
 pub mod Reported
 pub mod First

@@ -20,8 +20,8 @@ use Rattle.promises_examples.specs.Read.{problemFrom}
 abbrev Exact : Problem → State → Type 0
 Exact p state = Exactly (limited standard) order (loadableOf p) state
 
-abbrev course : Problem → State
-course p = elimination (limited standard) p
+abbrev ours : Problem → State
+ours p = elimination (limited standard) p
 
 -- ---- example 3, x ≤ 5; -x ≤ -5, with its two lines exchanged
 abbrev three : Problem
@@ -34,10 +34,10 @@ exchanged steps = drop 1 steps ++ take 1 steps
 abbrev firstClause : State → ℕ
 firstClause state = getD (map (λ s. header (s .origin) .first) (stepsOf state)) 0 0
 
-pub lines-exchanged : Exact three (running (exchanged (stepsOf (course three))) 1) → ⊥
+pub lines-exchanged : Exact three (running (exchanged (stepsOf (ours three))) 1) → ⊥
 unfolding definitions
 lines-exchanged h =
-    let other = running (exchanged (stepsOf (course three))) 1 in
+    let other = running (exchanged (stepsOf (ours three))) 1 in
     let e : _≡_ {A = ℕ} 1 0 = ap firstClause (elimination-only three (limited standard) other h) in
     omega arith
 
@@ -58,9 +58,9 @@ four =
     problemFrom (problemOf 0 1 (alone (atMost (pos 1 ∷ []) (pos 0)) ∷ alone (atMost (pos 1 ∷ []) (negsuc 0)) ∷ alone
     (atMost (negsuc 0 ∷ []) (negsuc 0)) ∷ alone (atMost (negsuc 0 ∷ []) (negsuc 1)) ∷ []))
 
-pub pairs-not-tried : Exact four (ended empty (stepsOf (course four)) 3) → ⊥
+pub pairs-not-tried : Exact four (ended empty (stepsOf (ours four)) 3) → ⊥
 unfolding definitions
 pairs-not-tried h =
-    let other = ended empty (stepsOf (course four)) 3 in
+    let other = ended empty (stepsOf (ours four)) 3 in
     let e : _≡_ {A = ℕ} 3 1 = ap pairsOf (elimination-only four (limited standard) other h) in
     omega arith

@@ -1,6 +1,6 @@
 -- When a line of a proof follows, said of its 64 bytes: they are a part's, or those of a resolvent of two earlier lines. The check finds
 -- just these, of the bytes that are written for a step; ByOffset has it of the bytes that stand at document 01's offsets.
-use mathlib.Core.Path.{_≡_, refl, ap, _∙_, subst}
+use mathlib.Core.Path.{_≡_, refl, sym, ap, _∙_, subst}
 use mathlib.Core.Bool.{Bool, not, cond, _&&_}
 use mathlib.Core.Logic.{_⊎_, inl, inr, ⊎-elim}
 use mathlib.Core.List.{List, [], _∷_}
@@ -14,12 +14,13 @@ use Rattle.rules_types.specs.Limits as limit
 use Rattle.rules_types.specs.Layout as layout
 use Rattle.rules.specs.Lists.{same}
 use Rattle.rules.specs.Bytes.{fieldAt}
-use Rattle.rules.specs.Lines.{Line, Variable, positively, negatively}
+use Rattle.rules.specs.Problem.{Constraint}
+use Rattle.rules.specs.Lines.{Line, Variable, rational, boolean, positively, negatively, noConstraint}
 use Rattle.rules.specs.Resolve.{resolve}
 use Rattle.rules.specs.Steps.{Step, resolved, encodeStep}
 use Rattle.rules.specs.Elimination.{overflows}
 use Rattle.rules.specs.Checker.{pairable, derived, variableNamed, resolventNamed, lineAmong, statedLine}
-use Rattle.theory_lists.specs.Tests.{split, is-true, is-false}
+use Rattle.theory_lists.specs.Tests.{split, is-true, is-false, or-l, or-r, or-else}
 use Rattle.theory_lists.specs.All.{All, Any, all-any}
 use Rattle.theory_lists.specs.Places.{element-all, element-below}
 use Rattle.theory_lists.specs.Equal.{same-yes}
@@ -30,6 +31,34 @@ use Rattle.theory_bytes.specs.Lines.{Encodable, AllEncodable}
 use Rattle.theory_layout.specs.Offsets.{StepAt}
 use Rattle.theory_bytes.specs.Headers.{named-back, parents-back}
 use Rattle.theory_checks.specs.Stated.{stated-part, stated-resolvent, derived-line, resolvent-named}
+
+-- "by a mark at most one parent has a condition"
+abbrev pub Allowed : Variable → Line → Line → Type 0
+Allowed (rational f) u l = Unit {0}
+Allowed (boolean i) u l = (u .constraint ≡ none) ⊎ (l .constraint ≡ none)
+
+none-yes : (k : Option Constraint) → T (noConstraint k) → k ≡ none
+unfolding noConstraint
+none-yes none t = refl
+none-yes (some c) t = absurd t
+
+yes-none : (k : Option Constraint) → k ≡ none → T (noConstraint k)
+unfolding noConstraint
+yes-none k e = subst (λ (x : Option Constraint). T (noConstraint x)) (sym e) tt
+
+allowed-yes : (v : Variable) (u l : Line) → T (pairable v u l) → Allowed v u l
+unfolding pairable
+allowed-yes (rational f) u l t = tt
+allowed-yes (boolean i) u l t =
+    ⊎-elim (λ a. inl (none-yes (u .constraint) a))
+    (λ n. inr (none-yes (l .constraint) (or-else (noConstraint (u .constraint)) (noConstraint (l .constraint)) n t)))
+    (split (noConstraint (u .constraint)))
+
+yes-allowed : (v : Variable) (u l : Line) → Allowed v u l → T (pairable v u l)
+unfolding pairable
+yes-allowed (rational f) u l h = tt
+yes-allowed (boolean i) u l (inl h) = or-l (noConstraint (u .constraint)) (noConstraint (l .constraint)) (yes-none (u .constraint) h)
+yes-allowed (boolean i) u l (inr h) = or-r (noConstraint (u .constraint)) (noConstraint (l .constraint)) (yes-none (l .constraint) h)
 
 -- "the result of two earlier lines, neither wide nor dropped by tidying, first parent positive; by a mark at most one parent has a
 -- condition"
@@ -43,7 +72,7 @@ pub record ResolventIn (stands : Step → Type 0) (earlier : List Line) (l : Lin
   pub atSecond : getElem? earlier second ≡ some lower
   pub positive : T (positively variable upper)
   pub negative : T (negatively variable lower)
-  pub allowed : T (pairable variable upper lower)
+  pub allowed : Allowed variable upper lower
   pub result : resolve variable upper lower ≡ some l
   pub fits : T (not (overflows l))
   pub written : stands (record { origin = resolved variable first second; line = l })
@@ -109,7 +138,7 @@ module _ (bytes : List ℕ) (l : Line) where
             atSecond = atSecond;
             positive = b .0;
             negative = b .1;
-            allowed = a .1;
+            allowed = allowed-yes v u m (a .1);
             result = e ∙ ap some q;
             fits = rw q at w;
             written = written;
@@ -216,7 +245,8 @@ module _ (parts : List Step) (known : AllEncodable parts) (earlier : List Line) 
       let a = element-below earlier (r .first) (r .upper) (r .atFirst) in
       let b = element-below earlier (r .second) (r .lower) (r .atSecond) in
       let k = parents-back (r .variable) (r .first) (r .second) l (omega arith) (omega arith) in
-      let d = derived-line (r .variable) (r .upper) (r .lower) l (r .positive) (r .negative) (r .allowed) (r .result) h in
+      let d = derived-line (r .variable) (r .upper) (r .lower) l (r .positive) (r .negative)
+      (yes-allowed (r .variable) (r .upper) (r .lower) (r .allowed)) (r .result) h in
       let n = resolvent-named (r .variable) (r .upper) (r .lower) l (r .first) (r .second) earlier (encodeStep s)
       (named-back (r .variable) (r .first) (r .second) l) (k .0) (k .1) (r .atFirst) (r .atSecond) d in
       subst (λ (bs : List ℕ). statedLine parts earlier bs ≡ some l) (r .written) (stated-resolvent s h parts earlier known n)

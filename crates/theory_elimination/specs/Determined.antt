@@ -21,8 +21,8 @@ use Rattle.theory_saturation.specs.Rounds.{At, drop-at, drop-next}
 use Rattle.theory_elimination.specs.Pairs.{PairOf, round-pairs}
 use Rattle.theory_elimination.specs.States.{rounds-ended}
 use Rattle.theory_elimination.specs.Grown.{Grown, grown-none, grown-twice, add-grown, Late, same-at-end, pair-later}
-use Rattle.theory_elimination.specs.Exactly.{Candidate, part, result, dropped, resultOr, resultOf, resultsFrom, candidates, keepOne}
-use Rattle.theory_elimination.specs.Exactly.{keep, pairs, Passed, Stopped, proofAt, Takes, Exactly}
+use Rattle.theory_elimination.specs.Exactly.{Candidate, part, made, dropped, resolventOr, resolventAt, resolventsFrom, candidates}
+use Rattle.theory_elimination.specs.Exactly.{keepOne, keep, pairs, Passed, Stopped, proofAt, Takes, Exactly}
 use Rattle.theory_elimination.specs.OneLoop.{one, run, run-ended, run-append, load-runs, try-runs}
 
 module _ (stops : Stops) where
@@ -38,7 +38,7 @@ module _ (stops : Stops) where
       by false true blank g = absurd (g tt .0)
       by false false true g = absurd (g tt .1)
       by false false false g = ap (running (held ++ (s ∷ []))) (omega arith)
-  pass-one (result s) held n h = by (stops .atLine (s .line)) (covered (s .line) held) (stops .atSteps (length held)) (isEmpty (s .line))
+  pass-one (made s) held n h = by (stops .atLine (s .line)) (covered (s .line) held) (stops .atSteps (length held)) (isEmpty (s .line))
       (h .0) (h .1)
     where
       by : (w known many blank : Bool) → T (not w) → (T (not known) → T (not many) × T (not blank))
@@ -57,8 +57,8 @@ module _ (stops : Stops) where
   pass-all (part s ∷ xs) held n h =
       ap (run stops xs) (pass-one (part s) held n (h .0, tt)) ∙ pass-all xs (keepOne held s) (n + 0) (h .1)
       ∙ ap (running (keep (keepOne held s) xs)) (omega arith)
-  pass-all (result s ∷ xs) held n h =
-      ap (run stops xs) (pass-one (result s) held n (h .0, h .1, tt)) ∙ pass-all xs (keepOne held s) (n + 1) (h .2)
+  pass-all (made s ∷ xs) held n h =
+      ap (run stops xs) (pass-one (made s) held n (h .0, h .1, tt)) ∙ pass-all xs (keepOne held s) (n + 1) (h .2)
       ∙ ap (running (keep (keepOne held s) xs)) (omega arith)
   pass-all (dropped ∷ xs) held n h = ap (run stops xs) (pass-one dropped held n tt) ∙ pass-all xs held (n + 1) h
       ∙ ap (running (keep held xs)) (omega arith)
@@ -79,15 +79,15 @@ module _ (stops : Stops) where
         placed,
         keepOne,
       ) (ap (ended empty (held ++ (s ∷ []))) (omega arith))
-  stop-one overflow (result s) held n h = rw (is-true (stops .atLine (s .line)) h, placed) (ap (ended overflow held) (omega arith))
-  stop-one outOfSteps (result s) held n h =
+  stop-one overflow (made s) held n h = rw (is-true (stops .atLine (s .line)) h, placed) (ap (ended overflow held) (omega arith))
+  stop-one outOfSteps (made s) held n h =
       rw (
         is-false (stops .atLine (s .line)) (h .0),
         is-false (covered (s .line) held) (h .1 .0),
         is-true (stops .atSteps (length held)) (h .1 .1),
         placed,
       ) (ap (ended outOfSteps held) (omega arith))
-  stop-one empty (result s) held n h =
+  stop-one empty (made s) held n h =
       rw (
         is-false (stops .atLine (s .line)) (h .0),
         is-false (covered (s .line) held) (h .1 .0),
@@ -101,7 +101,7 @@ module _ (stops : Stops) where
   unfolding pairs
   pairs-append [] ys = omega arith
   pairs-append (part s ∷ xs) ys = pairs-append xs ys
-  pairs-append (result s ∷ xs) ys = omega (arith, pairs-append xs ys)
+  pairs-append (made s ∷ xs) ys = omega (arith, pairs-append xs ys)
   pairs-append (dropped ∷ xs) ys = omega (arith, pairs-append xs ys)
 
   determined : (xs : List Candidate) (held : List Step) (n : ℕ) (state : State) → Takes stops xs held n state
@@ -127,13 +127,13 @@ module _ (stops : Stops) where
   module _ (P : Step → Type 0) where
     abbrev Of : Candidate → Type 0
     Of (part s) = P s
-    Of (result s) = P s
+    Of (made s) = P s
     Of dropped = Unit {0}
 
     one-grown : (x : Candidate) (steps : List Step) (n : ℕ) → Of x → Grown P steps (stepsOf (one stops x steps n))
     unfolding one stepsOf
     one-grown (part s) steps n p = add-grown P stops false s steps n p
-    one-grown (result s) steps n p = add-grown P stops (stops .atLine (s .line)) s steps (suc n) p
+    one-grown (made s) steps n p = add-grown P stops (stops .atLine (s .line)) s steps (suc n) p
     one-grown dropped steps n p = grown-none P steps
 
     run-grown : (xs : List Candidate) (steps : List Step) (n : ℕ) → All Of xs → Grown P steps (stepsOf (run stops xs (running steps n)))
@@ -148,61 +148,61 @@ module _ (stops : Stops) where
         after (ended e mid k) g f = subst (λ (s : State). Grown P steps (stepsOf s)) (sym (run-ended stops e mid k xs)) g
 
   module _ (variables : List Variable) (S : List Step) where
-    result-late : (t : ℕ) (v : Variable) (p : Pair) (m : Option Line) → DroppedOr (λ r. t < roundOf variables r) m
-        → Of (Late variables t) (resultOr v p m)
-    result-late t v p none h = tt
-    result-late t v p (some l) h = h
+    made-late : (t : ℕ) (v : Variable) (p : Pair) (m : Option Line) → DroppedOr (λ r. t < roundOf variables r) m
+        → Of (Late variables t) (resolventOr v p m)
+    made-late t v p none h = tt
+    made-late t v p (some l) h = h
 
     pairs-late : (t : ℕ) (v : Variable) → At variables t v → (ps : List Pair) → All (PairOf variables v t S) ps
-        → All (Of (Late variables t)) (map (resultOf v) ps)
+        → All (Of (Late variables t)) (map (resolventAt v) ps)
     pairs-late t v a [] h = tt
     pairs-late t v a (p ∷ ps) h = (
-      result-late t v p (resolve v (p .upper .line) (p .lower .line)) (pair-later variables t v a S p (h .0)),
+      made-late t v p (resolve v (p .upper .line) (p .lower .line)) (pair-later variables t v a S p (h .0)),
       pairs-late t v a ps (h .1),
     )
 
     weaker : (t : ℕ) (x : Candidate) → Of (Late variables (suc t)) x → Of (Late variables t) x
     weaker t (part s) h = omega (arith, h)
-    weaker t (result s) h = omega (arith, h)
+    weaker t (made s) h = omega (arith, h)
     weaker t dropped h = tt
 
-    results-late : (t : ℕ) (vs : List Variable) → drop t variables ≡ vs → All (Of (Late variables t)) (resultsFrom variables t vs S)
-    unfolding resultsFrom
-    results-late t [] e = tt
-    results-late t (v ∷ vs) e =
-        all-append (Of (Late variables t)) (map (resultOf v) (roundPairs variables v t S)) (resultsFrom variables (suc t) vs S)
+    resolvents-late : (t : ℕ) (vs : List Variable) → drop t variables ≡ vs → All (Of (Late variables t)) (resolventsFrom variables t vs S)
+    unfolding resolventsFrom
+    resolvents-late t [] e = tt
+    resolvents-late t (v ∷ vs) e =
+        all-append (Of (Late variables t)) (map (resolventAt v) (roundPairs variables v t S)) (resolventsFrom variables (suc t) vs S)
         (pairs-late t v (drop-at variables t v vs e) (roundPairs variables v t S) (round-pairs variables v t S))
-        (all-map (Of (Late variables (suc t))) (Of (Late variables t)) (resultsFrom variables (suc t) vs S) (weaker t)
-        (results-late (suc t) vs (drop-next variables t v vs e)))
+        (all-map (Of (Late variables (suc t))) (Of (Late variables t)) (resolventsFrom variables (suc t) vs S) (weaker t)
+        (resolvents-late (suc t) vs (drop-next variables t v vs e)))
 
     rounds-only : (t : ℕ) (vs : List Variable) (steps : List Step) (n : ℕ) → drop t variables ≡ vs
-        → S ≡ stepsOf (run stops (resultsFrom variables t vs S) (running steps n))
-        → run stops (resultsFrom variables t vs S) (running steps n) ≡ rounds stops variables t vs (running steps n)
-    unfolding rounds resultsFrom run
+        → S ≡ stepsOf (run stops (resolventsFrom variables t vs S) (running steps n))
+        → run stops (resolventsFrom variables t vs S) (running steps n) ≡ rounds stops variables t vs (running steps n)
+    unfolding rounds resolventsFrom run
     rounds-only t [] steps n e h = refl
     rounds-only t (v ∷ vs) steps n e h =
         let ps = roundPairs variables v t steps in
-        let ys = resultsFrom variables (suc t) vs S in
+        let ys = resolventsFrom variables (suc t) vs S in
         let g = subst (Grown (Late variables t) steps) (sym h)
-        (run-grown (Late variables t) (resultsFrom variables t (v ∷ vs) S) steps n (results-late t (v ∷ vs) e)) in
-        let q = ap (λ (qs : List Pair). run stops (map (resultOf v) qs ++ ys) (running steps n)) (same-at-end variables t v steps S g)
-        ∙ run-append stops (map (resultOf v) ps) ys (running steps n)
+        (run-grown (Late variables t) (resolventsFrom variables t (v ∷ vs) S) steps n (resolvents-late t (v ∷ vs) e)) in
+        let q = ap (λ (qs : List Pair). run stops (map (resolventAt v) qs ++ ys) (running steps n)) (same-at-end variables t v steps S g)
+        ∙ run-append stops (map (resolventAt v) ps) ys (running steps n)
         ∙ ap (λ (s : State). run stops ys s) (sym (try-runs stops v ps (running steps n))) in
         q ∙ later (tryAll stops v ps (running steps n)) (h ∙ ap stepsOf q)
         (λ mid k i. rounds-only (suc t) vs mid k (drop-next variables t v vs e) i)
       where
-        later : (next : State) → S ≡ stepsOf (run stops (resultsFrom variables (suc t) vs S) next)
-            → ((mid : List Step) (k : ℕ) → S ≡ stepsOf (run stops (resultsFrom variables (suc t) vs S) (running mid k))
-            → run stops (resultsFrom variables (suc t) vs S) (running mid k) ≡ rounds stops variables (suc t) vs (running mid k))
-            → run stops (resultsFrom variables (suc t) vs S) next ≡ rounds stops variables (suc t) vs next
+        later : (next : State) → S ≡ stepsOf (run stops (resolventsFrom variables (suc t) vs S) next)
+            → ((mid : List Step) (k : ℕ) → S ≡ stepsOf (run stops (resolventsFrom variables (suc t) vs S) (running mid k))
+            → run stops (resolventsFrom variables (suc t) vs S) (running mid k) ≡ rounds stops variables (suc t) vs (running mid k))
+            → run stops (resolventsFrom variables (suc t) vs S) next ≡ rounds stops variables (suc t) vs next
         later (running mid k) i f = f mid k i
-        later (ended end mid k) i f = run-ended stops end mid k (resultsFrom variables (suc t) vs S)
+        later (ended end mid k) i f = run-ended stops end mid k (resolventsFrom variables (suc t) vs S)
             ∙ sym (rounds-ended stops end mid k variables (suc t) vs)
 
-    rounds-alone : (start : State) → S ≡ stepsOf (run stops (resultsFrom variables 0 variables S) start)
-        → run stops (resultsFrom variables 0 variables S) start ≡ rounds stops variables 0 variables start
+    rounds-alone : (start : State) → S ≡ stepsOf (run stops (resolventsFrom variables 0 variables S) start)
+        → run stops (resolventsFrom variables 0 variables S) start ≡ rounds stops variables 0 variables start
     rounds-alone (running mid k) h = rounds-only 0 variables mid k refl h
-    rounds-alone (ended e mid k) h = run-ended stops e mid k (resultsFrom variables 0 variables S)
+    rounds-alone (ended e mid k) h = run-ended stops e mid k (resolventsFrom variables 0 variables S)
         ∙ sym (rounds-ended stops e mid k variables 0 variables)
 
 pub exactly-one : (stops : Stops) (variables : List Variable) (parts : List Step) (state : State) → Exactly stops variables parts state
@@ -210,7 +210,7 @@ pub exactly-one : (stops : Stops) (variables : List Variable) (parts : List Step
 unfolding eliminate
 exactly-one stops variables parts state h =
     let S = stepsOf state in
-    let ys = resultsFrom variables 0 variables S in
+    let ys = resolventsFrom variables 0 variables S in
     let start = load stops parts (running [] 0) in
     let q : state ≡ run stops ys start = determined stops (candidates variables parts S) [] 0 state h
     ∙ run-append stops (map part parts) ys (running [] 0)

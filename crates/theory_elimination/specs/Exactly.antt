@@ -18,22 +18,23 @@ use Rattle.theory_elimination.specs.Induction.{resolventOf}
 -- ---- what is taken up, in order: every part, then the resolvent of every pair of each round, among the lines of the finished proof
 pub data Candidate : Type 0 where
   part : Step → Candidate
-  result : Step → Candidate
+  made : Step → Candidate
   dropped : Candidate
 
-abbrev pub resultOr : Variable → Pair → Option Line → Candidate
-resultOr v p none = dropped
-resultOr v p (some l) = result (resolventOf v p l)
+abbrev pub resolventOr : Variable → Pair → Option Line → Candidate
+resolventOr v p none = dropped
+resolventOr v p (some l) = made (resolventOf v p l)
 
-abbrev pub resultOf : Variable → Pair → Candidate
-resultOf v p = resultOr v p (resolve v (p .upper .line) (p .lower .line))
+abbrev pub resolventAt : Variable → Pair → Candidate
+resolventAt v p = resolventOr v p (resolve v (p .upper .line) (p .lower .line))
 
-unfoldable pub resultsFrom : List Variable → ℕ → List Variable → List Step → List Candidate
-resultsFrom variables t [] steps = []
-resultsFrom variables t (v ∷ vs) steps = map (resultOf v) (roundPairs variables v t steps) ++ resultsFrom variables (suc t) vs steps
+unfoldable pub resolventsFrom : List Variable → ℕ → List Variable → List Step → List Candidate
+resolventsFrom variables t [] steps = []
+resolventsFrom variables t (v ∷ vs) steps =
+    map (resolventAt v) (roundPairs variables v t steps) ++ resolventsFrom variables (suc t) vs steps
 
 abbrev pub candidates : List Variable → List Step → List Step → List Candidate
-candidates variables parts steps = map part parts ++ resultsFrom variables 0 variables steps
+candidates variables parts steps = map part parts ++ resolventsFrom variables 0 variables steps
 
 -- ---- what is kept of it
 unfoldable pub keepOne : List Step → Step → List Step
@@ -42,14 +43,14 @@ keepOne held s = elim (covered (s .line) held) [ true ↦ held | false ↦ held 
 unfoldable pub keep : List Step → List Candidate → List Step
 keep held [] = held
 keep held (part s ∷ xs) = keep (keepOne held s) xs
-keep held (result s ∷ xs) = keep (keepOne held s) xs
+keep held (made s ∷ xs) = keep (keepOne held s) xs
 keep held (dropped ∷ xs) = keep held xs
 
 -- its pairs: the resolvents, also those that are dropped
 unfoldable pub pairs : List Candidate → ℕ
 pairs [] = 0
 pairs (part s ∷ xs) = pairs xs
-pairs (result s ∷ xs) = suc (pairs xs)
+pairs (made s ∷ xs) = suc (pairs xs)
 pairs (dropped ∷ xs) = suc (pairs xs)
 
 module _ (stops : Stops) where
@@ -61,7 +62,7 @@ module _ (stops : Stops) where
   abbrev pub Passed : List Step → List Candidate → Type 0
   Passed held [] = Unit {0}
   Passed held (part s ∷ xs) = Goes held s × Passed (keepOne held s) xs
-  Passed held (result s ∷ xs) = T (not (stops .atLine (s .line))) × Goes held s × Passed (keepOne held s) xs
+  Passed held (made s ∷ xs) = T (not (stops .atLine (s .line))) × Goes held s × Passed (keepOne held s) xs
   Passed held (dropped ∷ xs) = Passed held xs
 
   -- why a line that no held one equals ends it: there is no room, or it is empty
@@ -74,9 +75,9 @@ module _ (stops : Stops) where
   abbrev pub Stopped : End → List Step → Candidate → Type 0
   Stopped e held dropped = ⊥
   Stopped e held (part s) = New e held s
-  Stopped overflow held (result s) = T (stops .atLine (s .line))
-  Stopped outOfSteps held (result s) = T (not (stops .atLine (s .line))) × New outOfSteps held s
-  Stopped empty held (result s) = T (not (stops .atLine (s .line))) × New empty held s
+  Stopped overflow held (made s) = T (stops .atLine (s .line))
+  Stopped outOfSteps held (made s) = T (not (stops .atLine (s .line))) × New outOfSteps held s
+  Stopped empty held (made s) = T (not (stops .atLine (s .line))) × New empty held s
 
   -- the empty line is held, one that overflows or is too many is not
   abbrev pub proofAt : End → List Step → Candidate → List Step

@@ -5,7 +5,7 @@ use mathlib.Core.List.{List, [], _∷_, _++_}
 use Rattle.rules.specs.Steps.{Step}
 use Rattle.rules.specs.Elimination.{Stops, End, empty, overflow, outOfSteps, covered}
 use Rattle.theory_lists.specs.All.{Any, any-left}
-use Rattle.theory_elimination.specs.Exactly.{Candidate, part, result, dropped, keepOne, keep, proofAt}
+use Rattle.theory_elimination.specs.Exactly.{Candidate, part, made, dropped, keepOne, keep, proofAt}
 
 module _ (P : Step → Type 0) where
   one-stays : (held : List Step) (s : Step) → Any P held → Any P (keepOne held s)
@@ -20,7 +20,7 @@ module _ (P : Step → Type 0) where
   unfolding keep
   stays [] held h = h
   stays (part s ∷ xs) held h = stays xs (keepOne held s) (one-stays held s h)
-  stays (result s ∷ xs) held h = stays xs (keepOne held s) (one-stays held s h)
+  stays (made s ∷ xs) held h = stays xs (keepOne held s) (one-stays held s h)
   stays (dropped ∷ xs) held h = stays xs held h
 
   pub stays-at : (stops : Stops) (e : End) (held : List Step) (x : Candidate) → Any P held → Any P (proofAt stops e held x)
@@ -32,5 +32,5 @@ pub keep-append : (xs ys : List Candidate) (held : List Step) → keep held (xs 
 unfolding keep
 keep-append [] ys held = refl
 keep-append (part s ∷ xs) ys held = keep-append xs ys (keepOne held s)
-keep-append (result s ∷ xs) ys held = keep-append xs ys (keepOne held s)
+keep-append (made s ∷ xs) ys held = keep-append xs ys (keepOne held s)
 keep-append (dropped ∷ xs) ys held = keep-append xs ys held

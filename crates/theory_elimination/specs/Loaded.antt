@@ -12,7 +12,7 @@ use Rattle.rules.specs.Needs.{stepsOf}
 use Rattle.theory_lists.specs.All.{All, Any, all-map, all-append, append-all, any-right}
 use Rattle.theory_saturation.specs.Equal.{covered-steps}
 use Rattle.theory_elimination.specs.Induction.{members}
-use Rattle.theory_elimination.specs.Exactly.{Candidate, part, resultsFrom, candidates, keepOne, keep, pairs, New}
+use Rattle.theory_elimination.specs.Exactly.{Candidate, part, resolventsFrom, candidates, keepOne, keep, pairs, New}
 use Rattle.theory_elimination.specs.Exactly.{EndsAt, Exactly, Stopped, proofAt}
 use Rattle.theory_elimination.specs.OneLoop.{elimination-exactly}
 use Rattle.theory_elimination.specs.Kept.{stays, stays-at, keep-append}
@@ -119,8 +119,8 @@ where-ended (s ∷ ss) rs (d ∷ done) last rest e =
     (where-ended ss rs done last rest (ap tailOf e))
 
 module _ (stops : Stops) (variables : List Variable) (parts : List Step) where
-  abbrev results : List Step → List Candidate
-  results steps = resultsFrom variables 0 variables steps
+  abbrev resolvents : List Step → List Candidate
+  resolvents steps = resolventsFrom variables 0 variables steps
 
   part-pairs : (ss : List Step) (s : Step) → pairs (map part ss ++ (part s ∷ [])) ≡ 0
   unfolding pairs
@@ -135,7 +135,7 @@ module _ (stops : Stops) (variables : List Variable) (parts : List Step) where
 
   ended-loaded : (e : End) (steps : List Step) (n : ℕ) → EndsAt stops e (candidates variables parts steps) [] 0 steps n
       → LoadedBefore stops e parts steps n
-  ended-loaded e steps n h = ⊎-elim at-part behind (where-ended parts (results steps) (h .done) (h .last) (h .rest) (h .split))
+  ended-loaded e steps n h = ⊎-elim at-part behind (where-ended parts (resolvents steps) (h .done) (h .last) (h .rest) (h .split))
     where
       at-part : AtPart parts (h .done) (h .last) → LoadedBefore stops e parts steps n
       at-part a =
@@ -179,8 +179,8 @@ module _ (stops : Stops) (variables : List Variable) (parts : List Step) where
   unfolding stepsOf
   all-loaded (running steps n) h =
       subst (λ (now : List Step). All (Loaded parts now) parts)
-      (sym (h .proof ∙ keep-append (map part parts) (results steps) []))
-      (still parts (results steps) (keep [] (map part parts)) parts (parts-loaded parts parts [] tt (members parts)))
+      (sym (h .proof ∙ keep-append (map part parts) (resolvents steps) []))
+      (still parts (resolvents steps) (keep [] (map part parts)) parts (parts-loaded parts parts [] tt (members parts)))
   all-loaded (ended e steps n) h = ended-loaded e steps n h
 
   pub elimination-loads : AllLoaded stops parts (eliminate stops variables parts)

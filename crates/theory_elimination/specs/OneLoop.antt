@@ -16,13 +16,13 @@ use Rattle.rules.specs.Needs.{stepsOf}
 use Rattle.theory_saturation.specs.Rounds.{drop-next}
 use Rattle.theory_elimination.specs.States.{rounds-ended}
 use Rattle.theory_elimination.specs.Grown.{same-at-end, rounds-grown}
-use Rattle.theory_elimination.specs.Exactly.{Candidate, part, result, dropped, resultOr, resultOf, resultsFrom, candidates, keepOne}
-use Rattle.theory_elimination.specs.Exactly.{keep, pairs, Goes, Passed, New, Stopped, proofAt, Takes, Exactly}
+use Rattle.theory_elimination.specs.Exactly.{Candidate, part, made, dropped, resolventOr, resolventAt, resolventsFrom, candidates}
+use Rattle.theory_elimination.specs.Exactly.{keepOne, keep, pairs, Goes, Passed, New, Stopped, proofAt, Takes, Exactly}
 
 module _ (stops : Stops) where
   unfoldable pub one : Candidate → List Step → ℕ → State
   one (part s) steps n = add stops false s steps n
-  one (result s) steps n = add stops (stops .atLine (s .line)) s steps (suc n)
+  one (made s) steps n = add stops (stops .atLine (s .line)) s steps (suc n)
   one dropped steps n = running steps (suc n)
 
   unfoldable pub run : List Candidate → State → State
@@ -49,45 +49,45 @@ module _ (stops : Stops) where
   load-runs (s ∷ ss) (running steps n) = load-runs ss (add stops false s steps n)
 
   tried-one : (v : Variable) (p : Pair) (m : Option Line) (steps : List Step) (n : ℕ)
-      → tried stops v p m steps (suc n) ≡ one (resultOr v p m) steps n
+      → tried stops v p m steps (suc n) ≡ one (resolventOr v p m) steps n
   unfolding tried one
   tried-one v p none steps n = refl
   tried-one v p (some l) steps n = refl
 
-  pub try-runs : (v : Variable) (ps : List Pair) (state : State) → tryAll stops v ps state ≡ run (map (resultOf v) ps) state
+  pub try-runs : (v : Variable) (ps : List Pair) (state : State) → tryAll stops v ps state ≡ run (map (resolventAt v) ps) state
   unfolding tryAll run
   try-runs v [] state = refl
   try-runs v (p ∷ ps) (ended e steps n) = refl
   try-runs v (p ∷ ps) (running steps n) =
       let m = resolve v (p .upper .line) (p .lower .line) in
-      try-runs v ps (tried stops v p m steps (suc n)) ∙ ap (λ (s : State). run (map (resultOf v) ps) s) (tried-one v p m steps n)
+      try-runs v ps (tried stops v p m steps (suc n)) ∙ ap (λ (s : State). run (map (resolventAt v) ps) s) (tried-one v p m steps n)
 
   module _ (variables : List Variable) where
     abbrev end : ℕ → List Variable → State → State
     end t vs state = rounds stops variables t vs state
 
     abbrev SameRun : ℕ → List Variable → State → Type 0
-    SameRun t vs state = end t vs state ≡ run (resultsFrom variables t vs (stepsOf (end t vs state))) state
+    SameRun t vs state = end t vs state ≡ run (resolventsFrom variables t vs (stepsOf (end t vs state))) state
 
     later : (t : ℕ) (vs : List Variable) (next : State) → ((mid : List Step) (k : ℕ) → SameRun t vs (running mid k)) → SameRun t vs next
     later t vs (running mid k) f = f mid k
     later t vs (ended e mid k) f = rounds-ended stops e mid k variables t vs
-        ∙ sym (run-ended e mid k (resultsFrom variables t vs (stepsOf (end t vs (ended e mid k)))))
+        ∙ sym (run-ended e mid k (resolventsFrom variables t vs (stepsOf (end t vs (ended e mid k)))))
 
     -- the pairs of a round are the same among the lines at the end
     rounds-runs : (t : ℕ) (vs : List Variable) (steps : List Step) (n : ℕ) → drop t variables ≡ vs → SameRun t vs (running steps n)
-    unfolding rounds resultsFrom run
+    unfolding rounds resolventsFrom run
     rounds-runs t [] steps n e = refl
     rounds-runs t (v ∷ vs) steps n e =
         let ps = roundPairs variables v t steps in
         let next = tryAll stops v ps (running steps n) in
         let final = end (suc t) vs next in
         let same = same-at-end variables t v steps (stepsOf final) (rounds-grown variables stops t (v ∷ vs) steps n e) in
-        let ys = resultsFrom variables (suc t) vs (stepsOf final) in
+        let ys = resolventsFrom variables (suc t) vs (stepsOf final) in
         later (suc t) vs next (λ mid k. rounds-runs (suc t) vs mid k (drop-next variables t v vs e))
         ∙ ap (λ (s : State). run ys s) (try-runs v ps (running steps n))
-        ∙ sym (run-append (map (resultOf v) ps) ys (running steps n))
-        ∙ ap (λ (qs : List Pair). run (map (resultOf v) qs ++ ys) (running steps n)) (sym same)
+        ∙ sym (run-append (map (resolventAt v) ps) ys (running steps n))
+        ∙ ap (λ (qs : List Pair). run (map (resolventAt v) qs ++ ys) (running steps n)) (sym same)
 
     rounds-run : (start : State) → SameRun 0 variables start
     rounds-run start = later 0 variables start (λ mid k. rounds-runs 0 variables mid k refl)
@@ -97,7 +97,7 @@ module _ (stops : Stops) where
     unfolding eliminate
     eliminate-runs parts =
         let start = load stops parts (running [] 0) in
-        let ys = resultsFrom variables 0 variables (stepsOf (end 0 variables start)) in
+        let ys = resolventsFrom variables 0 variables (stepsOf (end 0 variables start)) in
         rounds-run start ∙ ap (λ (s : State). run ys s) (load-runs parts (running [] 0))
         ∙ sym (run-append (map part parts) ys (running [] 0))
 
@@ -106,19 +106,19 @@ module _ (stops : Stops) where
       → Passed stops (keep held (x ∷ [])) xs → Passed stops held (x ∷ xs)
   unfolding keep
   passed-first (part s) xs held p h = (p .0, h)
-  passed-first (result s) xs held p h = (p .0, p .1, h)
+  passed-first (made s) xs held p h = (p .0, p .1, h)
   passed-first dropped xs held p h = h
 
   keep-first : (x : Candidate) (xs : List Candidate) (held : List Step) → keep (keep held (x ∷ [])) xs ≡ keep held (x ∷ xs)
   unfolding keep
   keep-first (part s) xs held = refl
-  keep-first (result s) xs held = refl
+  keep-first (made s) xs held = refl
   keep-first dropped xs held = refl
 
   pairs-first : (x : Candidate) (xs : List Candidate) → pairs (x ∷ xs) ≡ pairs (x ∷ []) + pairs xs
   unfolding pairs
   pairs-first (part s) xs = omega arith
-  pairs-first (result s) xs = omega arith
+  pairs-first (made s) xs = omega arith
   pairs-first dropped xs = omega arith
 
   first : (x : Candidate) (xs : List Candidate) (held : List Step) (n m : ℕ) (state : State) → Passed stops held (x ∷ [])
@@ -168,20 +168,20 @@ module _ (stops : Stops) where
         (subst (λ (ss : List Step). Takes stops xs ss m (run xs (running (held ++ (s ∷ [])) m))) (sym (same ∙ rw (i, keepOne)))
         (then (held ++ (s ∷ []))))
 
-  result-stopped : (s : Step) (held : List Step) → T (not (stops .atLine (s .line))) → (e : End) → New stops e held s
-      → Stopped stops e held (result s)
-  result-stopped s held h overflow k = absurd k
-  result-stopped s held h outOfSteps k = (h, k)
-  result-stopped s held h empty k = (h, k)
+  made-stopped : (s : Step) (held : List Step) → T (not (stops .atLine (s .line))) → (e : End) → New stops e held s
+      → Stopped stops e held (made s)
+  made-stopped s held h overflow k = absurd k
+  made-stopped s held h outOfSteps k = (h, k)
+  made-stopped s held h empty k = (h, k)
 
-  result-takes : (s : Step) (xs : List Candidate) (held : List Step) (n : ℕ)
+  made-takes : (s : Step) (xs : List Candidate) (held : List Step) (n : ℕ)
       → ((held : List Step) → Takes stops xs held (suc n) (run xs (running held (suc n))))
-      → (w : Bool) → stops .atLine (s .line) ≡ w → Takes stops (result s ∷ xs) held n (run xs (add stops w s held (suc n)))
+      → (w : Bool) → stops .atLine (s .line) ≡ w → Takes stops (made s ∷ xs) held n (run xs (add stops w s held (suc n)))
   unfolding add placed keep pairs
-  result-takes s xs held n then true i = stop (result s) xs held n overflow held (suc n) (rw i tt) refl (omega arith)
-  result-takes s xs held n then false i =
+  made-takes s xs held n then true i = stop (made s) xs held n overflow held (suc n) (rw i tt) refl (omega arith)
+  made-takes s xs held n then false i =
       let h : T (not (stops .atLine (s .line))) = rw i tt in
-      placed-takes (result s) xs s held n (suc n) (λ g. (h, g, tt)) (result-stopped s held h) refl (omega arith) then
+      placed-takes (made s) xs s held n (suc n) (λ g. (h, g, tt)) (made-stopped s held h) refl (omega arith) then
       (covered (s .line) held) (stops .atSteps (length held)) (isEmpty (s .line)) refl refl refl
 
   takes : (xs : List Candidate) (held : List Step) (n : ℕ) → Takes stops xs held n (run xs (running held n))
@@ -190,7 +190,7 @@ module _ (stops : Stops) where
   takes (part s ∷ xs) held n =
       placed-takes (part s) xs s held n n (λ g. (g, tt)) (λ e h. h) refl (omega arith) (λ held. takes xs held n) (covered (s .line) held)
       (stops .atSteps (length held)) (isEmpty (s .line)) refl refl refl
-  takes (result s ∷ xs) held n = result-takes s xs held n (λ held. takes xs held (suc n)) (stops .atLine (s .line)) refl
+  takes (made s ∷ xs) held n = made-takes s xs held n (λ held. takes xs held (suc n)) (stops .atLine (s .line)) refl
   takes (dropped ∷ xs) held n = first dropped xs held n (suc n) (run xs (running held (suc n))) tt (omega arith) (takes xs held (suc n))
 
 pub elimination-exactly : (stops : Stops) (variables : List Variable) (parts : List Step)

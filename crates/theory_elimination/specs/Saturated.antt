@@ -18,8 +18,8 @@ use Rattle.theory_saturation.specs.Covered.{AccountedFor}
 use Rattle.theory_saturation.specs.Equal.{covered-steps}
 use Rattle.theory_saturation.specs.Tried.{pairs-tried}
 use Rattle.theory_saturation.specs.Saturation.{AllPairs}
-use Rattle.theory_elimination.specs.Exactly.{Candidate, part, result, dropped, resultOr, resultOf, resultsFrom, candidates, keepOne}
-use Rattle.theory_elimination.specs.Exactly.{keep, Exactly}
+use Rattle.theory_elimination.specs.Exactly.{Candidate, part, made, dropped, resolventOr, resolventAt, resolventsFrom, candidates}
+use Rattle.theory_elimination.specs.Exactly.{keepOne, keep, Exactly}
 use Rattle.theory_elimination.specs.OneLoop.{elimination-exactly}
 use Rattle.theory_elimination.specs.Kept.{stays}
 
@@ -32,7 +32,7 @@ Held steps s = Any (λ x. x .line ≡ s .line) steps
 
 abbrev InProof : List Step → Candidate → Type 0
 InProof steps (part s) = Held steps s
-InProof steps (result s) = Held steps s
+InProof steps (made s) = Held steps s
 InProof steps dropped = Unit {0}
 
 kept : (held : List Step) (s : Step) → Held (keepOne held s) s
@@ -47,43 +47,44 @@ all-kept : (xs : List Candidate) (held : List Step) → All (InProof (keep held 
 unfolding keep
 all-kept [] held = tt
 all-kept (part s ∷ xs) held = (stays (λ x. x .line ≡ s .line) xs (keepOne held s) (kept held s), all-kept xs (keepOne held s))
-all-kept (result s ∷ xs) held = (stays (λ x. x .line ≡ s .line) xs (keepOne held s) (kept held s), all-kept xs (keepOne held s))
+all-kept (made s ∷ xs) held = (stays (λ x. x .line ≡ s .line) xs (keepOne held s) (kept held s), all-kept xs (keepOne held s))
 all-kept (dropped ∷ xs) held = (tt, all-kept xs held)
 
 -- ---- the resolvents of one round
-rounds-results : (variables : List Variable) (steps : List Step) (t i : ℕ) (vs : List Variable) (v : Variable) → At vs i v
-    → All (InProof steps) (resultsFrom variables t vs steps) → All (InProof steps) (map (resultOf v) (roundPairs variables v (t + i) steps))
-unfolding resultsFrom
-rounds-results variables steps t i [] v a h = absurd a
-rounds-results variables steps t zero (w ∷ vs) v a h =
+rounds-resolvents : (variables : List Variable) (steps : List Step) (t i : ℕ) (vs : List Variable) (v : Variable) → At vs i v
+    → All (InProof steps) (resolventsFrom variables t vs steps)
+    → All (InProof steps) (map (resolventAt v) (roundPairs variables v (t + i) steps))
+unfolding resolventsFrom
+rounds-resolvents variables steps t i [] v a h = absurd a
+rounds-resolvents variables steps t zero (w ∷ vs) v a h =
     let e : t + zero ≡ t = omega arith in
-    rw e (subst (λ (u : Variable). All (InProof steps) (map (resultOf u) (roundPairs variables u t steps))) a
-    (append-all (InProof steps) (map (resultOf w) (roundPairs variables w t steps)) (resultsFrom variables (suc t) vs steps) h .0))
-rounds-results variables steps t (suc i) (w ∷ vs) v a h =
+    rw e (subst (λ (u : Variable). All (InProof steps) (map (resolventAt u) (roundPairs variables u t steps))) a
+    (append-all (InProof steps) (map (resolventAt w) (roundPairs variables w t steps)) (resolventsFrom variables (suc t) vs steps) h .0))
+rounds-resolvents variables steps t (suc i) (w ∷ vs) v a h =
     let e : t + suc i ≡ suc t + i = omega arith in
-    rw e (rounds-results variables steps (suc t) i vs v a
-    (append-all (InProof steps) (map (resultOf w) (roundPairs variables w t steps)) (resultsFrom variables (suc t) vs steps) h .1))
+    rw e (rounds-resolvents variables steps (suc t) i vs v a
+    (append-all (InProof steps) (map (resolventAt w) (roundPairs variables w t steps)) (resolventsFrom variables (suc t) vs steps) h .1))
 
 held-line : (steps : List Step) (s : Step) → Held steps s → Any (λ j. j ≡ s .line) (lines steps)
 held-line steps s h = any-mapped (λ j. j ≡ s .line) (λ x. x .line) steps h
 
-accounted : (steps : List Step) (v : Variable) (ps : List Pair) → All (InProof steps) (map (resultOf v) ps)
+accounted : (steps : List Step) (v : Variable) (ps : List Pair) → All (InProof steps) (map (resolventAt v) ps)
     → All (λ p. AccountedFor _≡_ (lines steps) (resolve v (p .upper .line) (p .lower .line))) ps
 accounted steps v [] h = tt
 accounted steps v (p ∷ ps) h = (by (resolve v (p .upper .line) (p .lower .line)) (h .0), accounted steps v ps (h .1))
   where
-    by : (m : Option Line) → InProof steps (resultOr v p m) → AccountedFor _≡_ (lines steps) m
+    by : (m : Option Line) → InProof steps (resolventOr v p m) → AccountedFor _≡_ (lines steps) m
     by none k = tt
     by (some l) k = any-mapped (λ j. j ≡ l) (λ x. x .line) steps k
 
 module _ (stops : Stops) (variables : List Variable) (parts steps : List Step) (n : ℕ)
     (e : eliminate stops variables parts ≡ running steps n) where
-  complete : All (InProof steps) (map part parts) × All (InProof steps) (resultsFrom variables 0 variables steps)
+  complete : All (InProof steps) (map part parts) × All (InProof steps) (resolventsFrom variables 0 variables steps)
   unfolding stepsOf
   complete =
       let h = subst (Exactly stops variables parts) e (elimination-exactly stops variables parts) in
       let xs = candidates variables parts steps in
-      append-all (InProof steps) (map part parts) (resultsFrom variables 0 variables steps)
+      append-all (InProof steps) (map part parts) (resolventsFrom variables 0 variables steps)
       (subst (λ (now : List Step). All (InProof now) xs) (sym (h .proof)) (all-kept xs []))
 
   pub elimination-loaded : All (λ x. Any (λ j. j ≡ x .line) (lines steps)) parts
@@ -97,5 +98,5 @@ module _ (stops : Stops) (variables : List Variable) (parts steps : List Step) (
   unfolding roundPairs
   elimination-saturated t v a =
       let z : 0 + t ≡ t = omega arith in
-      let r = rounds-results variables steps 0 t variables v a (complete .1) in
+      let r = rounds-resolvents variables steps 0 t variables v a (complete .1) in
       pairs-tried _≡_ variables t v (lines steps) steps (accounted steps v (roundPairs variables v t steps) (rw z at r))

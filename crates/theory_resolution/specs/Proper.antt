@@ -4,8 +4,10 @@ use mathlib.Core.Path.{_≡_, refl}
 use mathlib.Core.Bool.{not}
 use mathlib.Core.List.{List, [], _∷_}
 use mathlib.Core.Option.{Option, none, some}
-use Prim.Native.Nat.{ℕ, suc, _<_, _∣_}
+use Prim.Native.Nat.{ℕ, zero, suc, _<_, _∣_}
+use native.Mathlib.Nat.{dvd-antisymm, one-dvd}
 use lib.IntN.{ℤ, pos, natAbs}
+use lib.Signed.{quotZ}
 use lib.Dec.{T}
 use lib.ListN.{getD}
 use Rattle.rules.specs.Lists.{all}
@@ -15,7 +17,7 @@ use Rattle.rules.specs.Lines.{Line, Variable}
 use Rattle.rules.specs.Normalize.{settled, settledLine, reduced, normalLine}
 use Rattle.rules.specs.Resolve.{resolvent, resolve}
 use Rattle.theory_vectors.specs.Sign.{isZero-quot}
-use Rattle.theory_vectors.specs.Gcd.{gcdAll-dvd, gcdAll-proper}
+use Rattle.theory_vectors.specs.Gcd.{gcdAll-dvd, gcdAll-greatest, gcdAll-proper}
 use Rattle.theory_vectors.specs.Constraint.{quotients, content-one}
 use Rattle.theory_lists.specs.Dropped.{DroppedOr}
 use Rattle.theory_resolution.specs.Settled.{settled-cases}
@@ -40,11 +42,22 @@ reduced-proper c n =
 -- "divided by the greatest common divisor of coefficients and bound"
 abbrev pub Divided : Option Constraint → Type 0
 Divided none = Unit {0}
-Divided (some c) = gcdAll (c .bound ∷ c .coefficients) ≡ 1
+Divided (some c) = (d : ℕ) → d ∣ natAbs (c .bound) → ((i : ℕ) → d ∣ natAbs (getD (c .coefficients) i (pos 0))) → d ≡ 1
+
+common-one : (d : ℕ) (z : ℤ) (zs : List ℤ) → gcdAll (z ∷ zs) ≡ 1 → d ∣ natAbs z → ((i : ℕ) → d ∣ natAbs (getD zs i (pos 0))) → d ≡ 1
+common-one d z zs e h k = dvd-antisymm (rw e at (gcdAll-greatest d (z ∷ zs) each)) (one-dvd d)
+  where
+    each : (i : ℕ) → d ∣ natAbs (getD (z ∷ zs) i (pos 0))
+    each zero = h
+    each (suc i) = k i
 
 pub reduced-divided : (c : Constraint) → Proper (some c) → Divided (some (reduced c))
 unfolding reduced
-reduced-divided c n = content-one (c .bound ∷ c .coefficients) (gcdAll-proper (c .bound) (c .coefficients) n)
+reduced-divided c n d h k =
+    let cs = c .bound ∷ c .coefficients in
+    let g = gcdAll cs in
+    common-one d (quotZ (c .bound) (pos g)) (quotients g (c .coefficients))
+    (content-one cs (gcdAll-proper (c .bound) (c .coefficients) n)) h k
 
 abbrev DividedLine : Line → Type 0
 DividedLine l = Divided (l .constraint)

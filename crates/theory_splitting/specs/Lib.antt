@@ -13,3 +13,4 @@ pub mod Readers
 pub mod Reading
 pub mod Lent
 pub mod Named
+pub mod EveryPart

@@ -28,7 +28,11 @@ returns c =
     let s = k .solve .ensures .1 .1 in
     let input = k .before .before .before .before .before in
     let are = all-bytes (input .before .args .input .now) (λ i. omega (arith, input .shared-slice-known .given i)) in
-    (t, (b, (s, delivered _ _ _ _ _ _ are t b s)))
+    let model = c .before in
+    let proof = model .before .before in
+    let left = all-bytes (k .solve .last .1 .0) (λ i. omega (arith, proof .slice-known3 .given i)) in
+    let written = all-bytes (k .solve .last .1 .1 .0) (λ i. omega (arith, model .slice-known4 .given i)) in
+    (t, (b, (s, delivered _ _ _ _ _ _ are left written t b s)))
 
 pub jemuling-solve-spec : {M : Type 1} → statement M
 jemuling-solve-spec =
