@@ -8,3 +8,4 @@ pub mod Variables
 pub mod Formed
 pub mod Proper
 pub mod Flaws
+pub mod Result
