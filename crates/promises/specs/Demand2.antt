@@ -2,9 +2,10 @@
 use mathlib.Core.Path.{_≡_}
 use mathlib.Core.Logic.{_↔_}
 use mathlib.Core.List.{List, []}
-use Prim.Native.Nat.{ℕ, _-_, _≤_}
+use mathlib.Core.Option.{some}
+use Prim.Native.Nat.{ℕ, _+_, _-_, _≤_}
 use lib.Dec.{T}
-use lib.ListN.{length}
+use lib.ListN.{length, getElem?, take}
 use Rattle.rules_types.specs.declared.answers.Checked.the-variants.{Accepted}
 use Rattle.rules_types.specs.declared.limits.Limits.{Limits}
 use Rattle.rules_types.specs.Limits as limit
@@ -12,6 +13,7 @@ use Rattle.rules_types.specs.Answers.{answerNumber, answerValue}
 use Rattle.rules.specs.Problem.{Clause, Problem}
 use Rattle.rules.specs.Lines.{Line, Variable}
 use Rattle.rules.specs.Split.{partsOf, splitsOf}
+use Rattle.rules.specs.Resolve.{resolve}
 use Rattle.rules.specs.Steps.{Step}
 use Rattle.rules.specs.Elimination.{Stops, State, order, covered, roundPairs, loadableOf, elimination}
 use Rattle.rules.specs.Needs.{stepsOf}
@@ -20,6 +22,9 @@ use Rattle.theory_lists.specs.All.{All, Any}
 use Rattle.theory_saturation.specs.Equal.{covered-exactly}
 use Rattle.theory_bytes.specs.Bytes.{AllBytes}
 use Rattle.theory_splitting.specs.EveryPart.{EveryPart, every-part}
+use Rattle.theory_resolution.specs.Result.{IsResolvent, resolve-is}
+use Rattle.theory_splitting.specs.WellFormed.{splitsIn}
+use Rattle.theory_splitting.specs.SplitsInto.{SplitsInto, clause-splits}
 use Rattle.theory_splitting.specs.Count.{splits-number}
 use Rattle.theory_splitting.specs.Reading.{read-well-formed}
 use Rattle.theory_elimination.specs.Sound.{Sound}
@@ -44,6 +49,9 @@ pub record Demand2 (input : List ℕ) (p : Problem) : Type 0 where
   pub lines : (stops : Stops) → Each (Justified order (loadableOf p)) [] (stepsOf (elimination stops p))
   pub parts : EveryPart p (loadableOf p)
   pub splits : (k : ℕ) (c : Clause) → splitsOf c ≡ length (partsOf k c) - 1
+  pub pieces : (n : ℕ) (c : Clause) → getElem? (p .clauses) n ≡ some c
+      → let k = p .booleans + splitsIn (take n (p .clauses)) in SplitsInto k c (partsOf k c)
+  pub resolvents : (v : Variable) (u l : Line) → IsResolvent v u l (resolve v u l)
   pub distinct : (stops : Stops) → Each Fresh [] (stepsOf (elimination stops p))
   pub normalized : (stops : Stops) → All (λ s. Sound (s .line)) (stepsOf (elimination stops p))
   -- "and none is left out.": the lines are exactly the parts and resolvents in 01's order, without those that normalizing drops or an
@@ -64,6 +72,8 @@ demand2 input p e = record {
   lines = elimination-lines p;
   parts = every-part p;
   splits = splits-number;
+  pieces = clause-splits p (read-well-formed input p e);
+  resolvents = resolve-is;
   distinct = elimination-distinct p;
   normalized = λ stops. elimination-normalized p stops (read-well-formed input p e);
   exactly = elimination-is p;

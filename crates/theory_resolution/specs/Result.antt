@@ -14,7 +14,7 @@ use Rattle.rules.specs.Lists.{all}
 use Rattle.rules.specs.Arithmetic.{gcdAll, isZero, related}
 use Rattle.rules.specs.Problem.{Constraint}
 use Rattle.rules.specs.Lines.{Booleans, Line, Variable, rational, boolean, coefficient, excluding, union, meet}
-use Rattle.rules.specs.Normalize.{settled, settledLine, reduced, normalLine}
+use Rattle.rules.specs.Normalize.{Settled, always, never, kept, settled, settledLine, reduced, normalLine}
 use Rattle.rules.specs.Resolve.{combination, combinationOf, oneOf, resolvent, resolve}
 use Rattle.theory_lists.specs.Tests.{clash}
 use Rattle.theory_integers.specs.Quotient.{*-quot}
@@ -153,27 +153,31 @@ reduced-by c n =
       whole = reduced-divided c n;
     }
 
+-- of a constraint: true, false, or another
+abbrev pub SettlesTo : Constraint → Settled → Type 0
+SettlesTo c always = Constant c × Rel (c .strict) (pos 0) (c .bound)
+SettlesTo c never = Settles (some c) none
+SettlesTo c (kept d) = Settles (some c) (some d)
+
+pub settled-is : (c : Constraint) → SettlesTo c (settled c)
+unfolding coefficient
+settled-is c =
+    settled-cases (SettlesTo c) c
+    (λ z r. ((λ i. getD-zero (c .coefficients) i z), related-yes (c .strict) (pos 0) (c .bound) r))
+    (λ z r. ((λ i. getD-zero (c .coefficients) i z), λ h. clash (related (c .strict) (pos 0) (c .bound)) (yes-related h) r))
+    (λ z. ((λ h. clash (all isZero (c .coefficients)) (zeros-all (c .coefficients) h) z), reduced-by c z))
+
 settled-normalizes : (l : Line) (c : Constraint) → l .constraint ≡ some c → (Common (l .positive) (l .negative) → ⊥)
-    → Normalizes l (settledLine l (settled c))
-unfolding settledLine coefficient
-settled-normalizes l c e free =
-    settled-cases (λ s. Normalizes l (settledLine l s)) c
-    (λ z r. inr (c, e, (λ i. getD-zero (c .coefficients) i z), related-yes (c .strict) (pos 0) (c .bound) r))
-    (λ z r. (
-      free,
-      refl,
-      refl,
-      rw e (
-        (λ i. getD-zero (c .coefficients) i z),
-        λ h. clash (related (c .strict) (pos 0) (c .bound)) (yes-related h) r,
-      ),
-    ))
-    (λ z. (free, refl, refl, rw e ((λ h. clash (all isZero (c .coefficients)) (zeros-all (c .coefficients) h) z), reduced-by c z)))
+    → (s : Settled) → SettlesTo c s → Normalizes l (settledLine l s)
+unfolding settledLine
+settled-normalizes l c e free always h = inr (c, e, h .0, h .1)
+settled-normalizes l c e free never h = (free, refl, refl, rw e h)
+settled-normalizes l c e free (kept d) h = (free, refl, refl, rw e h)
 
 line-normalizes : (l : Line) → Normalizes l (normalLine l)
 line-normalizes l =
     line-ends (Normalizes l) l (λ h. inl (member-meet (l .positive) (l .negative) h))
-    (λ n e. (apart n, refl, refl, rw e refl)) (λ n c e. settled-normalizes l c e (apart n))
+    (λ n e. (apart n, refl, refl, rw e refl)) (λ n c e. settled-normalizes l c e (apart n) (settled c) (settled-is c))
   where
     apart : T (not (meet (l .positive) (l .negative))) → Common (l .positive) (l .negative) → ⊥
     apart n c = clash (meet (l .positive) (l .negative)) (meet-member (l .positive) (l .negative) (c .member) (c .left) (c .right)) n

@@ -11,7 +11,7 @@ use Rattle.rules.specs.Lines.{Booleans, noBooleans, including}
 use Rattle.rules.specs.Normalize.{Normal, normalClause}
 use Rattle.rules.specs.Split.{chain, parts, partsOf, splitsOf}
 
-chain-length : (k : ℕ) (p n : Booleans) (c : Constraint) (cs : List Constraint) → length (chain k p n c cs) ≡ suc (length cs)
+pub chain-length : (k : ℕ) (p n : Booleans) (c : Constraint) (cs : List Constraint) → length (chain k p n c cs) ≡ suc (length cs)
 unfolding chain
 chain-length k p n c [] = refl
 chain-length k p n c (d ∷ ds) = ap suc (chain-length (suc k) noBooleans (including k noBooleans) d ds)

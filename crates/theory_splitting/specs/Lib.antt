@@ -14,3 +14,6 @@ pub mod Reading
 pub mod Lent
 pub mod Named
 pub mod EveryPart
+pub mod Normalized
+pub mod PartsAre
+pub mod SplitsInto
