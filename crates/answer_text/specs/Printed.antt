@@ -16,7 +16,7 @@ use Rattle.rules_types.specs.Limits as limit
 use Rattle.rules_types.specs.Answers.{verdictNumber}
 use Rattle.rules.specs.Problem.{Problem}
 use Rattle.rules.specs.Steps.{Step, encodeProof}
-use Rattle.rules.specs.Elimination.{State, running, ended, empty, overflow, outOfSteps, order, limited, loadableOf, elimination}
+use Rattle.rules.specs.Elimination.{State, running, ended, empty, overflow, outOfSteps, orderOf, limited, loadableOf, elimination}
 use Rattle.rules.specs.Needs.{stepsOf}
 use Rattle.rules.specs.Values.{walk}
 use Rattle.rules.specs.Model.{written}
@@ -52,15 +52,15 @@ PrintableOutcome (decided v steps pairs bytes) = (length steps ≤ limit.steps) 
 module _ (p : Problem) (w : WellFormed p) where
   concluded-printable : (s : State) → length (stepsOf s) ≤ limit.steps → All Numbered (stepsOf s) → PrintableOutcome (concluded p s)
   unfolding concluded stepsOf
-  concluded-printable (running steps pairs) n h = by (written (p .booleans) (p .rationals) (walk order (map (λ s. s .line) steps))) refl
+  concluded-printable (running steps pairs) n h = by (written (p .booleans) (p .rationals) (walk (orderOf p) (map (λ s. s .line) steps))) refl
     where
-      by : (o : Option (List ℕ)) → written (p .booleans) (p .rationals) (walk order (map (λ s. s .line) steps)) ≡ o
+      by : (o : Option (List ℕ)) → written (p .booleans) (p .rationals) (walk (orderOf p) (map (λ s. s .line) steps)) ≡ o
           → PrintableOutcome (concluded p (running steps pairs))
       by none e = rw (e, concluded) (n, tt)
       by (some bytes) e =
           rw (e, concluded) (
             n,
-            written-printable (p .booleans) (p .rationals) (walk order (map (λ s. s .line) steps)) bytes (w .booleans)
+            written-printable (p .booleans) (p .rationals) (walk (orderOf p) (map (λ s. s .line) steps)) bytes (w .booleans)
                 (w .rationals) e,
           )
   concluded-printable (ended empty steps pairs) n h = (n, h)
@@ -81,7 +81,7 @@ outcome-printable q = by (read q) refl
     by (faulty f place) e = rw (e, outcome) tt
     by (sound p) e =
         rw (e, outcome) (concluded-printable p (read-well-formed q p e) (elimination (limited limit.standard) p)
-        (limited-held limit.standard order (loadableOf p)) (numbered p (read-well-formed q p e) limit.standard (omega arith)))
+        (limited-held limit.standard (orderOf p) (loadableOf p)) (numbered p (read-well-formed q p e) limit.standard (omega arith)))
 
 -- ---- what is handed back
 module _ (n : ℕ) (proof model : List ℕ) (l : length proof ≡ limit.proofBytes limit.standard) (m : length model ≡ limit.modelBytes)

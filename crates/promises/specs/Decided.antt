@@ -6,7 +6,7 @@ use Prim.Native.Nat.{ℕ}
 use Rattle.rules.specs.Problem.{Problem}
 use Rattle.rules.specs.Meaning.{Assignment, Satisfies}
 use Rattle.rules.specs.Steps.{Step}
-use Rattle.rules.specs.Elimination.{Stops, unlimited, State, running, ended, empty, overflow, outOfSteps, order, loadableOf, elimination}
+use Rattle.rules.specs.Elimination.{Stops, unlimited, State, running, ended, empty, overflow, outOfSteps, orderOf, loadableOf, elimination}
 use Rattle.rules.specs.Needs.{stepsOf}
 use Rattle.theory_splitting.specs.WellFormed.{WellFormed}
 use Rattle.theory_elimination.specs.WithinLimits.{Unstopped, unlimited-unstopped}
@@ -25,22 +25,22 @@ HasEmpty (ended overflow steps n) = ⊥
 HasEmpty (ended outOfSteps steps n) = ⊥
 
 module _ (p : Problem) (w : WellFormed p) (stops : Stops) where
-  pub running-satisfies : (steps : List Step) (n : ℕ) → elimination stops p ≡ running steps n → Satisfies (chosen steps) p
+  pub running-satisfies : (steps : List Step) (n : ℕ) → elimination stops p ≡ running steps n → Satisfies (chosen p steps) p
   unfolding elimination
   running-satisfies steps n e = walk-satisfies p w stops steps n e
 
   pub empty-none : (steps : List Step) (n : ℕ) → elimination stops p ≡ ended empty steps n → NoAssignment p
   unfolding elimination stepsOf
   empty-none steps n e = empty-refutes stops p w
-      (subst (λ (s : State). LastEmpty (stepsOf s)) (sym e) (subst EndsRight e (elimination-ends stops order (loadableOf p))))
+      (subst (λ (s : State). LastEmpty (stepsOf s)) (sym e) (subst EndsRight e (elimination-ends stops (orderOf p) (loadableOf p))))
 
 -- the theorem
 pub empty-exactly : (p : Problem) → WellFormed p → HasEmpty (elimination unlimited p) ↔ NoAssignment p
 unfolding elimination
-empty-exactly p w = by (elimination unlimited p) refl (unlimited-unstopped order (loadableOf p))
+empty-exactly p w = by (elimination unlimited p) refl (unlimited-unstopped (orderOf p) (loadableOf p))
   where
     by : (s : State) → elimination unlimited p ≡ s → Unstopped s → HasEmpty s ↔ NoAssignment p
-    by (running steps n) e u = (λ h. absurd h, λ h. h (chosen steps) (running-satisfies p w unlimited steps n e))
+    by (running steps n) e u = (λ h. absurd h, λ h. h (chosen p steps) (running-satisfies p w unlimited steps n e))
     by (ended empty steps n) e u = (λ h. empty-none p w unlimited steps n e, λ h. tt)
     by (ended overflow steps n) e u = absurd u
     by (ended outOfSteps steps n) e u = absurd u

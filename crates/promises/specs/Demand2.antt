@@ -15,7 +15,7 @@ use Rattle.rules.specs.Lines.{Line, Variable}
 use Rattle.rules.specs.Split.{partsOf, splitsOf}
 use Rattle.rules.specs.Resolve.{resolve}
 use Rattle.rules.specs.Steps.{Step}
-use Rattle.rules.specs.Elimination.{Stops, State, order, covered, roundPairs, loadableOf, elimination}
+use Rattle.rules.specs.Elimination.{Stops, State, orderOf, covered, roundPairs, loadableOf, elimination}
 use Rattle.rules.specs.Needs.{stepsOf}
 use Rattle.rules.specs.Calls.{sound, read, solve, proofChecked, modelChecked, evidence}
 use Rattle.theory_lists.specs.All.{All, Any}
@@ -46,7 +46,7 @@ pub record Demand2 (input : List ℕ) (p : Problem) : Type 0 where
   -- "Our book is the course of the published Davis-Putnam and Fourier-Motzkin rules as 01 sets it out: each line is the clause or
   -- resolvent it names,": a part, the one that it names, or the resolvent of two earlier lines of its round; no two are equal,
   -- and all are normalized: no Boolean variable in both signs, no constant constraint, no common divisor
-  pub lines : (stops : Stops) → Each (Justified order (loadableOf p)) [] (stepsOf (elimination stops p))
+  pub lines : (stops : Stops) → Each (Justified (orderOf p) (loadableOf p)) [] (stepsOf (elimination stops p))
   pub parts : EveryPart p (loadableOf p)
   pub splits : (k : ℕ) (c : Clause) → splitsOf c ≡ length (partsOf k c) - 1
   pub pieces : (n : ℕ) (c : Clause) → getElem? (p .clauses) n ≡ some c
@@ -56,10 +56,10 @@ pub record Demand2 (input : List ℕ) (p : Problem) : Type 0 where
   pub normalized : (stops : Stops) → All (λ s. Sound (s .line)) (stepsOf (elimination stops p))
   -- "and none is left out.": the lines are exactly the parts and resolvents in 01's order, without those that normalizing drops or an
   -- earlier one equals, up to the one that ended it; the pairs are the resolvents counted; and no other proof is that
-  pub exactly : (stops : Stops) → Exactly stops order (loadableOf p) (elimination stops p)
-  pub only : (stops : Stops) (other : State) → Exactly stops order (loadableOf p) other → other ≡ elimination stops p
+  pub exactly : (stops : Stops) → Exactly stops (orderOf p) (loadableOf p) (elimination stops p)
+  pub only : (stops : Stops) (other : State) → Exactly stops (orderOf p) (loadableOf p) other → other ≡ elimination stops p
   -- the words of that: the order of a round's pairs; which line an earlier one equals; every part before the end is loaded
-  pub inOrder : (v : Variable) (t : ℕ) (steps : List Step) → InOrder order v t steps (roundPairs order v t steps)
+  pub inOrder : (v : Variable) (t : ℕ) (steps : List Step) → InOrder (orderOf p) v t steps (roundPairs (orderOf p) v t steps)
   pub equal : (l : Line) (steps : List Step) → T (covered l steps) ↔ Any (λ s. s .line ≡ l) steps
   pub loaded : (stops : Stops) → AllLoaded stops (loadableOf p) (elimination stops p)
   -- "The check accepts a book exactly if its lines follow and the last is empty, a sheet exactly if every clause holds,"
@@ -78,7 +78,7 @@ demand2 input p e = record {
   normalized = λ stops. elimination-normalized p stops (read-well-formed input p e);
   exactly = elimination-is p;
   only = elimination-only p;
-  inOrder = round-in-order order;
+  inOrder = round-in-order (orderOf p);
   equal = covered-exactly;
   loaded = elimination-parts p;
   proof = λ limits few bytes b. accepted-lines input p e limits bytes b few;

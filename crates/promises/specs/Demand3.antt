@@ -18,7 +18,7 @@ use Rattle.rules_types.specs.Limits as limit
 use Rattle.rules_types.specs.Answers.{answerValue}
 use Rattle.rules.specs.Problem.{Problem}
 use Rattle.rules.specs.Lines.{Line}
-use Rattle.rules.specs.Elimination.{limited, overflows, overflow, outOfSteps, order, loadableOf, elimination}
+use Rattle.rules.specs.Elimination.{limited, overflows, overflow, outOfSteps, orderOf, loadableOf, elimination}
 use Rattle.rules.specs.Needs.{stepsOf, pairsOf, Fits}
 use Rattle.rules.specs.Calls.{sound, read, Solving, solve, proofChecked}
 use Rattle.theory_vectors.specs.Amounts.{SmallAmounts, overflows-no}
@@ -47,9 +47,9 @@ pub record Demand3 (limits : Limits) (input : List ℕ) (p : Problem) (lentProof
   -- "Otherwise, and only otherwise, "wide" or "full" comes, whichever the course meets first."
   pub otherwise : LimitMet (ours .solved .answer) ↔ (Fits limits p → ⊥)
   pub isOverflow : IsRefused refusal.Overflow (ours .solved .answer)
-      ↔ (firstStop (limited limits) (events order (loadableOf p)) ≡ some overflow)
+      ↔ (firstStop (limited limits) (events (orderOf p) (loadableOf p)) ≡ some overflow)
   pub isOutOfSteps : IsRefused refusal.OutOfSteps (ours .solved .answer)
-      ↔ (firstStop (limited limits) (events order (loadableOf p)) ≡ some outOfSteps)
+      ↔ (firstStop (limited limits) (events (orderOf p) (loadableOf p)) ≡ some outOfSteps)
   pub wide : (l : Line) → T (not (overflows l)) ↔ SmallAmounts (l .constraint)
   -- "In every case the lines and pairs reported are those the course holds and tries, the pairs at most 262,144,"
   pub lines : answerValue (ours .solved .answer) ≡ length (stepsOf (elimination (limited limits) p))

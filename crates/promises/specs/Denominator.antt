@@ -11,7 +11,7 @@ use Rattle.rules.specs.Problem.{Problem}
 use Rattle.rules.specs.Meaning.{Assignment}
 use Rattle.rules.specs.Lines.{coefficient}
 use Rattle.rules.specs.Steps.{Step}
-use Rattle.rules.specs.Elimination.{unlimited, order, elimination}
+use Rattle.rules.specs.Elimination.{unlimited, orderOf, elimination}
 use Rattle.rules.specs.Needs.{stepsOf}
 use Rattle.rules.specs.Values.{walk}
 use Rattle.rules.specs.Calls.{sound, read}
@@ -19,6 +19,7 @@ use Rattle.theory_lists.specs.All.{all-map, all-mapped}
 use Rattle.theory_splitting.specs.WellFormed.{WellFormed}
 use Rattle.theory_splitting.specs.Reading.{read-well-formed}
 use Rattle.theory_saturation.specs.Unbounded.{walk-zero}
+use Rattle.theory_saturation.specs.Order.{problem-ordered}
 use Rattle.theory_saturation.specs.Least.{Over, over-zero, walk-least}
 use Rattle.theory_elimination.specs.Saturated.{lines}
 use Rattle.theory_elimination.specs.Narrow.{NarrowLine, elimination-narrow}
@@ -41,18 +42,18 @@ module _ (p : Problem) (w : WellFormed p) where
   steps = stepsOf (elimination unlimited p)
 
   abbrev χ : Assignment
-  χ = chosen steps
+  χ = chosen p steps
 
   absent : (f : ℕ) → r ≤ f → χ .numerators f ≡ pos 0
   unfolding walk
   absent f l =
-      walk-zero order (lines steps) f
+      walk-zero (orderOf p) (lines steps) f
       (all-mapped (λ l. coefficient f (l .constraint) ≡ pos 0) (λ s. s .line) steps (all-map (λ s. NarrowLine r (s .line))
       (λ s. coefficient f (s .line .constraint) ≡ pos 0) steps (λ s h. h f l) (elimination-narrow unlimited p w)))
-      0 order
+      0 (orderOf p)
 
   assignment-least : LeastOf r χ
-  assignment-least m h = walk-least (lines steps) m
+  assignment-least m h = walk-least (orderOf p) (problem-ordered p .once) (lines steps) m
       (λ f. ⊎-elim (λ z. over-zero χ m f (absent f (omega arith))) (λ z. h f (omega arith)) (eq-zero-or-pos (r - f)))
 
 pub least-denominator : (input : List ℕ) {p : Problem} → read input ≡ sound p → LeastOf (p .rationals) (walkOf p .assignment)

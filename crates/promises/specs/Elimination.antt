@@ -2,7 +2,7 @@
 use mathlib.Core.Path.{_≡_}
 use mathlib.Core.List.{[]}
 use Rattle.rules.specs.Problem.{Problem}
-use Rattle.rules.specs.Elimination.{Stops, State, order, loadableOf, elimination}
+use Rattle.rules.specs.Elimination.{Stops, State, orderOf, loadableOf, elimination}
 use Rattle.rules.specs.Needs.{stepsOf}
 use Rattle.theory_lists.specs.All.{All}
 use Rattle.theory_splitting.specs.WellFormed.{WellFormed}
@@ -14,26 +14,26 @@ use Rattle.theory_elimination.specs.Determined.{exactly-one}
 use Rattle.theory_elimination.specs.Loaded.{AllLoaded, elimination-loads}
 
 module _ (p : Problem) (stops : Stops) where
-  pub elimination-lines : Each (Justified order (loadableOf p)) [] (stepsOf (elimination stops p))
+  pub elimination-lines : Each (Justified (orderOf p) (loadableOf p)) [] (stepsOf (elimination stops p))
   unfolding elimination
-  elimination-lines = elimination-origins order (loadableOf p) stops
+  elimination-lines = elimination-origins (orderOf p) (loadableOf p) stops
 
   pub elimination-distinct : Each Fresh [] (stepsOf (elimination stops p))
   unfolding elimination
-  elimination-distinct = elimination-fresh stops order (loadableOf p)
+  elimination-distinct = elimination-fresh stops (orderOf p) (loadableOf p)
 
-  pub elimination-is : Exactly stops order (loadableOf p) (elimination stops p)
+  pub elimination-is : Exactly stops (orderOf p) (loadableOf p) (elimination stops p)
   unfolding elimination
-  elimination-is = elimination-exactly stops order (loadableOf p)
+  elimination-is = elimination-exactly stops (orderOf p) (loadableOf p)
 
-  pub elimination-only : (other : State) → Exactly stops order (loadableOf p) other → other ≡ elimination stops p
+  pub elimination-only : (other : State) → Exactly stops (orderOf p) (loadableOf p) other → other ≡ elimination stops p
   unfolding elimination
-  elimination-only other h = exactly-one stops order (loadableOf p) other h
+  elimination-only other h = exactly-one stops (orderOf p) (loadableOf p) other h
 
   pub elimination-normalized : WellFormed p → All (λ s. Sound (s .line)) (stepsOf (elimination stops p))
   unfolding elimination
-  elimination-normalized w = elimination-sound p w stops order
+  elimination-normalized w = elimination-sound p w stops (orderOf p)
 
   pub elimination-parts : AllLoaded stops (loadableOf p) (elimination stops p)
   unfolding elimination
-  elimination-parts = elimination-loads stops order (loadableOf p)
+  elimination-parts = elimination-loads stops (orderOf p) (loadableOf p)

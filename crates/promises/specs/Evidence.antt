@@ -13,7 +13,7 @@ use Rattle.rules_types.specs.Limits as limit
 use Rattle.rules_types.specs.Answers.{answerValue}
 use Rattle.rules.specs.Problem.{Problem}
 use Rattle.rules.specs.Steps.{Step, encodeProof}
-use Rattle.rules.specs.Elimination.{limited, State, running, ended, empty, overflow, outOfSteps, order, elimination}
+use Rattle.rules.specs.Elimination.{limited, State, running, ended, empty, overflow, outOfSteps, orderOf, elimination}
 use Rattle.rules.specs.Needs.{stepsOf}
 use Rattle.rules.specs.Values.{walk}
 use Rattle.rules.specs.Calls.{sound, read, concluded, said, proofAfter, modelAfter, proofChecked}
@@ -41,7 +41,7 @@ module _ (limits : Limits) (input : List ℕ) (p : Problem) (e : read input ≡ 
   model-by proof model steps n c none q h = absurd (let z : _≡_ {A = ℕ} 0 1 = cc in omega arith)
   model-by proof model steps n c (some bytes) q h =
       let w = read-well-formed input p e in
-      let walked = walk order (map (λ s. s .line) steps) in
+      let walked = walk (orderOf p) (map (λ s. s .line) steps) in
       let fit = unstopped-fits limits p steps n c in
       let s = running-satisfies p w (limited limits) steps n c in
       let k = written-fits (p .booleans) (p .rationals) walked bytes (w .booleans) (w .rationals) (s .denominator) q in
@@ -81,7 +81,7 @@ module _ (limits : Limits) (input : List ℕ) (p : Problem) (e : read input ≡ 
     unfolding elimination stepsOf
     formed steps n c =
         all-map (λ s. Sound (s .line)) (λ s. Formed (s .line)) steps (λ s h. h .formed) (subst (λ (s : State). All (λ x. Sound (x .line))
-        (stepsOf s)) c (elimination-sound p (read-well-formed input p e) (limited limits) order))
+        (stepsOf s)) c (elimination-sound p (read-well-formed input p e) (limited limits) (orderOf p)))
 
     pub our-proof : Comes Unsatisfiable (answerOf (concluded p (elimination (limited limits) p)))
         → proofChecked limits input (take (limit.stepBytes * answerValue (answerOf (concluded p (elimination (limited limits) p))))

@@ -9,7 +9,7 @@ use native.Mathlib.Omega.{arith}
 use Rattle.rules_types.specs.declared.answers.Refusal.the-variants as refusal
 use Rattle.rules_types.specs.declared.limits.Limits.{Limits}
 use Rattle.rules.specs.Problem.{Problem}
-use Rattle.rules.specs.Elimination.{Stops, limited, unlimited, End, empty, overflow, outOfSteps, State, running, ended, order, loadableOf}
+use Rattle.rules.specs.Elimination.{Stops, limited, unlimited, End, empty, overflow, outOfSteps, State, running, ended, orderOf, loadableOf}
 use Rattle.rules.specs.Elimination.{elimination}
 use Rattle.rules.specs.Calls.{concluded, said}
 use Rattle.theory_elimination.specs.Events.{Event, events}
@@ -72,15 +72,15 @@ module _ (p : Problem) where
   out-of-steps-by (ended outOfSteps steps n) o h = (λ k. h, λ k. refl)
 
   module _ (limits : Limits) where
-    ends : EndOf (elimination (limited limits) p) (firstStop (limited limits) (events order (loadableOf p)))
+    ends : EndOf (elimination (limited limits) p) (firstStop (limited limits) (events (orderOf p) (loadableOf p)))
     unfolding elimination
     ends = rw (elimination-cut limits p)
-        (cut-end (limited limits) (events order (loadableOf p)) (elimination unlimited p) (unlimited-unstopped order (loadableOf p)))
+        (cut-end (limited limits) (events (orderOf p) (loadableOf p)) (elimination unlimited p) (unlimited-unstopped (orderOf p) (loadableOf p)))
 
     pub overflow-first : IsRefused refusal.Overflow (answerOf (concluded p (elimination (limited limits) p)))
-        ↔ (firstStop (limited limits) (events order (loadableOf p)) ≡ some overflow)
+        ↔ (firstStop (limited limits) (events (orderOf p) (loadableOf p)) ≡ some overflow)
     overflow-first = overflow-by (elimination (limited limits) p) _ ends
 
     pub out-of-steps-first : IsRefused refusal.OutOfSteps (answerOf (concluded p (elimination (limited limits) p)))
-        ↔ (firstStop (limited limits) (events order (loadableOf p)) ≡ some outOfSteps)
+        ↔ (firstStop (limited limits) (events (orderOf p) (loadableOf p)) ≡ some outOfSteps)
     out-of-steps-first = out-of-steps-by (elimination (limited limits) p) _ ends

@@ -19,7 +19,7 @@ use Rattle.rules_types.specs.declared.limits.Limits.{Limits}
 use Rattle.rules_types.specs.Limits as limit
 use Rattle.rules_types.specs.Answers.{answerNumber, answerValue}
 use Rattle.rules.specs.Problem.{Problem}
-use Rattle.rules.specs.Elimination.{order, loadableOf, elimination}
+use Rattle.rules.specs.Elimination.{orderOf, loadableOf, elimination}
 use Rattle.rules.specs.Calls.{Reading, faulty, sound, read, Solving, proofChecked, modelChecked}
 use Rattle.theory_lists.specs.Tests.{split}
 use Rattle.theory_layout.specs.WrittenModels.{front-states}
@@ -93,7 +93,7 @@ module _ (limits : Limits) (input proof model : List ℕ) (ours : Solving) (d : 
     unfolding elimination
     few-lines v c =
         let r = verdict-read v c in
-        rw (third (r .problem) (r .reads) (r .full) .lines) (limited-held limits order (loadableOf (r .problem)))
+        rw (third (r .problem) (r .reads) (r .full) .lines) (limited-held limits (orderOf (r .problem)) (loadableOf (r .problem)))
 
     model-of : (n : ℕ) → part ≡ OfModel n → modelChecked input (take n (ours .model)) ≡ Accepted
     model-of n = by-part h (λ e. e ≡ OfModel n → modelChecked input (take n (ours .model)) ≡ Accepted)

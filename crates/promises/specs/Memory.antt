@@ -15,7 +15,7 @@ use Rattle.rules_types.specs.declared.limits.Limits.{Limits}
 use Rattle.rules_types.specs.Limits as limit
 use Rattle.rules.specs.Problem.{Problem}
 use Rattle.rules.specs.Steps.{Step}
-use Rattle.rules.specs.Elimination.{limited, State, running, ended, empty, overflow, outOfSteps, order, loadableOf, elimination}
+use Rattle.rules.specs.Elimination.{limited, State, running, ended, empty, overflow, outOfSteps, orderOf, loadableOf, elimination}
 use Rattle.rules.specs.Needs.{stepsOf}
 use Rattle.rules.specs.Values.{walk}
 use Rattle.rules.specs.Calls.{Reading, faulty, sound, Outcome, faulted, stopped, decided, read, noModel, concluded, lent, said, proofAfter}
@@ -91,7 +91,7 @@ module _ (limits : Limits) (proof model : List ℕ) (full : FullSize limits proo
     unfolding noModel
     kept-finished steps n c f h none q = kept-decided Unwritten steps n noModel f h refl
     kept-finished steps n c f h (some bytes) q =
-        kept-decided Satisfiable steps n bytes f h (written-accepted input p e (walk order (map (λ s. s .line) steps)) bytes [] q
+        kept-decided Satisfiable steps n bytes f h (written-accepted input p e (walk (orderOf p) (map (λ s. s .line) steps)) bytes [] q
         (running-satisfies p (read-well-formed input p e) (limited limits) steps n c) .0)
 
     kept-concluded : (s : State) → elimination (limited limits) p ≡ s → All (λ x. Formed (x .line)) (stepsOf s)
@@ -107,8 +107,8 @@ module _ (limits : Limits) (proof model : List ℕ) (full : FullSize limits proo
     kept-elimination =
         kept-concluded (elimination (limited limits) p) refl
         (all-map (λ s. Sound (s .line)) (λ s. Formed (s .line)) (stepsOf (elimination (limited limits) p)) (λ s h. h .formed)
-        (elimination-sound p (read-well-formed input p e) (limited limits) order))
-        (limited-held limits order (loadableOf p))
+        (elimination-sound p (read-well-formed input p e) (limited limits) (orderOf p)))
+        (limited-held limits (orderOf p) (loadableOf p))
 
 kept-faulted : (limits : Limits) (proof model : List ℕ) (f : Refusal) (place : ℕ) → SameLengths limits proof model (faulted f place)
 unfolding proofAfter modelAfter

@@ -10,7 +10,7 @@ use Rattle.rules_types.specs.declared.answers.Verdict.the-variants.{Satisfiable
 use Rattle.rules_types.specs.declared.limits.Limits.{Limits}
 use Rattle.rules.specs.Problem.{Problem}
 use Rattle.rules.specs.Steps.{Step}
-use Rattle.rules.specs.Elimination.{limited, State, running, ended, empty, overflow, outOfSteps, order, elimination}
+use Rattle.rules.specs.Elimination.{limited, State, running, ended, empty, overflow, outOfSteps, orderOf, elimination}
 use Rattle.rules.specs.Needs.{stepsOf, Fits}
 use Rattle.rules.specs.Values.{walk}
 use Rattle.rules.specs.Model.{written}
@@ -27,7 +27,7 @@ finished steps n none = decided Unwritten steps n noModel
 finished steps n (some bytes) = decided Satisfiable steps n bytes
 
 abbrev pub walkModel : Problem → List Step → Option (List ℕ)
-walkModel p steps = written (p .booleans) (p .rationals) (walk order (map (λ s. s .line) steps))
+walkModel p steps = written (p .booleans) (p .rationals) (walk (orderOf p) (map (λ s. s .line) steps))
 
 pub concluded-running : (p : Problem) (steps : List Step) (n : ℕ) → concluded p (running steps n) ≡ finished steps n (walkModel p steps)
 unfolding concluded
@@ -78,9 +78,9 @@ module _ (limits : Limits) (p : Problem) (w : WellFormed p) where
 
   -- where it fits, its lines are those of the elimination without limits
   pub walk-is : (steps : List Step) (n : ℕ) → elimination (limited limits) p ≡ running steps n → Fits limits p
-      → walkOf p ≡ walk order (map (λ s. s .line) steps)
+      → walkOf p ≡ walk (orderOf p) (map (λ s. s .line) steps)
   unfolding walkOf stepsOf
-  walk-is steps n e f = ap (λ (s : State). walk order (map (λ x. x .line) (stepsOf s))) (sym (fits-same limits p f) ∙ e)
+  walk-is steps n e f = ap (λ (s : State). walk (orderOf p) (map (λ x. x .line) (stepsOf s))) (sym (fits-same limits p f) ∙ e)
 
   pub model-is : (steps : List Step) (n : ℕ) → elimination (limited limits) p ≡ running steps n → Fits limits p
       → modelOf p ≡ walkModel p steps
@@ -91,7 +91,7 @@ module _ (limits : Limits) (p : Problem) (w : WellFormed p) where
   unfolding concluded said
   unsatisfiable-by (running steps n) e f = (
     λ h. absurd (finished-unsatisfiable steps n (walkModel p steps) (rw (concluded-running p steps n) at h)),
-    λ h. absurd (h (chosen steps) (running-satisfies p w (limited limits) steps n e)),
+    λ h. absurd (h (chosen p steps) (running-satisfies p w (limited limits) steps n e)),
   )
   unsatisfiable-by (ended empty steps n) e f = (λ h. empty-none p w (limited limits) steps n e, λ h. refl)
   unsatisfiable-by (ended overflow steps n) e f = absurd (fits-unstopped limits p f (rw e tt))
@@ -104,7 +104,7 @@ module _ (limits : Limits) (p : Problem) (w : WellFormed p) where
       let r = finished-satisfiable steps n (walkModel p steps) in
       let q = model-is steps n e f in (
         λ h. (
-          (chosen steps, running-satisfies p w (limited limits) steps n e),
+          (chosen p steps, running-satisfies p w (limited limits) steps n e),
           (let k = r .0 (rw (concluded-running p steps n) at h) in (k .0, q ∙ k .1)),
         ),
         λ h. rw (concluded-running p steps n) (r .1 (h .1 .0, sym q ∙ h .1 .1)),
@@ -122,7 +122,7 @@ module _ (limits : Limits) (p : Problem) (w : WellFormed p) where
   unwritten-by (running steps n) e f =
       let r = finished-unwritten steps n (walkModel p steps) in
       let q = model-is steps n e f in (
-        λ h. ((chosen steps, running-satisfies p w (limited limits) steps n e), q ∙ r .0 (rw (concluded-running p steps n) at h)),
+        λ h. ((chosen p steps, running-satisfies p w (limited limits) steps n e), q ∙ r .0 (rw (concluded-running p steps n) at h)),
         λ h. rw (concluded-running p steps n) (r .1 (sym q ∙ h .1)),
       )
   unwritten-by (ended empty steps n) e f = (

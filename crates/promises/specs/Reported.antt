@@ -12,7 +12,7 @@ use Rattle.rules_types.specs.Limits as limit
 use Rattle.rules_types.specs.Answers.{answerValue}
 use Rattle.rules.specs.Problem.{Problem}
 use Rattle.rules.specs.Steps.{Step, encodeProof}
-use Rattle.rules.specs.Elimination.{limited, unlimited, State, running, ended, empty, overflow, outOfSteps, order, loadableOf, elimination}
+use Rattle.rules.specs.Elimination.{limited, unlimited, State, running, ended, empty, overflow, outOfSteps, orderOf, loadableOf, elimination}
 use Rattle.rules.specs.Needs.{stepsOf, pairsOf}
 use Rattle.rules.specs.Calls.{sound, Outcome, read, concluded, said, proofAfter, modelAfter, Solving, solve}
 use Rattle.theory_lists.specs.All.{all-map}
@@ -76,14 +76,14 @@ pub at-most : (limits : Limits) (p : Problem) → WellFormed p
 unfolding elimination
 at-most limits p w =
     rw (reported-pairs p (elimination (limited limits) p))
-    (pairs-bound limits order (loadableOf p)
+    (pairs-bound limits (orderOf p) (loadableOf p)
     (all-map (λ s. Sound (s .line)) (λ s. Consistent (s .line)) (loadableOf p) (λ s h. h .consistent) (loadable-sound p w)))
 
 -- ---- which of "wide" and "full" is first
 pub elimination-cut : (limits : Limits) (p : Problem)
-    → elimination (limited limits) p ≡ cut (limited limits) (events order (loadableOf p)) (elimination unlimited p)
+    → elimination (limited limits) p ≡ cut (limited limits) (events (orderOf p) (loadableOf p)) (elimination unlimited p)
 unfolding elimination
-elimination-cut limits p = eliminate-cut (limited limits) order (loadableOf p)
+elimination-cut limits p = eliminate-cut (limited limits) (orderOf p) (loadableOf p)
 
 -- ---- the proof after a verdict
 abbrev proofOf : Limits → List Step → List ℕ → List ℕ
@@ -119,7 +119,7 @@ lines-held limits few p w proof v h =
     let formed = all-map Writable (λ s. Formed (s .line)) steps (λ s k. k .line .formed) writable in
     let size : length (encodeProof steps ++ zeros) ≡ limit.proofBytes limits =
     rw (length-append (encodeProof steps) zeros, length-replicate {A = ℕ} (limit.proofBytes limits - limit.stepBytes * length steps) 0)
-    (omega (arith, proof-length steps formed, limited-held limits order (loadableOf p))) in
+    (omega (arith, proof-length steps formed, limited-held limits (orderOf p) (loadableOf p))) in
     let held = proof-at steps (limits .steps) old writable in
     rw (proof-holds limits p proof state v h) (record {
       lines = held;

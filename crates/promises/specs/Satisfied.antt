@@ -8,7 +8,7 @@ use Rattle.rules.specs.Problem.{Problem}
 use Rattle.rules.specs.Meaning.{Assignment, Satisfies}
 use Rattle.rules.specs.Lines.{lineHolds, isEmpty}
 use Rattle.rules.specs.Steps.{Step}
-use Rattle.rules.specs.Elimination.{Stops, State, running, order, loadableOf, eliminate}
+use Rattle.rules.specs.Elimination.{Stops, State, running, orderOf, loadableOf, eliminate}
 use Rattle.rules.specs.Needs.{stepsOf}
 use Rattle.rules.specs.Values.{walk}
 use Rattle.theory_lists.specs.All.{All, Any, all-map, all-any, all-mapped}
@@ -20,6 +20,7 @@ use Rattle.theory_splitting.specs.SplitProblem.{StepsHold, splitting-keeps}
 use Rattle.theory_saturation.specs.Covered.{Covers}
 use Rattle.theory_saturation.specs.Equal.{equal-covers}
 use Rattle.theory_saturation.specs.Saturation.{LinesHold, all-pairs-map}
+use Rattle.theory_saturation.specs.Order.{problem-ordered}
 use Rattle.theory_saturation.specs.Formed.{saturation-formed}
 use Rattle.theory_elimination.specs.Sound.{Sound, elimination-sound}
 use Rattle.theory_elimination.specs.Ends.{EndsRight, elimination-ends}
@@ -27,31 +28,31 @@ use Rattle.theory_elimination.specs.Saturated.{lines}
 use Rattle.theory_elimination.specs.Saturated.{elimination-loaded, elimination-saturated}
 
 -- the assignment of the walk over these lines
-abbrev pub chosen : List Step → Assignment
-chosen steps = walk order (lines steps) .assignment
+abbrev pub chosen : Problem → List Step → Assignment
+chosen p steps = walk (orderOf p) (lines steps) .assignment
 
 module _ (p : Problem) (w : WellFormed p) (stops : Stops) (steps : List Step) (n : ℕ)
-    (e : eliminate stops order (loadableOf p) ≡ running steps n) where
+    (e : eliminate stops (orderOf p) (loadableOf p) ≡ running steps n) where
   -- every line of the proof holds
-  proof-holds : LinesHold (chosen steps) (lines steps)
+  proof-holds : LinesHold (chosen p steps) (lines steps)
   unfolding stepsOf
   proof-holds =
-      let s = subst (λ (state : State). All (λ x. Sound (x .line)) (stepsOf state)) e (elimination-sound p w stops order) in
-      saturation-formed (lines steps)
+      let s = subst (λ (state : State). All (λ x. Sound (x .line)) (stepsOf state)) e (elimination-sound p w stops (orderOf p)) in
+      saturation-formed (problem-ordered p) (lines steps)
       (all-mapped Formed (λ x. x .line) steps (all-map (λ x. Sound (x .line)) (λ x. Formed (x .line)) steps (λ x h. h .formed) s))
       (all-mapped ProperLine (λ x. x .line) steps (all-map (λ x. Sound (x .line)) (λ x. ProperLine (x .line)) steps (λ x h. h .proper) s))
-      (all-mapped (λ l. T (not (isEmpty l))) (λ x. x .line) steps (subst EndsRight e (elimination-ends stops order (loadableOf p))))
-      (all-pairs-map _≡_ Covers equal-covers (lines steps) order (elimination-saturated stops order (loadableOf p) steps n e))
+      (all-mapped (λ l. T (not (isEmpty l))) (λ x. x .line) steps (subst EndsRight e (elimination-ends stops (orderOf p) (loadableOf p))))
+      (all-pairs-map _≡_ Covers equal-covers (lines steps) (orderOf p) (elimination-saturated stops (orderOf p) (loadableOf p) steps n e))
 
   -- so does every part, which one of them equals
-  parts-hold : StepsHold (chosen steps) (loadableOf p)
+  parts-hold : StepsHold (chosen p steps) (loadableOf p)
   parts-hold =
       let b = proof-holds in
-      all-map (λ x. Any (λ j. j ≡ x .line) (lines steps)) (λ x. T (lineHolds (chosen steps) (x .line))) (loadableOf p)
-      (λ x h. all-any (λ l. T (lineHolds (chosen steps) l)) (λ j. j ≡ x .line) (lines steps) (λ j t c. rw c at t) (b .lines) h)
-      (elimination-loaded stops order (loadableOf p) steps n e)
+      all-map (λ x. Any (λ j. j ≡ x .line) (lines steps)) (λ x. T (lineHolds (chosen p steps) (x .line))) (loadableOf p)
+      (λ x h. all-any (λ l. T (lineHolds (chosen p steps) l)) (λ j. j ≡ x .line) (lines steps) (λ j t c. rw c at t) (b .lines) h)
+      (elimination-loaded stops (orderOf p) (loadableOf p) steps n e)
 
-  pub walk-satisfies : Satisfies (chosen steps) p
+  pub walk-satisfies : Satisfies (chosen p steps) p
   walk-satisfies =
-      splitting-keeps p w (chosen steps) (proof-holds .denominator) .1
-      (chosen-same (chosen steps) (p .booleans) _ (λ ψ. StepsHold ψ (loadableOf p)) parts-hold)
+      splitting-keeps p w (chosen p steps) (proof-holds .denominator) .1
+      (chosen-same (chosen p steps) (p .booleans) _ (λ ψ. StepsHold ψ (loadableOf p)) parts-hold)

@@ -15,7 +15,7 @@ use Rattle.rules.specs.Lists.{any, filter, tabulate}
 use Rattle.rules.specs.Meaning.{Assignment}
 use Rattle.rules.specs.Lines.{Line, Variable, rational, boolean, positively, negatively}
 use Rattle.rules.specs.Problem.{Problem}
-use Rattle.rules.specs.Elimination.{roundOf, order, unlimited, elimination}
+use Rattle.rules.specs.Elimination.{roundOf, orderOf, unlimited, elimination}
 use Rattle.rules.specs.Needs.{stepsOf}
 use Rattle.rules.specs.Values.{Fraction, beyond, Gathered, gather, rationalValue, exceeds, Walked, walkFrom, walk}
 use Rattle.rules.specs.Model.{tooLarge, encodeModel, written}
@@ -127,8 +127,8 @@ unwritten-is b r variables lines =
 
 -- of a problem
 abbrev pub RuleSaysSo : Problem → Type 0
-RuleSaysSo p = SaysUnwritten (p .rationals) order (lines (stepsOf (elimination unlimited p)))
+RuleSaysSo p = SaysUnwritten (p .rationals) (orderOf p) (lines (stepsOf (elimination unlimited p)))
 
 pub rule-says-so : (p : Problem) → (modelOf p ≡ none) ↔ RuleSaysSo p
 unfolding modelOf walkOf
-rule-says-so p = unwritten-is (p .booleans) (p .rationals) order (lines (stepsOf (elimination unlimited p)))
+rule-says-so p = unwritten-is (p .booleans) (p .rationals) (orderOf p) (lines (stepsOf (elimination unlimited p)))

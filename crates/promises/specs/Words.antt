@@ -19,7 +19,7 @@ use Rattle.rules.specs.Problem.{Problem}
 use Rattle.rules.specs.Meaning.{Assignment, Satisfies}
 use Rattle.rules.specs.Lines.{Line, isEmpty}
 use Rattle.rules.specs.Steps.{Step}
-use Rattle.rules.specs.Elimination.{Stops, End, limited, unlimited, order, elimination}
+use Rattle.rules.specs.Elimination.{Stops, End, limited, unlimited, orderOf, elimination}
 use Rattle.rules.specs.Needs.{stepsOf}
 use Rattle.rules.specs.Values.{Walked, walk}
 use Rattle.rules.specs.Model.{written}
@@ -35,7 +35,7 @@ SomeAssignment p = (χ : Assignment) × Satisfies χ p
 
 -- what the walk backwards makes of Q's lines, by 01's value rule
 unfoldable pub walkOf : Problem → Walked
-walkOf p = walk order (map (λ s. s .line) (stepsOf (elimination unlimited p)))
+walkOf p = walk (orderOf p) (map (λ s. s .line) (stepsOf (elimination unlimited p)))
 
 -- what the rule gives for Q: a model, or none where it says "unwritten"
 unfoldable pub modelOf : Problem → Option (List ℕ)

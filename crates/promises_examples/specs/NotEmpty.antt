@@ -11,7 +11,7 @@ use lib.ListN.{length, replicate}
 use Rattle.rules_types.specs.declared.limits.Limits.{Limits}
 use Rattle.rules_types.specs.Limits as limit
 use Rattle.rules.specs.Problem.{Problem}
-use Rattle.rules.specs.Elimination.{overflow, outOfSteps, order, limited, loadableOf}
+use Rattle.rules.specs.Elimination.{overflow, outOfSteps, orderOf, limited, loadableOf}
 use Rattle.rules.specs.Needs.{needs, Fits}
 use Rattle.rules.specs.Calls.{sound, read, solve}
 use Rattle.rules.specs.Write.{atMost, below, alone, problemOf}
@@ -90,7 +90,7 @@ pub ten-does-not-fit : Fits (ofSteps 5) (problemFrom ten) → ⊥
 unfolding definitions
 ten-does-not-fit = delivers 5 ten (omega arith) refl full-five .otherwise .0 (inl refl)
 
-pub ten-overflows : firstStop (limited (ofSteps 5)) (events order (loadableOf (problemFrom ten))) ≡ some overflow
+pub ten-overflows : firstStop (limited (ofSteps 5)) (events (orderOf (problemFrom ten)) (loadableOf (problemFrom ten))) ≡ some overflow
 unfolding definitions
 ten-overflows = delivers 5 ten (omega arith) refl full-five .isOverflow .0 refl
 
@@ -102,6 +102,6 @@ pub seven-does-not-fit : Fits (ofSteps 4) (problemFrom seven) → ⊥
 unfolding definitions
 seven-does-not-fit = delivers 4 seven (omega arith) refl full-four .otherwise .0 (inr refl)
 
-pub seven-out-of-steps : firstStop (limited (ofSteps 4)) (events order (loadableOf (problemFrom seven))) ≡ some outOfSteps
+pub seven-out-of-steps : firstStop (limited (ofSteps 4)) (events (orderOf (problemFrom seven)) (loadableOf (problemFrom seven))) ≡ some outOfSteps
 unfolding definitions
 seven-out-of-steps = delivers 4 seven (omega arith) refl full-four .isOutOfSteps .0 refl

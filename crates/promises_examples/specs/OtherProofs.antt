@@ -9,7 +9,7 @@ use lib.ListN.{length, getD, take, drop}
 use Rattle.rules_types.specs.Limits.{standard}
 use Rattle.rules.specs.Problem.{Problem}
 use Rattle.rules.specs.Steps.{Step, header}
-use Rattle.rules.specs.Elimination.{State, running, ended, empty, order, limited, loadableOf, elimination}
+use Rattle.rules.specs.Elimination.{State, running, ended, empty, orderOf, limited, loadableOf, elimination}
 use Rattle.rules.specs.Needs.{stepsOf, pairsOf}
 use Rattle.rules.specs.Write.{atMost, clauseOf, alone, problemOf}
 use Rattle.rules.specs.Compute.{definitions}
@@ -18,7 +18,7 @@ use Rattle.promises.specs.Elimination.{elimination-only}
 use Rattle.promises_examples.specs.Read.{problemFrom}
 
 abbrev Exact : Problem → State → Type 0
-Exact p state = Exactly (limited standard) order (loadableOf p) state
+Exact p state = Exactly (limited standard) (orderOf p) (loadableOf p) state
 
 abbrev ours : Problem → State
 ours p = elimination (limited standard) p

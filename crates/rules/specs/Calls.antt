@@ -21,7 +21,7 @@ use Rattle.rules_types.specs.Answers.{verdictNumber}
 use Rattle.rules.specs.Problem.{Problem, Read, fault, got, problem}
 use Rattle.rules.specs.Split.{overSplit}
 use Rattle.rules.specs.Steps.{Step, encodeProof}
-use Rattle.rules.specs.Elimination.{State, running, ended, empty, overflow, outOfSteps, order, limited, elimination}
+use Rattle.rules.specs.Elimination.{State, running, ended, empty, overflow, outOfSteps, orderOf, limited, elimination}
 use Rattle.rules.specs.Values.{walk}
 use Rattle.rules.specs.Model.{written, model}
 use Rattle.rules.specs.Checker.{checkProof, checkClauses}
@@ -60,7 +60,7 @@ concluded p (ended overflow steps pairs) = stopped refusal.Overflow (length step
 concluded p (ended outOfSteps steps pairs) = stopped refusal.OutOfSteps (length steps) pairs
 concluded p (ended empty steps pairs) = decided Unsatisfiable steps pairs noModel
 concluded p (running steps pairs) =
-    elim (written (p .booleans) (p .rationals) (walk order (map (λ s. s .line) steps))) [
+    elim (written (p .booleans) (p .rationals) (walk (orderOf p) (map (λ s. s .line) steps))) [
       | none ↦ decided Unwritten steps pairs noModel
       | some bytes ↦ decided Satisfiable steps pairs bytes
     ]

@@ -15,9 +15,17 @@ use Rattle.rules.specs.Resolve.{resolve}
 use Rattle.rules.specs.Steps.{Step, loaded, resolved, row}
 
 -- ---- rounds
--- "Turn numbers run from 0 to 39: turns 0 to 7 belong to the figures and 8 to 39 to the marks."
-unfoldable pub order : List Variable
-order = tabulate limit.rationals rational ++ tabulate limit.allBooleans boolean
+-- the variables in the order of their rounds: these rational variables, then the Boolean ones. "Turn numbers run from 0 to 39: turns 0 to 7
+-- belong to the figures and 8 to 39 to the marks."
+unfoldable pub orderBy : List ℕ → List Variable
+orderBy rationals = map rational rationals ++ tabulate limit.allBooleans boolean
+
+-- the order of a problem's run: the rational variables by their numbers
+unfoldable pub rationalsOf : Problem → List ℕ
+rationalsOf p = tabulate limit.rationals (λ f. f)
+
+unfoldable pub orderOf : Problem → List Variable
+orderOf p = orderBy (rationalsOf p)
 
 -- "A line belongs to the earliest turn whose figure or mark it contains"; one that contains none, to none of them
 unfoldable pub roundOf : List Variable → Line → ℕ
@@ -141,4 +149,4 @@ module _ (stops : Stops) where
 
 -- a problem's elimination
 unfoldable pub elimination : Stops → Problem → State
-elimination stops p = eliminate stops order (loadableOf p)
+elimination stops p = eliminate stops (orderOf p) (loadableOf p)

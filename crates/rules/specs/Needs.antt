@@ -11,7 +11,7 @@ use Rattle.rules.specs.Problem.{Problem}
 use Rattle.rules.specs.Lines.{Line, Variable}
 use Rattle.rules.specs.Resolve.{resolve}
 use Rattle.rules.specs.Steps.{Step}
-use Rattle.rules.specs.Elimination.{State, running, ended, Pair, order, overflows, unlimited, roundPairs, loadableOf, load, tried}
+use Rattle.rules.specs.Elimination.{State, running, ended, Pair, orderOf, overflows, unlimited, roundPairs, loadableOf, load, tried}
 use Rattle.rules.specs.Elimination.{tryAll, elimination}
 
 -- the lines that an elimination holds, and the pairs that it has tried
@@ -46,7 +46,7 @@ roundResolvents variables t (v ∷ vs) (running steps n) =
     triedResolvents v ps (running steps n) ++ roundResolvents variables (suc t) vs (tryAll unlimited v ps (running steps n))
 
 unfoldable pub resolvents : Problem → List Line
-resolvents p = roundResolvents order 0 order (load unlimited (loadableOf p) (running [] 0))
+resolvents p = roundResolvents (orderOf p) 0 (orderOf p) (load unlimited (loadableOf p) (running [] 0))
 
 -- "needs at most 1,024 lines and no amount in a tidied result beyond 1,000,000,000 in size"
 pub record Fits (limits : Limits) (p : Problem) : Type 0 where

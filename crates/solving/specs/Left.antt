@@ -16,7 +16,7 @@ use Rattle.rules_types.specs.declared.limits.Limits.{Limits}
 use Rattle.rules_types.specs.Limits as limit
 use Rattle.rules.specs.Problem.{Problem}
 use Rattle.rules.specs.Steps.{Step, encodeProof}
-use Rattle.rules.specs.Elimination.{State, limited, order, loadableOf, elimination}
+use Rattle.rules.specs.Elimination.{State, limited, orderOf, loadableOf, elimination}
 use Rattle.rules.specs.Needs.{stepsOf, pairsOf}
 use Rattle.rules.specs.Values.{walk}
 use Rattle.rules.specs.Model.{written}
@@ -51,7 +51,7 @@ module _ {limits : Limits} {p : Problem} (w : WellFormed p) {before after : List
 
   few : length steps ≤ limits .steps
   unfolding elimination
-  few = limited-held limits order (loadableOf p)
+  few = limited-held limits (orderOf p) (loadableOf p)
 
   pub few-steps : c .steps ≤ limits .steps
   few-steps = omega (arith, e .steps, few)
@@ -59,7 +59,7 @@ module _ {limits : Limits} {p : Problem} (w : WellFormed p) {before after : List
   used : length (encodeProof steps) ≡ usedBytes
   unfolding elimination
   used = proof-length steps
-      (all-map (λ s. Sound (s .line)) (λ s. Formed (s .line)) steps (λ s h. h .formed) (elimination-sound p w (limited limits) order))
+      (all-map (λ s. Sound (s .line)) (λ s. Formed (s .line)) steps (λ s h. h .formed) (elimination-sound p w (limited limits) (orderOf p)))
 
   -- no line has a variable that the problem does not have
   pub narrow : Narrow after (c .steps) (p .rationals)
@@ -132,13 +132,13 @@ module _ {limits : Limits} {p : Problem} (w : WellFormed p) {before after : List
     pub leaves-saturated : (filled : List ℕ) (s : Solved) → c .progress ≡ Running
         → Written (p .booleans) (p .rationals) c after model filled s
         → Leaves limits (concluded p state) before model (zeroed (c .steps) (limits .steps) after) filled s
-    leaves-saturated filled s h = by (written (p .booleans) (p .rationals) (walk order (linesIn after (c .steps)))) refl
+    leaves-saturated filled s h = by (written (p .booleans) (p .rationals) (walk (orderOf p) (linesIn after (c .steps)))) refl
       where
-        concludes : (o : Option (List ℕ)) → written (p .booleans) (p .rationals) (walk order (linesIn after (c .steps))) ≡ o
+        concludes : (o : Option (List ℕ)) → written (p .booleans) (p .rationals) (walk (orderOf p) (linesIn after (c .steps))) ≡ o
             → concluded p state ≡ finished p state o
-        concludes o f = concludes-at Running h o (sym (ap (λ ls. written (p .booleans) (p .rationals) (walk order ls)) (e .lines)) ∙ f)
+        concludes o f = concludes-at Running h o (sym (ap (λ ls. written (p .booleans) (p .rationals) (walk (orderOf p) ls)) (e .lines)) ∙ f)
 
-        by : (o : Option (List ℕ)) → written (p .booleans) (p .rationals) (walk order (linesIn after (c .steps))) ≡ o → WrittenBy o c model
+        by : (o : Option (List ℕ)) → written (p .booleans) (p .rationals) (walk (orderOf p) (linesIn after (c .steps))) ≡ o → WrittenBy o c model
             filled s → Leaves limits (concluded p state) before model (zeroed (c .steps) (limits .steps) after) filled s
         by none f g = rw (g .said) (leaves-decided Unwritten noModel filled (concludes none f) (g .left ∙ no-model))
         by (some bytes) f g = rw (g .said) (leaves-decided Satisfiable bytes filled (concludes (some bytes) f) (g .left))

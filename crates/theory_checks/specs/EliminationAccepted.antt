@@ -11,7 +11,7 @@ use Rattle.rules_types.specs.Limits as limit
 use Rattle.rules.specs.Problem.{Problem}
 use Rattle.rules.specs.Lines.{Variable}
 use Rattle.rules.specs.Steps.{Step, encodeProof}
-use Rattle.rules.specs.Elimination.{State, ended, empty, limited, order, eliminate, loadableOf, elimination}
+use Rattle.rules.specs.Elimination.{State, ended, empty, limited, orderOf, eliminate, loadableOf, elimination}
 use Rattle.rules.specs.Needs.{stepsOf}
 use Rattle.rules.specs.Calls.{read, sound, proofChecked}
 use Rattle.theory_lists.specs.All.{All, all-map, all-append}
@@ -24,6 +24,7 @@ use Rattle.theory_splitting.specs.PartsForm.{LineForm}
 use Rattle.theory_splitting.specs.SplitProblem.{loadable-formed}
 use Rattle.theory_elimination.specs.Closed.{line-at, elimination-closed-unstopped}
 use Rattle.theory_elimination.specs.Sound.{Sound, elimination-sound}
+use Rattle.theory_saturation.specs.Order.{Ordered, problem-ordered}
 use Rattle.theory_elimination.specs.Pairable.{pairable-late}
 use Rattle.theory_elimination.specs.WithinLimits.{limited-held}
 use Rattle.theory_elimination.specs.Origins.{Each, Justified, elimination-origins}
@@ -49,14 +50,14 @@ module _ (p : Problem) (w : WellFormed p) where
       }) parts-encodable
 
 -- ---- an elimination's pairs are such as the check allows
-each-pairable : (earlier ss : List Step) → All (λ s. Sound (s .line)) earlier → All (λ s. Sound (s .line)) ss
-    → Each (Pairable order) earlier ss
-each-pairable earlier [] h k = tt
-each-pairable earlier (s ∷ ss) h k = (
-  λ d. pairable-late (d .variable) (d .round) (d .upper) (d .lower)
+each-pairable : {variables : List Variable} → Ordered variables → (earlier ss : List Step) → All (λ s. Sound (s .line)) earlier
+    → All (λ s. Sound (s .line)) ss → Each (Pairable variables) earlier ss
+each-pairable o earlier [] h k = tt
+each-pairable o earlier (s ∷ ss) h k = (
+  λ d. pairable-late o (d .variable) (d .round) (d .upper) (d .lower)
       (line-at Sound earlier (d .first) (d .upper) (d .atFirst) h) (line-at Sound earlier (d .second) (d .lower) (d .atSecond) h) (d .place)
       (d .ofUpper) (d .ofLower),
-  each-pairable (earlier ++ (s ∷ [])) ss (all-append (λ s. Sound (s .line)) earlier (s ∷ []) h (k .0, tt)) (k .1),
+  each-pairable o (earlier ++ (s ∷ [])) ss (all-append (λ s. Sound (s .line)) earlier (s ∷ []) h (k .0, tt)) (k .1),
 )
 
 -- ---- the proof of an elimination that ends so
@@ -64,7 +65,7 @@ module _ (limits : Limits) (q : List ℕ) (p : Problem) (e : read q ≡ sound p)
     (steps : List Step) (n : ℕ) (f : elimination (limited limits) p ≡ ended empty steps n) where
   held : length steps ≤ limits .steps
   unfolding elimination stepsOf
-  held = subst (λ (state : State). length (stepsOf state) ≤ limits .steps) f (limited-held limits order (loadableOf p))
+  held = subst (λ (state : State). length (stepsOf state) ≤ limits .steps) f (limited-held limits (orderOf p) (loadableOf p))
 
   pub elimination-refutation : Refutation p steps
   unfolding elimination stepsOf
@@ -73,13 +74,13 @@ module _ (limits : Limits) (q : List ℕ) (p : Problem) (e : read q ≡ sound p)
       let parts = loadableOf p in
       record {
         parts = parts-encodable p w;
-        lines = subst (λ (state : State). AllEncodable (stepsOf state)) f (elimination-encodable p w limits order);
-        origins = subst (λ (state : State). Each (Justified order parts) [] (stepsOf state)) f
-            (elimination-origins order parts (limited limits));
-        pairs = each-pairable [] steps tt
-            (subst (λ (state : State). All (λ s. Sound (s .line)) (stepsOf state)) f (elimination-sound p w (limited limits) order));
+        lines = subst (λ (state : State). AllEncodable (stepsOf state)) f (elimination-encodable p w limits (orderOf p));
+        origins = subst (λ (state : State). Each (Justified (orderOf p) parts) [] (stepsOf state)) f
+            (elimination-origins (orderOf p) parts (limited limits));
+        pairs = each-pairable (problem-ordered p) [] steps tt
+            (subst (λ (state : State). All (λ s. Sound (s .line)) (stepsOf state)) f (elimination-sound p w (limited limits) (orderOf p)));
         few = omega (arith, held);
-        last = subst EndsRight f (elimination-ends (limited limits) order parts);
+        last = subst EndsRight f (elimination-ends (limited limits) (orderOf p) parts);
       }
 
   pub elimination-accepted : proofChecked limits q (encodeProof steps) ≡ Accepted

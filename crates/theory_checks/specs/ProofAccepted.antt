@@ -15,7 +15,7 @@ use Rattle.rules_types.specs.Limits as limit
 use Rattle.rules.specs.Problem.{Problem}
 use Rattle.rules.specs.Lines.{Variable, isEmpty}
 use Rattle.rules.specs.Steps.{Step, resolved, encodeStep, encodeProof}
-use Rattle.rules.specs.Elimination.{order, loadableOf}
+use Rattle.rules.specs.Elimination.{orderOf, loadableOf}
 use Rattle.rules.specs.Checker.{pairable, statedLine, checkSteps, checkProof}
 use Rattle.rules.specs.Calls.{read, sound, wholeSteps, proofChecked}
 use Rattle.theory_lists.specs.Tests.{is-true}
@@ -87,8 +87,8 @@ steps-accepted parts earlier (s ∷ ss) ends f e t =
 pub record Refutation (p : Problem) (steps : List Step) : Type 0 where
   pub parts : AllEncodable (loadableOf p)
   pub lines : AllEncodable steps
-  pub origins : Each (Justified order (loadableOf p)) [] steps
-  pub pairs : Each (Pairable order) [] steps
+  pub origins : Each (Justified (orderOf p) (loadableOf p)) [] steps
+  pub pairs : Each (Pairable (orderOf p)) [] steps
   pub few : length steps ≤ limit.mostSteps
   pub last : LastEmpty steps
 
@@ -111,7 +111,7 @@ module _ (p : Problem) (steps : List Step) (refutation : Refutation p steps) whe
       rw (refutation .last .is) (last-empty false (refutation .last .before) (refutation .last .last) (refutation .last .blank)) in
       rw n
       (steps-accepted (loadableOf p) [] steps false (all-formed steps (refutation .lines))
-      (each-stated order (loadableOf p) (refutation .parts) [] steps (omega (arith, refutation .few)) (refutation .lines)
+      (each-stated (orderOf p) (loadableOf p) (refutation .parts) [] steps (omega (arith, refutation .few)) (refutation .lines)
       (refutation .origins) (refutation .pairs)) ends)
 
   module _ (limits : Limits) (q : List ℕ) (few : length steps ≤ limits .steps) where

@@ -4,17 +4,14 @@ use mathlib.Core.Logic.{inl, inr}
 use mathlib.Core.List.{List, [], _∷_, _++_}
 use Prim.Native.Nat.{ℕ, suc, _+_, _<_}
 use native.Mathlib.Omega.{arith}
-use Rattle.rules_types.specs.Limits as limit
-use Rattle.rules.specs.Lists.{tabulate}
 use Rattle.rules.specs.Problem.{Clause, Problem}
 use Rattle.rules.specs.Lines.{Line, Variable, rational, boolean}
 use Rattle.rules.specs.Split.{partsOf, splitsOf}
 use Rattle.rules.specs.Steps.{Step, Origin, loaded, resolved, header, encodeStep, encodeProof}
-use Rattle.rules.specs.Elimination.{order, partSteps, loadable, loadableOf}
+use Rattle.rules.specs.Elimination.{orderOf, partSteps, loadable, loadableOf}
 use Rattle.theory_lists.specs.All.{All, all-any, all-append}
-use Rattle.theory_lists.specs.Places.{all-place}
-use Rattle.theory_lists.specs.Tabulated.{all-tabulate}
 use Rattle.theory_bytes.specs.Bytes.{AllBytes}
+use Rattle.theory_saturation.specs.Order.{Ranged, at-ranged, problem-ordered}
 use Rattle.theory_elimination.specs.Origins.{Each, Justified}
 use Rattle.theory_bytes.specs.Steps.{step-bytes}
 
@@ -34,20 +31,10 @@ proof-bytes (s ∷ ss) h =
     all-append (λ n. n < 256) (encodeStep s) (encodeProof ss) (step-bytes s (how-byte (s .origin)) (h .0)) (proof-bytes ss (h .1))
 
 -- ---- of the order
-abbrev Named : Variable → Type 0
-Named (rational f) = f < 256
-Named (boolean i) = i < 256
-
-order-named : All Named order
-unfolding order
-order-named = all-append Named (tabulate limit.rationals rational) (tabulate limit.allBooleans boolean)
-    (all-tabulate Named limit.rationals rational (λ i h. omega arith))
-    (all-tabulate Named limit.allBooleans boolean (λ i h. omega arith))
-
-resolvent-which : (v : Variable) (a b : ℕ) → Named v → header (resolved v a b) .which < 256
+resolvent-which : (v : Variable) (a b : ℕ) → Ranged v → header (resolved v a b) .which < 256
 unfolding header
-resolvent-which (rational f) a b h = h
-resolvent-which (boolean i) a b h = h
+resolvent-which (rational f) a b h = omega arith
+resolvent-which (boolean i) a b h = omega arith
 
 -- ---- of the parts
 parts-which : (c p : ℕ) (ls : List Line) → All WhichByte (partSteps c p ls)
@@ -64,18 +51,17 @@ loadable-which c k (x ∷ xs) =
 
 -- ---- so of an elimination
 module _ (p : Problem) where
-  justified-which : (earlier : List Step) (s : Step) → Justified order (loadableOf p) earlier s → WhichByte s
+  justified-which : (earlier : List Step) (s : Step) → Justified (orderOf p) (loadableOf p) earlier s → WhichByte s
   unfolding loadableOf
   justified-which earlier s (inl m) =
       all-any WhichByte (λ x. x ≡ s) (loadableOf p) (λ x h e. subst WhichByte e h) (loadable-which 0 (p .booleans) (p .clauses)) m
   justified-which earlier s (inr d) =
       rw (d .names)
-      (resolvent-which (d .variable) (d .first) (d .second)
-      (all-place Named (λ v. v ≡ d .variable) order (d .round) (λ v h e. subst Named e h) order-named (d .place)))
+      (resolvent-which (d .variable) (d .first) (d .second) (at-ranged (problem-ordered p) (d .round) (d .variable) (d .place)))
 
-  each-which : (earlier ss : List Step) → Each (Justified order (loadableOf p)) earlier ss → All WhichByte ss
+  each-which : (earlier ss : List Step) → Each (Justified (orderOf p) (loadableOf p)) earlier ss → All WhichByte ss
   each-which earlier [] h = tt
   each-which earlier (s ∷ ss) h = (justified-which earlier s (h .0), each-which (earlier ++ (s ∷ [])) ss (h .1))
 
-  pub elimination-bytes : (steps : List Step) → Each (Justified order (loadableOf p)) [] steps → AllBytes (encodeProof steps)
+  pub elimination-bytes : (steps : List Step) → Each (Justified (orderOf p) (loadableOf p)) [] steps → AllBytes (encodeProof steps)
   elimination-bytes steps h = proof-bytes steps (each-which [] steps h)

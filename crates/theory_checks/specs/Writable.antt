@@ -12,7 +12,7 @@ use Rattle.rules.specs.Problem.{Clause, Problem}
 use Rattle.rules.specs.Split.{partsOf, splitsOf}
 use Rattle.rules.specs.Lines.{Variable}
 use Rattle.rules.specs.Steps.{Step, header}
-use Rattle.rules.specs.Elimination.{limited, order, loadableOf, elimination}
+use Rattle.rules.specs.Elimination.{limited, orderOf, loadableOf, elimination}
 use Rattle.rules.specs.Needs.{stepsOf}
 use Rattle.theory_lists.specs.All.{All, all-any, all-both, all-map}
 use Rattle.theory_lists.specs.Places.{element-below, place-below}
@@ -75,5 +75,5 @@ module _ (p : Problem) (w : WellFormed p) where
   pub elimination-writable : (limits : Limits) → limits .steps ≤ limit.mostSteps → All Writable (stepsOf (elimination (limited limits) p))
   unfolding elimination
   elimination-writable limits few =
-      each-writable order [] (stepsOf (elimination (limited limits) p)) (omega (arith, limited-held limits order (loadableOf p)))
-      (elimination-encodable p w limits order) (elimination-origins order (loadableOf p) (limited limits))
+      each-writable (orderOf p) [] (stepsOf (elimination (limited limits) p)) (omega (arith, limited-held limits (orderOf p) (loadableOf p)))
+      (elimination-encodable p w limits (orderOf p)) (elimination-origins (orderOf p) (loadableOf p) (limited limits))

@@ -13,7 +13,7 @@ use lib.ListN.{length}
 use Rattle.rules_types.specs.declared.limits.Limits.{Limits}
 use Rattle.rules.specs.Problem.{Problem}
 use Rattle.rules.specs.Elimination.{Stops, limited, unlimited, empty, overflow, outOfSteps, State, running, ended, covered, overflows}
-use Rattle.rules.specs.Elimination.{order, loadableOf, eliminate, elimination}
+use Rattle.rules.specs.Elimination.{orderOf, loadableOf, eliminate, elimination}
 use Rattle.rules.specs.Needs.{stepsOf, needs, resolvents, Fits}
 use Rattle.theory_lists.specs.Tests.{is-false}
 use Rattle.theory_lists.specs.All.{All, all-map, all-both, all-yes, yes-all}
@@ -91,7 +91,7 @@ module _ (stops : Stops) where
 -- ---- the theorem, for every limit
 module _ (limits : Limits) (p : Problem) where
   abbrev es : List Event
-  es = events order (loadableOf p)
+  es = events (orderOf p) (loadableOf p)
 
   all-pass : Fits limits p → All (Passes (limited limits)) es
   unfolding needs elimination stopAt limited
@@ -101,20 +101,20 @@ module _ (limits : Limits) (p : Problem) where
       (all-both InRange (Room (limits .steps)) es
       (resolvents-all (λ l. T (not (overflows l))) es
       (rw (resolvents-are p) (all-yes (λ l. not (overflows l)) (resolvents p) (h .amounts))))
-      (events-room order (loadableOf p) (limits .steps) (h .steps)))
+      (events-room (orderOf p) (loadableOf p) (limits .steps) (h .steps)))
 
   pub fits-same : Fits limits p → elimination (limited limits) p ≡ elimination unlimited p
   unfolding elimination
-  fits-same h = eliminate-cut (limited limits) order (loadableOf p)
-      ∙ cut-passes (limited limits) es (eliminate unlimited order (loadableOf p)) (all-pass h)
+  fits-same h = eliminate-cut (limited limits) (orderOf p) (loadableOf p)
+      ∙ cut-passes (limited limits) es (eliminate unlimited (orderOf p) (loadableOf p)) (all-pass h)
 
   pass-fits : All (Passes (limited limits)) es → Fits limits p
   unfolding needs elimination stopAt limited
   pass-fits h =
-      let same = eliminate-cut (limited limits) order (loadableOf p)
-      ∙ cut-passes (limited limits) es (eliminate unlimited order (loadableOf p)) h in
+      let same = eliminate-cut (limited limits) (orderOf p) (loadableOf p)
+      ∙ cut-passes (limited limits) es (eliminate unlimited (orderOf p) (loadableOf p)) h in
       record {
-        steps = subst (λ (s : State). length (stepsOf s) ≤ limits .steps) same (limited-held limits order (loadableOf p));
+        steps = subst (λ (s : State). length (stepsOf s) ≤ limits .steps) same (limited-held limits (orderOf p) (loadableOf p));
         amounts =
             yes-all (λ l. not (overflows l)) (resolvents p) (subst (All (λ l. T (not (overflows l)))) (resolvents-are p)
             (all-resolvents (λ l. T (not (overflows l))) es (all-map (Passes (limited limits)) InRange es (λ e k. pass-in-range
@@ -124,10 +124,10 @@ module _ (limits : Limits) (p : Problem) where
   pub fits-or-stopped : Fits limits p ⊎ Stopped (elimination (limited limits) p)
   unfolding elimination
   fits-or-stopped =
-      ⊎-elim (λ h. inl (pass-fits h)) (λ k. inr (rw (eliminate-cut (limited limits) order (loadableOf p)) k))
-      (cut-or (limited limits) es (eliminate unlimited order (loadableOf p)))
+      ⊎-elim (λ h. inl (pass-fits h)) (λ k. inr (rw (eliminate-cut (limited limits) (orderOf p) (loadableOf p)) k))
+      (cut-or (limited limits) es (eliminate unlimited (orderOf p) (loadableOf p)))
 
   pub fits-unstopped : Fits limits p → Stopped (elimination (limited limits) p) → ⊥
   unfolding elimination
   fits-unstopped h k =
-      stopped-clash (eliminate unlimited order (loadableOf p)) (unlimited-unstopped order (loadableOf p)) (subst Stopped (fits-same h) k)
+      stopped-clash (eliminate unlimited (orderOf p) (loadableOf p)) (unlimited-unstopped (orderOf p) (loadableOf p)) (subst Stopped (fits-same h) k)

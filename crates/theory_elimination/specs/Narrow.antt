@@ -13,7 +13,7 @@ use Rattle.rules.specs.Normalize.{Settled, always, never, kept, settled, settle
 use Rattle.rules.specs.Split.{chain, parts, partsOf, splitsOf}
 use Rattle.rules.specs.Resolve.{resolve}
 use Rattle.rules.specs.Needs.{stepsOf}
-use Rattle.rules.specs.Elimination.{Stops, order, partSteps, loadable, loadableOf, elimination}
+use Rattle.rules.specs.Elimination.{Stops, orderOf, partSteps, loadable, loadableOf, elimination}
 use Rattle.theory_integers.specs.Quotient.{quot-zero}
 use Rattle.theory_lists.specs.Tests.{split}
 use Rattle.theory_lists.specs.All.{All, all-map, all-append}
@@ -113,7 +113,7 @@ pub elimination-narrow : (stops : Stops) (p : Problem) → WellFormed p
     → All (λ s. NarrowLine (p .rationals) (s .line)) (stepsOf (elimination stops p))
 unfolding elimination loadableOf coefficient
 elimination-narrow stops p w =
-    elimination-closed (NarrowLine (p .rationals)) stops order (loadableOf p) (resolve-few (p .rationals))
+    elimination-closed (NarrowLine (p .rationals)) stops (orderOf p) (loadableOf p) (resolve-few (p .rationals))
     (loadable-few (p .rationals) 0 (p .booleans) (p .clauses)
     (all-map (WellFormedClause (p .booleans) (p .rationals)) (λ x. All (λ c. Few (p .rationals) (some c)) (x .constraints)) (p .clauses)
     (λ x k. all-map (WellFormedConstraint (p .rationals)) (λ c. Few (p .rationals) (some c)) (x .constraints) constraint-few

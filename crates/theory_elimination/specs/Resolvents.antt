@@ -9,7 +9,7 @@ use Rattle.rules.specs.Problem.{Problem}
 use Rattle.rules.specs.Lines.{Line, Variable}
 use Rattle.rules.specs.Resolve.{resolve}
 use Rattle.rules.specs.Steps.{Step}
-use Rattle.rules.specs.Elimination.{unlimited, State, running, ended, Pair, order, roundPairs, loadableOf, add, load, tried, tryAll}
+use Rattle.rules.specs.Elimination.{unlimited, State, running, ended, Pair, orderOf, roundPairs, loadableOf, add, load, tried, tryAll}
 use Rattle.rules.specs.Needs.{listed, triedResolvents, roundResolvents, resolvents}
 use Rattle.rules.specs.Lists.{filter}
 use Rattle.theory_lists.specs.All.{All, filter-all, all-filter, filter-append, mapped-all, all-mapped, map-append}
@@ -55,12 +55,12 @@ round-resolvents variables t (v ∷ vs) (running steps n) =
     resolventLines-append (tryEvents v ps (running steps n)) (roundEvents variables (suc t) vs next)
     ∙ (λ i. try-resolvents v ps (running steps n) i ++ round-resolvents variables (suc t) vs next i)
 
-pub resolvents-are : (p : Problem) → resolventLines (events order (loadableOf p)) ≡ resolvents p
+pub resolvents-are : (p : Problem) → resolventLines (events (orderOf p) (loadableOf p)) ≡ resolvents p
 unfolding events resolvents
 resolvents-are p =
     let next = load unlimited (loadableOf p) (running [] 0) in
-    resolventLines-append (loadEvents (loadableOf p) (running [] 0)) (roundEvents order 0 order next)
-    ∙ (λ i. load-resolvents (loadableOf p) (running [] 0) i ++ round-resolvents order 0 order next i)
+    resolventLines-append (loadEvents (loadableOf p) (running [] 0)) (roundEvents (orderOf p) 0 (orderOf p) next)
+    ∙ (λ i. load-resolvents (loadableOf p) (running [] 0) i ++ round-resolvents (orderOf p) 0 (orderOf p) next i)
 
 -- ---- a fact of every resolvent, along the events
 module _ (P : Line → Type 0) where

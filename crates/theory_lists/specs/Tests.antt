@@ -50,6 +50,10 @@ pub nor : (a b : Bool) → T (not a) → T (not b) → T (not (a || b))
 nor true b h k = absurd h
 nor false b h k = k
 
+pub neither : (a b : Bool) → T (not (a || b)) → T (not a) × T (not b)
+neither true b h = absurd h
+neither false b h = (tt, h)
+
 pub tests-agree : (a b : Bool) → (T a → T b) → (T b → T a) → a ≡ b
 tests-agree true true f g = refl
 tests-agree true false f g = absurd (f tt)

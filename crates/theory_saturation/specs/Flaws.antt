@@ -17,7 +17,6 @@ use Rattle.rules.specs.Meaning.{Assignment}
 use Rattle.rules.specs.Lines.{noBooleans, someYes, Line, Variable, rational, boolean, aLiteralHolds, theConstraintHolds, lineHolds}
 use Rattle.rules.specs.Lines.{coefficient, positively, noConstraint, isEmpty}
 use Rattle.rules.specs.Normalize.{settled}
-use Rattle.rules.specs.Elimination.{order}
 use Rattle.rules.specs.Values.{walk}
 use Rattle.theory_lists.specs.All.{All, getD-replicate-same}
 use Rattle.theory_resolution.specs.Holds.{line-cases}
@@ -49,8 +48,8 @@ not-empty : T (not (isEmpty bad))
 unfolding bad isEmpty noConstraint noBooleans any
 not-empty = tt
 
-pub not-empty-is-too-weak : ((S : List Line) → All (λ l. Formed l) S → All (λ l. T (not (isEmpty l))) S → AllPairs Covers S order
-    → LinesHold (walk order S .assignment) S) → ⊥
-not-empty-is-too-weak claim =
+pub not-empty-is-too-weak : (variables : List Variable) → ((S : List Line) → All (λ l. Formed l) S → All (λ l. T (not (isEmpty l))) S
+    → AllPairs Covers S variables → LinesHold (walk variables S .assignment) S) → ⊥
+not-empty-is-too-weak variables claim =
     let r = claim (bad ∷ []) (formed, tt) (not-empty, tt) (λ t v a. (((λ e f p n. absurd (never-upper v p)), tt), tt)) in
-    never-holds (walk order (bad ∷ []) .assignment) (r .denominator) (r .lines .0)
+    never-holds (walk variables (bad ∷ []) .assignment) (r .denominator) (r .lines .0)

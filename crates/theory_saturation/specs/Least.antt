@@ -14,7 +14,7 @@ use Rattle.rules.specs.Lists.{filter}
 use Rattle.rules.specs.Arithmetic.{lcm}
 use Rattle.rules.specs.Meaning.{Assignment}
 use Rattle.rules.specs.Lines.{Line, Variable, rational, boolean}
-use Rattle.rules.specs.Elimination.{order, roundOf}
+use Rattle.rules.specs.Elimination.{roundOf}
 use Rattle.rules.specs.Values.{Fraction, rationalValue, withRational, withBoolean, assign, start, walkFrom, walk}
 use Rattle.theory_vectors.specs.Gcd.{gcd-comm, coprime-dvd}
 use Rattle.theory_vectors.specs.Lcm.{lcm-positive, lcm-least}
@@ -22,7 +22,7 @@ use Rattle.theory_bounds.specs.Below.{Positive}
 use Rattle.theory_bounds.specs.Reduced.{Coprime}
 use Rattle.theory_bounds.specs.Meets.{with-same, with-other, exactˡ, exactʳ}
 use Rattle.theory_saturation.specs.Gathered.{rational-sound, rational-coprime}
-use Rattle.theory_saturation.specs.Aligned.{Aligned, aligned-cons, order-aligned}
+use Rattle.theory_saturation.specs.Once.{Alone, Once}
 use Rattle.theory_saturation.specs.Unset.{Unset, walk-unset}
 
 -- rational variable f can be written over m: m times it is whole
@@ -78,23 +78,22 @@ module _ (f : ℕ) (x : Fraction) (χ : Assignment) (p : 0 < χ .denominator) (q
   with-least c free least m h = lcm-least d e m p (least m (over-before m h free)) (own-divides m h c)
 
 -- ---- the walk
-assign-least : (t : ℕ) (ls : List Line) (χ : Assignment) → Unset (suc t) χ → Least χ → (v : Variable)
-    → Aligned t (v ∷ []) → Least (assign v ls χ)
+assign-least : (vs : List Variable) (ls : List Line) (χ : Assignment) → Unset vs χ → Least χ → (v : Variable)
+    → Alone v vs → Least (assign v ls χ)
 unfolding assign withBoolean
-assign-least t ls χ s least (boolean i) h = least
-assign-least t ls χ s least (rational g) h =
+assign-least vs ls χ s least (boolean i) h = least
+assign-least vs ls χ s least (rational g) h =
     with-least g (rationalValue χ g ls) χ (s .positive) (rational-sound χ (s .positive) g ls) (rational-coprime χ (s .positive) g ls)
-    (s .free g (omega (arith, h .0))) least
+    (s .free g h) least
 
-walk-from-least : (variables : List Variable) (lines : List Line) (t : ℕ) (vs : List Variable) → Aligned t vs
+walk-from-least : (variables : List Variable) (lines : List Line) (t : ℕ) (vs : List Variable) → Once vs
     → Least (walkFrom variables lines t vs .assignment)
 unfolding walkFrom start
 walk-from-least variables lines t [] h = λ m w. one-dvd m
 walk-from-least variables lines t (v ∷ vs) h =
-    let a = aligned-cons t v vs h in
-    assign-least t (filter (λ l. eqb (roundOf variables l) t) lines) (walkFrom variables lines (suc t) vs .assignment)
-    (walk-unset variables lines (suc t) vs (a .1)) (walk-from-least variables lines (suc t) vs (a .1)) v (a .0)
+    assign-least vs (filter (λ l. eqb (roundOf variables l) t) lines) (walkFrom variables lines (suc t) vs .assignment)
+    (walk-unset variables lines (suc t) vs) (walk-from-least variables lines (suc t) vs (h .1)) v (h .0)
 
-pub walk-least : (lines : List Line) → Least (walk order lines .assignment)
+pub walk-least : (variables : List Variable) → Once variables → (lines : List Line) → Least (walk variables lines .assignment)
 unfolding walk
-walk-least lines = walk-from-least order lines 0 order order-aligned
+walk-least variables h lines = walk-from-least variables lines 0 variables h

@@ -2,7 +2,7 @@ pub mod Rule
 pub mod Boolean
 pub mod Gathered
 pub mod Rational
-pub mod Aligned
+pub mod Once
 pub mod Unset
 pub mod Unbounded
 pub mod Least

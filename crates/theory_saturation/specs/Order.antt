@@ -1,47 +1,111 @@
--- The order of rounds by their numbers: 0 to 7 for the rational variables, 8 to 39 for the Boolean ones.
-use mathlib.Core.Path.{_≡_, refl, ap, _∙_}
-use mathlib.Core.List.{_∷_}
-use Prim.Native.Nat.{ℕ, suc, _+_, _<_}
+-- What the elimination, the walk and the gathering need of an order of rounds; and that the order of a problem's run is such.
+use mathlib.Core.Path.{_≡_, refl, sym, subst, ap, _∙_}
+use mathlib.Core.Bool.{not}
+use mathlib.Core.Logic.{⊎-elim}
+use mathlib.Core.List.{List, [], _∷_, _++_, map}
+use Prim.Native.Nat.{ℕ, zero, suc, _+_, _-_, _≤_, _<_}
 use native.Mathlib.Omega.{arith}
-use lib.ListN.{length, getD, drop, List·getD-append}
-use lib.Seq.{drop-cons, getD-append-add}
+use lib.Dec.{T, leb, leb→le, nleb→lt}
+use lib.ListN.{length, getD, length-append}
 use Rattle.rules_types.specs.Limits as limit
-use Rattle.rules.specs.Lists.{tabulate}
+use Rattle.rules.specs.Lists.{any, tabulate}
+use Rattle.rules.specs.Problem.{Problem}
 use Rattle.rules.specs.Lines.{Variable, rational, boolean}
-use Rattle.rules.specs.Elimination.{order}
+use Rattle.rules.specs.Elimination.{orderBy, rationalsOf, orderOf}
+use Rattle.theory_lists.specs.Tests.{split}
+use Rattle.theory_lists.specs.Places.{place-below}
 use Rattle.theory_lists.specs.Tabulated.{length-tabulate, getD-tabulate}
+use Rattle.theory_saturation.specs.Rounds.{At, at-unique}
+use Rattle.theory_saturation.specs.Once.{names, Once}
 
-unfoldable pub variableAt : ℕ → Variable
-variableAt t = getD order t (rational 0)
+pub record Ordered (variables : List Variable) : Type 0 where
+  pub count : length variables ≡ limit.rounds
+  -- the first rounds are those of rational variables, and then the Boolean ones follow by their numbers
+  pub rationals : (t : ℕ) → t < limit.rationals → (f : ℕ) × (f < limit.rationals) × At variables t (rational f)
+  pub booleans : (i : ℕ) → i < limit.allBooleans → At variables (limit.rationals + i) (boolean i)
+  -- each rational variable has its round, and no other
+  pub each : (f : ℕ) → f < limit.rationals → (t : ℕ) × (t < limit.rationals) × At variables t (rational f)
+  pub once : Once variables
 
-pub length-order : length order ≡ limit.rounds
-unfolding order tabulate
-length-order = refl
+-- a variable that a line can have
+abbrev pub Ranged : Variable → Type 0
+Ranged (rational f) = f < limit.rationals
+Ranged (boolean i) = i < limit.allBooleans
 
-pub order-from : (t : ℕ) → t < limit.rounds → drop t order ≡ variableAt t ∷ drop (suc t) order
-unfolding variableAt
-order-from t h = drop-cons order t (rational 0) (omega (arith, length-order))
+module _ {variables : List Variable} (o : Ordered variables) where
+  -- a round's variable, by whether its number is one of the first
+  at-round : (P : Variable → Type 0) (t : ℕ) (v : Variable) → At variables t v → (t < limit.rationals → (f : ℕ) → f < limit.rationals
+      → P (rational f)) → (limit.rationals ≤ t → (i : ℕ) → i < limit.allBooleans → P (boolean i)) → P v
+  at-round P t v a first later =
+      ⊎-elim
+      (λ h. let k = leb→le limit.rationals t h in
+      let b = place-below (λ w. w ≡ v) variables t a in
+      let i : t - limit.rationals < limit.allBooleans = omega (arith, o .count) in
+      let e : limit.rationals + (t - limit.rationals) ≡ t = omega arith in
+      subst P (at-unique variables t (boolean (t - limit.rationals)) v
+      (subst (λ (s : ℕ). At variables s (boolean (t - limit.rationals))) e (o .booleans (t - limit.rationals) i)) a)
+      (later k (t - limit.rationals) i))
+      (λ h. let k = nleb→lt limit.rationals t h in
+      let r = o .rationals t k in
+      subst P (at-unique variables t (rational (r .0)) v (r .2) a) (first k (r .0) (r .1)))
+      (split (leb limit.rationals t))
 
--- ---- a rational variable's round
-pub rational-at : (t : ℕ) → t < limit.rationals → variableAt t ≡ rational t
-unfolding variableAt order
-rational-at t h = List·getD-append (tabulate limit.rationals rational) (tabulate limit.allBooleans boolean) (rational 0) t
-    (omega (arith, length-tabulate limit.rationals rational))
-    ∙ getD-tabulate limit.rationals rational t (rational 0) h
+  pub at-ranged : (t : ℕ) (v : Variable) → At variables t v → Ranged v
+  at-ranged t v a = at-round Ranged t v a (λ k f h. h) (λ k i h. h)
 
-pub order-rational : (t : ℕ) → t < limit.rationals → drop t order ≡ rational t ∷ drop (suc t) order
-order-rational t h = order-from t (omega arith) ∙ ap (λ (v : Variable). v ∷ drop (suc t) order) (rational-at t h)
+  pub boolean-late : (t i : ℕ) → At variables t (boolean i) → limit.rationals ≤ t
+  boolean-late t i a = at-round Late t (boolean i) a (λ k f h. tt) (λ k j h. k)
+    where
+      Late : Variable → Type 0
+      Late (rational f) = Unit {0}
+      Late (boolean j) = limit.rationals ≤ t
 
--- ---- a Boolean variable's
-pub boolean-at : (i : ℕ) → i < limit.allBooleans → variableAt (limit.rationals + i) ≡ boolean i
-unfolding variableAt order
-boolean-at i h =
-    let at : limit.rationals + i ≡ length (tabulate limit.rationals rational) + i =
-    omega (arith, length-tabulate limit.rationals rational) in
-    ap (λ (k : ℕ). getD order k (rational 0)) at
-    ∙ getD-append-add (tabulate limit.rationals rational) (tabulate limit.allBooleans boolean) i (rational 0)
-    ∙ getD-tabulate limit.allBooleans boolean i (rational 0) h
+-- ---- an order by its rational variables
+at-front : (fs : List ℕ) (vs : List Variable) (t : ℕ) → t < length fs → At (map rational fs ++ vs) t (rational (getD fs t 0))
+at-front [] vs t h = absurd (omega arith)
+at-front (f ∷ fs) vs zero h = refl
+at-front (f ∷ fs) vs (suc t) h = at-front fs vs t (omega arith)
 
-pub order-boolean : (i : ℕ) → i < limit.allBooleans → drop (limit.rationals + i) order ≡ boolean i ∷ drop (suc (limit.rationals + i)) order
-order-boolean i h = order-from (limit.rationals + i) (omega arith)
-    ∙ ap (λ (v : Variable). v ∷ drop (suc (limit.rationals + i)) order) (boolean-at i h)
+at-behind : (fs : List ℕ) (vs : List Variable) (i t : ℕ) (v : Variable) → length fs + i ≡ t → At vs i v → At (map rational fs ++ vs) t v
+at-behind [] vs i t v e a = let z : i ≡ t = omega arith in subst (λ (k : ℕ). At vs k v) z a
+at-behind (f ∷ fs) vs i zero v e a = absurd (omega arith)
+at-behind (f ∷ fs) vs i (suc t) v e a = at-behind fs vs i t v (omega arith) a
+
+at-tabulate : (n : ℕ) (f : ℕ → Variable) (i : ℕ) → i < n → At (tabulate n f) i (f i)
+unfolding tabulate
+at-tabulate zero f i h = absurd (omega arith)
+at-tabulate (suc n) f zero h = refl
+at-tabulate (suc n) f (suc i) h = at-tabulate n (λ j. f (suc j)) i (omega arith)
+
+pub rational-at : (fs : List ℕ) (t : ℕ) → t < length fs → At (orderBy fs) t (rational (getD fs t 0))
+unfolding orderBy
+rational-at fs t h = at-front fs (tabulate limit.allBooleans boolean) t h
+
+pub boolean-at : (fs : List ℕ) → length fs ≡ limit.rationals → (i : ℕ) → i < limit.allBooleans
+    → At (orderBy fs) (limit.rationals + i) (boolean i)
+unfolding orderBy
+boolean-at fs n i h = at-behind fs (tabulate limit.allBooleans boolean) i (limit.rationals + i) (boolean i) (omega arith)
+    (at-tabulate limit.allBooleans boolean i h)
+
+-- ---- that of a problem's run
+problem-at : (p : Problem) (t : ℕ) → t < limit.rationals → At (orderOf p) t (rational t)
+unfolding orderOf rationalsOf
+problem-at p t h =
+    let fs = tabulate limit.rationals (λ f. f) in
+    subst (λ (f : ℕ). At (orderBy fs) t (rational f)) (getD-tabulate limit.rationals (λ f. f) t 0 h)
+    (rational-at fs t (omega (arith, length-tabulate limit.rationals (λ f. f))))
+
+booleans-once : (n : ℕ) (f : ℕ → ℕ) → Once (tabulate n (λ i. boolean (f i)))
+unfolding tabulate
+booleans-once zero f = tt
+booleans-once (suc n) f = (tt, booleans-once n (λ i. f (suc i)))
+
+pub problem-ordered : (p : Problem) → Ordered (orderOf p)
+unfolding orderOf rationalsOf orderBy tabulate names any
+problem-ordered p = record {
+  count = refl;
+  rationals = λ t h. (t, h, problem-at p t h);
+  booleans = boolean-at (tabulate limit.rationals (λ f. f)) (length-tabulate limit.rationals (λ f. f));
+  each = λ f h. (f, h, problem-at p f h);
+  once = (tt, (tt, (tt, (tt, (tt, (tt, (tt, (tt, booleans-once limit.allBooleans (λ i. i)))))))));
+}

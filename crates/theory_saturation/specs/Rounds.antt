@@ -13,7 +13,7 @@ use Rattle.rules.specs.Lists.{any}
 use Rattle.rules.specs.Lines.{Line, Variable, contains}
 use Rattle.rules.specs.Elimination.{roundOf}
 use Rattle.theory_lists.specs.Places.{AtPlace, place-both}
-use Rattle.theory_lists.specs.Tests.{split, is-true, is-false, clash, or-else}
+use Rattle.theory_lists.specs.Tests.{split, is-true, is-false, clash, or-l, or-r, or-else}
 
 -- ---- variable v at place t
 abbrev pub At : List Variable → ℕ → Variable → Type 0
@@ -31,6 +31,11 @@ drop-at [] zero v vs e = no-variable e
 drop-at [] (suc t) v vs e = no-variable e
 drop-at (w ∷ ws) zero v vs e = cc
 drop-at (w ∷ ws) (suc t) v vs e = drop-at ws t v vs e
+
+pub at-drop : (ws : List Variable) (t : ℕ) (v : Variable) → At ws t v → drop t ws ≡ v ∷ drop (suc t) ws
+at-drop [] t v a = absurd a
+at-drop (w ∷ ws) zero v a = cc
+at-drop (w ∷ ws) (suc t) v a = at-drop ws t v a
 
 pub drop-next : (ws : List Variable) (t : ℕ) (v : Variable) (vs : List Variable) → drop t ws ≡ v ∷ vs → drop (suc t) ws ≡ vs
 drop-next [] zero v vs e = no-variable e
@@ -59,6 +64,12 @@ round-below (v ∷ vs) l h =
     ⊎-elim (λ k. omega (arith, round-here v vs l k))
     (λ k. let r = round-below vs l (or-else (contains v l) (any (λ w. contains w l) vs) k h) in
     omega (arith, round-on v vs l k)) (split (contains v l))
+
+pub at-contains : (vs : List Variable) (t : ℕ) (v : Variable) (l : Line) → At vs t v → T (contains v l) → T (any (λ w. contains w l) vs)
+unfolding any
+at-contains [] t v l a h = absurd a
+at-contains (w ∷ ws) zero v l a h = or-l (contains w l) (any (λ y. contains y l) ws) (subst (λ (y : Variable). T (contains y l)) (sym a) h)
+at-contains (w ∷ ws) (suc t) v l a h = or-r (contains w l) (any (λ y. contains y l) ws) (at-contains ws t v l a h)
 
 -- its variable is in the line, and none before is
 pub round-contains : (vs : List Variable) (t : ℕ) (v : Variable) (l : Line) → At vs t v → roundOf vs l ≡ t → T (contains v l)
