@@ -9,7 +9,7 @@ use Rattle.rules_types.specs.Limits as limit
 use Rattle.rules.specs.Problem.{Problem}
 use Rattle.rules.specs.Steps.{Step, encodeProof}
 use Rattle.rules.specs.Needs.{stepsOf, pairsOf}
-use Rattle.rules.specs.Elimination.{running, limited, order, loadableOf, load, rounds, eliminate, elimination}
+use Rattle.rules.specs.Elimination.{running, limited, orderOf, loadableOf, load, rounds, eliminate, elimination}
 use Rattle.theory_lists.specs.Places.{element-all}
 use Rattle.theory_lists.specs.Tabulated.{element-tabulate}
 use Rattle.theory_splitting.specs.WellFormed.{WellFormed}
@@ -37,10 +37,10 @@ pub record Eliminated (limits : Limits) (p : Problem) (before after : List ℕ) 
 
 module _ {limits : Limits} (problem : Problem) {before middle after : List ℕ} {loaded p : Point}
     (first : Reaches limits before origin middle loaded (load (limited limits) (loadableOf problem) (running [] 0)))
-    (then : Reaches limits middle loaded after p (rounds (limited limits) order 0 order (stateAt middle loaded))) where
+    (then : Reaches limits middle loaded after p (rounds (limited limits) (orderOf problem) 0 (orderOf problem) (stateAt middle loaded))) where
   whole : stateAt after p ≡ elimination (limited limits) problem
   unfolding elimination eliminate
-  whole = then .is ∙ ap (rounds (limited limits) order 0 order) (first .is)
+  whole = then .is ∙ ap (rounds (limited limits) (orderOf problem) 0 (orderOf problem)) (first .is)
 
   held-steps : stepsIn after (p .steps) ≡ stepsOf (elimination (limited limits) problem)
   held-steps = sym (steps-at after p) ∙ ap stepsOf whole

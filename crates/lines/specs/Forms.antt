@@ -1,7 +1,7 @@
 -- A line's tests by its words: coefficients, masks, relation.
 use mathlib.Core.Path.{_≡_, refl, sym, ap, _∙_}
 use mathlib.Core.Bool.{Bool, true, false, not, _&&_, _||_, or-assoc, or-false}
-use mathlib.Core.List.{List, [], _∷_, _++_}
+use mathlib.Core.List.{List, [], _∷_, _++_, map}
 use mathlib.Core.Option.{some}
 use Prim.Native.Nat.{ℕ, zero, suc, _+_, _/_, _%_, _^_, _≤_, _<_}
 use native.Mathlib.Nat.{mod-lt, div-one}
@@ -21,12 +21,14 @@ use Rattle.rules.specs.Problem.{inRange}
 use Rattle.rules.specs.Lines as rules
 use Rattle.rules.specs.Lines.{Variable, rational, boolean, contains, coefficient, isEmpty, noConstraint}
 use Rattle.rules.specs.Steps.{row}
-use Rattle.rules.specs.Elimination.{order, roundOf, overflows}
+use Rattle.rules.specs.Elimination.{orderBy, roundOf, overflows}
 use Rattle.theory_resolution.specs.Members.{has-union}
 use Rattle.theory_resolution.specs.Variables.{contains-rational, contains-boolean}
 use Rattle.theory_lists.specs.All.{getD-replicate-same}
+use Rattle.lines.specs.declared.order.Order.{Order}
 use Rattle.lines.specs.declared.line.Line.{Line}
 use Rattle.masks.specs.Mask.{bits, has-bits, union-bits, shifted, none-bits}
+use Rattle.lines.specs.Order.{variablesOf}
 use Rattle.lines.specs.Line.{constraintOf, constraintIn, meaning, Shaped}
 
 -- a relation, by its three numbers
@@ -106,10 +108,10 @@ abbrev pub here : Bool → ℕ → ℕ
 here true rest = 0
 here false rest = suc rest
 
--- the place of the first coefficient that is not 0; without one, so many more
-unfoldable pub leading : List ℤ → ℕ → ℕ
-leading [] rest = rest
-leading (z ∷ zs) rest = here (not (isZero z)) (leading zs rest)
+-- the first round whose rational variable has a coefficient other than 0; without one, so many more
+unfoldable pub leading : List ℕ → List ℤ → ℕ → ℕ
+leading [] cs rest = rest
+leading (f ∷ fs) cs rest = here (not (isZero (getD cs f (pos 0)))) (leading fs cs rest)
 
 round-step : (v : Variable) (vs : List Variable) (l : rules.Line) → roundOf (v ∷ vs) l ≡ here (contains v l) (roundOf vs l)
 unfolding roundOf
@@ -119,15 +121,11 @@ round-step v vs l = by (contains v l)
     by true = refl
     by false = refl
 
-rounds-rational : (n : ℕ) (f : ℕ → Variable) (cs : List ℤ) (vs : List Variable) (l : rules.Line) → length cs ≡ n
-    → ((i : ℕ) → contains (f i) l ≡ not (isZero (getD cs i (pos 0))))
-    → roundOf (tabulate n f ++ vs) l ≡ leading cs (roundOf vs l)
-unfolding tabulate roundOf leading
-rounds-rational zero f [] vs l h e = refl
-rounds-rational zero f (c ∷ cs) vs l h e = absurd (omega arith)
-rounds-rational (suc n) f [] vs l h e = absurd (omega arith)
-rounds-rational (suc n) f (c ∷ cs) vs l h e = round-step (f 0) (tabulate n (λ i. f (suc i)) ++ vs) l
-    ∙ rw (e 0, rounds-rational n (λ i. f (suc i)) cs vs l (omega arith) (λ i. e (suc i)))
+rounds-rational : (fs : List ℕ) (cs : List ℤ) (vs : List Variable) (l : rules.Line)
+    → ((f : ℕ) → contains (rational f) l ≡ not (isZero (getD cs f (pos 0)))) → roundOf (map rational fs ++ vs) l ≡ leading fs cs (roundOf vs l)
+unfolding leading
+rounds-rational [] cs vs l e = refl
+rounds-rational (f ∷ fs) cs vs l e = round-step (rational f) (map rational fs ++ vs) l ∙ rw (e f, rounds-rational fs cs vs l e)
 
 contains-bits : (l : Line) (i : ℕ) → i < limit.allBooleans
     → contains (boolean i) (meaning l) ≡ eqb (bitOr (l .positive) (l .negative) / 2 ^ i % 2) 1
@@ -156,26 +154,26 @@ rounds-boolean (suc k) f m l e =
     by (suc zero) h = refl
     by (suc (suc d)) h = absurd (omega arith)
 
-pub round-is : (l : Line) → Shaped l → length (l .coefficients) ≡ limit.rationals
-    → roundOf order (meaning l) ≡ leading (l .coefficients) (trailingZeros limit.allBooleans (bitOr (l .positive) (l .negative)))
-unfolding order
-round-is l h n =
-    rounds-rational limit.rationals rational (l .coefficients) (tabulate limit.allBooleans boolean) (meaning l) n
+pub round-is : (o : Order) (l : Line) → Shaped l → roundOf (variablesOf o) (meaning l)
+    ≡ leading (o .rationals) (l .coefficients) (trailingZeros limit.allBooleans (bitOr (l .positive) (l .negative)))
+unfolding variablesOf orderBy
+round-is o l h =
+    rounds-rational (o .rationals) (l .coefficients) (tabulate limit.allBooleans boolean) (meaning l)
     (λ f. contains-rational f (meaning l) ∙ ap (λ (z : ℤ). not (isZero z)) (coefficient-is l h f))
-    ∙ ap (λ (r : ℕ). leading (l .coefficients) r)
+    ∙ ap (λ (r : ℕ). leading (o .rationals) (l .coefficients) r)
     (rounds-boolean limit.allBooleans boolean (bitOr (l .positive) (l .negative)) (meaning l) (λ i k. contains-bits l i k))
 
 -- where a scan has found it, and after all
-pub leading-at : (cs : List ℤ) (i rest : ℕ) → ((k : ℕ) → k < i → not (isZero (getD cs k (pos 0))) ≡ false) → i < length cs
-    → not (isZero (getD cs i (pos 0))) ≡ true → leading cs rest ≡ i
+pub leading-at : (fs : List ℕ) (cs : List ℤ) (t rest : ℕ) → ((k : ℕ) → k < t → not (isZero (getD cs (getD fs k 0) (pos 0))) ≡ false)
+    → t < length fs → not (isZero (getD cs (getD fs t 0) (pos 0))) ≡ true → leading fs cs rest ≡ t
 unfolding leading
-leading-at [] i rest e h f = absurd (omega arith)
-leading-at (c ∷ cs) zero rest e h f = rw f
-leading-at (c ∷ cs) (suc i) rest e h f =
-    rw (e 0 (omega arith)) (ap suc (leading-at cs i rest (λ k l. e (suc k) (omega arith)) (omega arith) f))
+leading-at [] cs t rest e h f = absurd (omega arith)
+leading-at (g ∷ fs) cs zero rest e h f = rw f
+leading-at (g ∷ fs) cs (suc t) rest e h f =
+    rw (e 0 (omega arith)) (ap suc (leading-at fs cs t rest (λ k l. e (suc k) (omega arith)) (omega arith) f))
 
-pub leading-none : (cs : List ℤ) (rest : ℕ) → ((k : ℕ) → k < length cs → not (isZero (getD cs k (pos 0))) ≡ false)
-    → leading cs rest ≡ length cs + rest
+pub leading-none : (fs : List ℕ) (cs : List ℤ) (rest : ℕ)
+    → ((k : ℕ) → k < length fs → not (isZero (getD cs (getD fs k 0) (pos 0))) ≡ false) → leading fs cs rest ≡ length fs + rest
 unfolding leading
-leading-none [] rest e = omega arith
-leading-none (c ∷ cs) rest e = let r = leading-none cs rest (λ k l. e (suc k) (omega arith)) in rw (e 0 (omega arith)) (omega arith)
+leading-none [] cs rest e = omega arith
+leading-none (g ∷ fs) cs rest e = let r = leading-none fs cs rest (λ k l. e (suc k) (omega arith)) in rw (e 0 (omega arith)) (omega arith)

@@ -1,14 +1,18 @@
--- The order of rounds by their numbers.
+-- The order of rounds in machine words.
 use mathlib.Core.Path.{_≡_}
-use mathlib.Core.List.{_∷_}
-use Prim.Native.Nat.{ℕ, suc, _+_, _≤_, _<_}
+use mathlib.Core.List.{List}
+use Prim.Native.Nat.{ℕ, _+_, _≤_, _<_}
 use native.Mathlib.Omega.{arith}
-use lib.ListN.{drop}
+use lib.ListN.{length, getD}
 use Rattle.rules_types.specs.Limits as limit
 use Rattle.rules.specs.Lines as rules
 use Rattle.rules.specs.Lines.{rational, boolean}
-use Rattle.rules.specs.Elimination.{order}
-use Rattle.theory_saturation.specs.Order.{order-rational, order-boolean}
+use Rattle.rules.specs.Elimination.{orderBy}
+use Rattle.theory_saturation.specs.Rounds.{At}
+use Rattle.theory_saturation.specs.Order.{Ordered, at-ranged, rational-at, boolean-at}
+use Rattle.lines.specs.declared.order.Order.{Order}
+use Rattle.lines.specs.declared.order.RationalRound.{RationalRound}
+use Rattle.lines.specs.declared.order.VariableRound.{VariableRound}
 use Rattle.lines.specs.declared.order.Variable.{Variable}
 use Rattle.lines.specs.declared.order.Variable.the-variants.{Rational, Boolean}
 use Rattle.lines.specs.declared.order.Round.{Round}
@@ -18,30 +22,45 @@ unfoldable pub variableOf : Variable → rules.Variable
 variableOf (Rational f) = rational f
 variableOf (Boolean i) = boolean i
 
--- one of the order
+unfoldable pub variablesOf : Order → List rules.Variable
+variablesOf o = orderBy (o .rationals)
+
+-- one that a line can have
 abbrev pub Ranged : Variable → Type 0
 Ranged (Rational f) = f < limit.rationals
 Ranged (Boolean i) = i < limit.allBooleans
 
--- "turns 0 to 7 belong to the figures and 8 to 39 to the marks"
+-- a round that can be gone through
+pub record Scheduled (round : VariableRound) : Type 0 where
+  pub ranged : Ranged (round .variable)
+  pub ordered : Ordered (variablesOf (round .order))
+
+pub record ScheduledRational (round : RationalRound) : Type 0 where
+  pub ranged : round .rational < limit.rationals
+  pub ordered : Ordered (variablesOf (round .order))
+  pub at : At (variablesOf (round .order)) (round .number) (rational (round .rational))
+
+-- round t of an order, which is a rational variable's
+abbrev pub rationalRound : Order → ℕ → RationalRound
+rationalRound o t = record { order = o; number = t; rational = getD (o .rationals) t 0 }
+
+-- "8 to 39 to the marks"
 abbrev pub booleanRound : ℕ → ℕ
 booleanRound i = limit.rationals + i
 
-abbrev pub roundNumber : Variable → ℕ
-roundNumber (Rational f) = f
-roundNumber (Boolean i) = booleanRound i
-
 -- what round t is
-abbrev pub IsRound : ℕ → Round → Type 0
-IsRound t (Of v) = Ranged v × (roundNumber v ≡ t)
-IsRound t End = limit.rounds ≤ t
+abbrev pub IsRound : List rules.Variable → ℕ → Round → Type 0
+IsRound variables t (Of v) = Ranged v × At variables t (variableOf v)
+IsRound variables t End = limit.rounds ≤ t
 
--- ---- a variable's place in the order
-pub order-at : (v : Variable) → Ranged v → drop (roundNumber v) order ≡ variableOf v ∷ drop (suc (roundNumber v)) order
-unfolding variableOf
-order-at (Rational f) h = order-rational f h
-order-at (Boolean i) h = order-boolean i h
+module _ (o : Order) (n : length (o .rationals) ≡ limit.rationals) where
+  pub at-rational : (t : ℕ) → t < limit.rationals → At (variablesOf o) t (rational (getD (o .rationals) t 0))
+  unfolding variablesOf
+  at-rational t h = rational-at (o .rationals) t (omega arith)
 
-pub round-few : (v : Variable) → Ranged v → roundNumber v < limit.rounds
-round-few (Rational f) h = omega arith
-round-few (Boolean i) h = omega arith
+  pub at-boolean : (i : ℕ) → i < limit.allBooleans → At (variablesOf o) (booleanRound i) (boolean i)
+  unfolding variablesOf
+  at-boolean i h = boolean-at (o .rationals) n i h
+
+  pub rational-ranged : Ordered (variablesOf o) → (t : ℕ) → t < limit.rationals → getD (o .rationals) t 0 < limit.rationals
+  rational-ranged h t k = at-ranged h t (rational (getD (o .rationals) t 0)) (at-rational t k)

@@ -1,4 +1,5 @@
 // A line of the proof in machine words: two masks of Boolean variables, and a constraint.
+use crate::order::Order;
 use crate::row::leading;
 use crate::row::overflowing_row;
 use machine::sign::in_range;
@@ -11,7 +12,9 @@ ghost use mathlib.Core.Path.{_≡_};
 ghost use Prim.Native.Nat.{_<_};
 ghost use Rattle.rules_types.specs.Limits.{allBooleans, rationals};
 ghost use Rattle.rules.specs.Lines.{isEmpty, positively, negatively, rational, boolean};
-ghost use Rattle.rules.specs.Elimination.{order, roundOf, overflows};
+ghost use Rattle.rules.specs.Elimination.{roundOf, overflows};
+ghost use Rattle.theory_saturation.specs.Order.{Ordered};
+ghost use Rattle.lines.specs.Order.{variablesOf};
 ghost use Rattle.lines.specs.Line.{meaning, Shaped};
 
 pub struct Line {
@@ -69,13 +72,14 @@ impl Line {
         member(self.negative, i)
     }
 
-    // The place of its first variable in the order of rounds: rational variables, then Boolean ones.
-    pub fn round(self) -> usize
+    // The round that it belongs to: the place of the first variable of the order that it contains.
+    pub fn round(self, order: Order) -> usize
         requires { ⌜ Shaped self ⌝ }
-        ensures { λ r. ⌜ r ≡ roundOf order (meaning self) ⌝ }
+        requires { ⌜ Ordered (variablesOf order) ⌝ }
+        ensures { λ r. ⌜ r ≡ roundOf (variablesOf order) (meaning self) ⌝ }
     {
         let row = self.coefficients;
-        leading(row, lowest(self.positive | self.negative))
+        leading(order, row, lowest(self.positive | self.negative))
     }
 
     // Some number is no amount.

@@ -3,16 +3,20 @@ use mathlib.Core.Path.{_≡_, refl, sym, ap, _∙_}
 use mathlib.Core.Bool.{Bool, true, false, not, cond, _&&_}
 use mathlib.Core.List.{List, [], _∷_}
 use mathlib.Core.Option.{Option, none, some}
-use Prim.Native.Nat.{suc, _<_}
+use Prim.Native.Nat.{ℕ, zero, suc, _<_}
+use native.Mathlib.Omega.{arith}
 use lib.IntN.{ℤ, pos}
 use lib.Dec.{eqb, eqb·zero-suc, eqb·suc-suc}
-use lib.ListN.{length}
-use Rattle.rules.specs.Lists.{all}
+use lib.ListN.{length, getD}
+use Rattle.rules_types.specs.Limits as limit
+use Rattle.rules.specs.Lists.{all, tabulate}
 use Rattle.rules.specs.Arithmetic.{isZero, related}
 use Rattle.rules.specs.Lines as rules
 use Rattle.rules.specs.Lines.{meet}
 use Rattle.rules.specs.Normalize.{settled, settledLine, normalLine}
+use Rattle.theory_lists.specs.Tabulated.{length-tabulate}
 use Rattle.theory_resolution.specs.NormalLine.{having}
+use Rattle.theory_saturation.specs.Order.{rising}
 use Rattle.lines.specs.declared.line.Line.{Line}
 use Rattle.lines.specs.Line.{constraintOf, constraintIn, meaning}
 use Rattle.lines.specs.Forms.{here, leading, constraint-is}
@@ -31,16 +35,30 @@ pub normalized-left : (n : Normalized) → n .dropped ≡ false → normalized n
 unfolding normalized
 normalized-left n e = rw e
 
--- ---- a row of zeros: no place is the first of another number
-pub zeros-leading : (cs : List ℤ) → eqb (leading cs 0) (length cs) ≡ all isZero cs
+-- ---- a row of zeros: no round is the first with another number
+leading-last : (fs : List ℕ) (cs : List ℤ) → eqb (leading fs cs 0) (length fs) ≡ all (λ f. isZero (getD cs f (pos 0))) fs
 unfolding leading all
-zeros-leading [] = refl
-zeros-leading (c ∷ cs) = by (isZero c) (zeros-leading cs)
+leading-last [] cs = refl
+leading-last (f ∷ fs) cs = by (isZero (getD cs f (pos 0))) (leading-last fs cs)
   where
-    by : (z : Bool) → eqb (leading cs 0) (length cs) ≡ all isZero cs
-        → eqb (here (not z) (leading cs 0)) (suc (length cs)) ≡ z && all isZero cs
-    by true r = eqb·suc-suc (leading cs 0) (length cs) ∙ r
-    by false r = eqb·zero-suc (length cs)
+    by : (z : Bool) → eqb (leading fs cs 0) (length fs) ≡ all (λ f. isZero (getD cs f (pos 0))) fs
+        → eqb (here (not z) (leading fs cs 0)) (suc (length fs)) ≡ z && all (λ f. isZero (getD cs f (pos 0))) fs
+    by true r = eqb·suc-suc (leading fs cs 0) (length fs) ∙ r
+    by false r = eqb·zero-suc (length fs)
+
+each-element : (p : ℕ → Bool) (n : ℕ) (f : ℕ → ℕ) (cs : List ℤ) → length cs ≡ n → ((i : ℕ) → p (f i) ≡ isZero (getD cs i (pos 0)))
+    → all p (tabulate n f) ≡ all isZero cs
+unfolding all tabulate
+each-element p zero f [] h e = refl
+each-element p zero f (c ∷ cs) h e = absurd (omega arith)
+each-element p (suc n) f [] h e = absurd (omega arith)
+each-element p (suc n) f (c ∷ cs) h e = rw (e 0, each-element p n (λ i. f (suc i)) cs (omega arith) (λ i. e (suc i)))
+
+pub zeros-leading : (cs : List ℤ) → length cs ≡ limit.rationals → eqb (leading rising cs 0) limit.rationals ≡ all isZero cs
+zeros-leading cs n =
+    ap (λ (k : ℕ). eqb (leading rising cs 0) k) (sym (length-tabulate limit.rationals (λ f. f)))
+    ∙ leading-last rising cs
+    ∙ each-element (λ f. isZero (getD cs f (pos 0))) limit.rationals (λ f. f) cs n (λ i. refl)
 
 -- ---- the ends of a line
 module _ (l : Line) where

@@ -1,6 +1,7 @@
 // Normalizing a line: it is dropped, or brought to one form.
 use crate::reduce::reduce;
 use lines::line::Line;
+use lines::order::Order;
 use lines::row::leading;
 use machine::sign::zero_related;
 use masks::meets;
@@ -31,11 +32,11 @@ pub fn clashes(line: Line) -> bool
     meets(line.positive, line.negative)
 }
 
-// All coefficients are 0.
+// All coefficients are 0: in any order no round comes first.
 pub fn zero_row(row: [i64; Limits::RATIONALS]) -> bool
     ensures { λ r. ⌜ r ≡ all isZero row ⌝ }
 {
-    leading(row, 0) == Limits::RATIONALS
+    leading(Order::rising(), row, 0) == Limits::RATIONALS
 }
 
 // Whether 0 is related to the bound; relation 2 is <.

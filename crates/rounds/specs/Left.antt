@@ -8,7 +8,9 @@ use lib.ListN.{length}
 use Rattle.rules_types.specs.declared.limits.Limits.{Limits}
 use Rattle.rules_types.specs.Limits.{stepBytes}
 use Rattle.rules.specs.Lines as rules
-use Rattle.rules.specs.Elimination.{order, Numbered, Pair, pairUp, sideOf, roundPairs}
+use Rattle.rules.specs.Elimination.{Numbered, Pair, pairUp, sideOf, roundPairs}
+use Rattle.lines.specs.declared.order.VariableRound.{VariableRound}
+use Rattle.lines.specs.Order.{variableOf, variablesOf}
 use Rattle.lines.specs.Line.{meaning}
 use Rattle.steps.specs.Lines.{lineAt}
 use Rattle.steps.specs.Decoding.{decoded}
@@ -17,45 +19,46 @@ use Rattle.placing.specs.Point.{Leads, leads-steps, leads-step}
 use Rattle.rounds.specs.Sides.{onSide, chosen, numbered, selected, selected-here, selected-end, Next}
 
 -- of the uppers from number i on; and of upper i the lowers from number j on, with the later uppers
-module _ (proof : List ℕ) (m : ℕ) (v : rules.Variable) (t : ℕ) where
+module _ (proof : List ℕ) (m : ℕ) (current : VariableRound) where
   abbrev pub lowers : ℕ → List Numbered
-  lowers j = selected (chosen false v t) proof m j
+  lowers j = selected (chosen false current) proof m j
 
   unfoldable pub later : ℕ → List Pair
-  later i = pairUp (selected (chosen true v t) proof m i) (lowers 0)
+  later i = pairUp (selected (chosen true current) proof m i) (lowers 0)
 
   unfoldable pub within : ℕ → ℕ → List Pair
   within i j = map (λ l. record { upper = numbered proof i; lower = l }) (lowers j) ++ later (i + 1)
 
-  pub later-all : later 0 ≡ roundPairs order v t (stepsIn proof m)
+  pub later-all : later 0
+      ≡ roundPairs (variablesOf (current .order)) (variableOf (current .variable)) (current .number) (stepsIn proof m)
   unfolding later selected chosen onSide roundPairs sideOf
   later-all = refl
 
-  pub later-upper : (i : ℕ) → i < m → chosen true v t (meaning (lineAt proof i)) ≡ true → later i ≡ within i 0
+  pub later-upper : (i : ℕ) → i < m → chosen true current (meaning (lineAt proof i)) ≡ true → later i ≡ within i 0
   unfolding later within pairUp
-  later-upper i h e = rw (selected-here (chosen true v t) proof m i h e)
+  later-upper i h e = rw (selected-here (chosen true current) proof m i h e)
 
   pub later-end : (i : ℕ) → m ≤ i → later i ≡ []
   unfolding later pairUp
-  later-end i h = rw (selected-end (chosen true v t) proof m i h)
+  later-end i h = rw (selected-end (chosen true current) proof m i h)
 
-  pub within-lower : (i j : ℕ) → j < m → chosen false v t (meaning (lineAt proof j)) ≡ true
+  pub within-lower : (i j : ℕ) → j < m → chosen false current (meaning (lineAt proof j)) ≡ true
       → within i j ≡ record { upper = numbered proof i; lower = numbered proof j } ∷ within i (j + 1)
   unfolding within
   within-lower i j h e = ap (λ (ls : List Numbered). map (λ l. record { upper = numbered proof i; lower = l }) ls ++ later (i + 1))
-      (selected-here (chosen false v t) proof m j h e)
+      (selected-here (chosen false current) proof m j h e)
 
   pub within-end : (i j : ℕ) → m ≤ j → within i j ≡ later (i + 1)
   unfolding within
   within-end i j h = ap (λ (ls : List Numbered). map (λ l. record { upper = numbered proof i; lower = l }) ls ++ later (i + 1))
-      (selected-end (chosen false v t) proof m j h)
+      (selected-end (chosen false current) proof m j h)
 
   -- from one number to the next
-  pub later-next : {i r : ℕ} → Next proof m (chosen true v t) i r → later i ≡ later r
+  pub later-next : {i r : ℕ} → Next proof m (chosen true current) i r → later i ≡ later r
   unfolding later
   later-next n = ap (λ (us : List Numbered). pairUp us (lowers 0)) (n .same)
 
-  pub within-next : (i : ℕ) {j r : ℕ} → Next proof m (chosen false v t) j r → within i j ≡ within i r
+  pub within-next : (i : ℕ) {j r : ℕ} → Next proof m (chosen false current) j r → within i j ≡ within i r
   unfolding within
   within-next i n = ap (λ (ls : List Numbered). map (λ l. record { upper = numbered proof i; lower = l }) ls ++ later (i + 1)) (n .same)
 

@@ -13,8 +13,10 @@ use Rattle.rules.specs.Bytes.{fromUnsigned, fieldAt}
 use Rattle.rules.specs.Lines as rules
 use Rattle.rules.specs.Lines.{coefficient, positively, negatively}
 use Rattle.rules.specs.Steps.{Step}
-use Rattle.rules.specs.Elimination.{order, roundOf, Numbered, select}
+use Rattle.rules.specs.Elimination.{roundOf, Numbered, select}
 use Rattle.theory_lists.specs.Tabulated.{drop-tabulate}
+use Rattle.lines.specs.declared.order.VariableRound.{VariableRound}
+use Rattle.lines.specs.Order.{variableOf, variablesOf}
 use Rattle.lines.specs.Line.{meaning, Shaped}
 use Rattle.lines.specs.Forms.{coefficient-is}
 use Rattle.steps.specs.Decoding.{decoded, getD-amountsAt}
@@ -28,8 +30,8 @@ onSide true v l = positively v l
 onSide false v l = negatively v l
 
 -- "its lines with it positive (upper bounds) are paired, in line order, with the lines with it negative"
-unfoldable pub chosen : Bool → rules.Variable → ℕ → rules.Line → Bool
-chosen upper v t l = onSide upper v l && eqb (roundOf order l) t
+unfoldable pub chosen : Bool → VariableRound → rules.Line → Bool
+chosen upper current l = onSide upper (variableOf (current .variable)) l && eqb (roundOf (variablesOf (current .order)) l) (current .number)
 
 -- ---- by their bytes
 module _ (proof : List ℕ) (i : ℕ) (room : HasStep proof i) where

@@ -1,5 +1,6 @@
 // The lines of a round that have its variable on one side: positive (an upper bound) or negative.
 use lines::order::Variable;
+use lines::order::VariableRound;
 use machine::sign::is_negative;
 use machine::sign::is_positive;
 use masks::member;
@@ -10,7 +11,7 @@ use steps::access::positive_at;
 ghost use mathlib.Core.Path.{_≡_};
 ghost use Prim.Native.Nat.{_+_, _≤_, _<_};
 ghost use Rattle.rules.specs.Lines.{rational, boolean};
-ghost use Rattle.lines.specs.Order.{variableOf, Ranged};
+ghost use Rattle.lines.specs.Order.{variableOf, Ranged, Scheduled};
 ghost use Rattle.rules_types.specs.Limits.{rationals, allBooleans};
 ghost use Rattle.lines.specs.Line.{meaning, Shaped};
 ghost use Rattle.steps.specs.Places.{HasStep};
@@ -54,30 +55,32 @@ fn has_side(proof: &[u8], i: usize, v: Variable, upper: bool) -> bool
     }
 }
 
-// Whether line i is one of round t and has the variable on this side. The bytes of the variable are read first.
-fn stands(proof: &[u8], i: usize, t: usize, v: Variable, upper: bool) -> bool
+// Whether line i is one of the round and has its variable on this side. The bytes of the variable are read first.
+fn stands(proof: &[u8], i: usize, current: VariableRound, upper: bool) -> bool
     requires { ⌜ HasStep (now proof) i ⌝ }
-    requires { ⌜ Ranged v ⌝ }
+    requires { ⌜ Scheduled current ⌝ }
     requires { ⌜ Shaped (lineAt (now proof) i) ⌝ }
-    ensures { λ r. ⌜ r ≡ chosen upper (variableOf v) t (meaning (lineAt (now (proof .entry)) i)) ⌝ }
+    ensures { λ r. ⌜ r ≡ chosen upper current (meaning (lineAt (now (proof .entry)) i)) ⌝ }
 {
+    let v = current.variable;
     if !has_side(proof, i, v, upper) {
         return false;
     }
     let line = line_at(proof, i);
-    line.round() == t
+    let order = current.order;
+    line.round(order) == current.number
 }
 
 // The first such line from a number on, m without one.
-pub fn next(proof: &[u8], from: usize, m: usize, t: usize, v: Variable, upper: bool) -> usize
+pub fn next(proof: &[u8], from: usize, m: usize, current: VariableRound, upper: bool) -> usize
     requires { ⌜ Held (now proof) m ⌝ }
     requires { ⌜ from ≤ m ⌝ }
-    requires { ⌜ Ranged v ⌝ }
-    ensures { λ r. ⌜ Next (now (proof .entry)) m (chosen upper (variableOf v) t) from r ⌝ }
+    requires { ⌜ Scheduled current ⌝ }
+    ensures { λ r. ⌜ Next (now (proof .entry)) m (chosen upper current) from r ⌝ }
 {
     let mut i = from;
     while i < m {
-        if stands(proof, i, t, v, upper) {
+        if stands(proof, i, current, upper) {
             return i;
         }
         i += 1;

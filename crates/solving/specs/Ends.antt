@@ -10,7 +10,7 @@ use Rattle.rules_types.specs.declared.answers.Verdict.the-variants.{Satisfiable
 use Rattle.rules_types.specs.declared.answers.Answer.the-variants.{Decided, Refused}
 use Rattle.rules_types.specs.declared.answers.Solved.{Solved}
 use Rattle.rules_types.specs.Limits as limit
-use Rattle.rules.specs.Elimination.{orderOf}
+use Rattle.rules.specs.Lines.{Variable}
 use Rattle.rules.specs.Values.{walk}
 use Rattle.rules.specs.Model.{written}
 use Rattle.fields.specs.Field.{stored}
@@ -40,5 +40,5 @@ abbrev pub WrittenBy : Option (List ℕ) → Point → List ℕ → List ℕ →
 WrittenBy none c model after s = WithoutModel c model after s
 WrittenBy (some bytes) c model after s = WithModel c bytes model after s
 
-abbrev pub Written : ℕ → ℕ → Point → List ℕ → List ℕ → List ℕ → Solved → Type 0
-Written b r c proof model after s = WrittenBy (written b r (walk (orderOf p) (linesIn proof (c .steps)))) c model after s
+abbrev pub Written : ℕ → ℕ → List Variable → Point → List ℕ → List ℕ → List ℕ → Solved → Type 0
+Written b r variables c proof model after s = WrittenBy (written b r (walk variables (linesIn proof (c .steps)))) c model after s

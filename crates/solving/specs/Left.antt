@@ -130,7 +130,7 @@ module _ {limits : Limits} {p : Problem} (w : WellFormed p) {before after : List
     leaves-empty h = leaves-decided Unsatisfiable noModel (zeroModel model) (concludes-at Empty h) no-model
 
     pub leaves-saturated : (filled : List ℕ) (s : Solved) → c .progress ≡ Running
-        → Written (p .booleans) (p .rationals) c after model filled s
+        → Written (p .booleans) (p .rationals) (orderOf p) c after model filled s
         → Leaves limits (concluded p state) before model (zeroed (c .steps) (limits .steps) after) filled s
     leaves-saturated filled s h = by (written (p .booleans) (p .rationals) (walk (orderOf p) (linesIn after (c .steps)))) refl
       where

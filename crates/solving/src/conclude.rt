@@ -1,4 +1,5 @@
 // What each end of an elimination leaves: the answer, the proof's bytes and the model's.
+use elimination::eliminate::Run;
 use fields::put_zeros;
 use models::encode::write_model;
 use placing::point::Point;
@@ -13,6 +14,8 @@ ghost use mathlib.Core.Path.{_≡_};
 ghost use Prim.Native.Nat.{_*_, _≤_};
 ghost use lib.ListN.{length};
 ghost use Rattle.rules_types.specs.Limits.{stepBytes, modelBytes, booleans, rationals};
+ghost use Rattle.theory_saturation.specs.Order.{Ordered};
+ghost use Rattle.lines.specs.Order.{variablesOf};
 ghost use Rattle.steps.specs.Places.{zeroed};
 ghost use Rattle.steps.specs.Lines.{ReadyLines};
 ghost use Rattle.walk.specs.Narrow.{Narrow};
@@ -66,20 +69,23 @@ pub fn saturated(
     r: u8,
     proof: &mut [u8],
     model: &mut [u8],
-    c: Point,
+    run: Run,
     limits: Limits,
 ) -> Solved
     requires { ⌜ b ≤ booleans ⌝ }
     requires { ⌜ r ≤ rationals ⌝ }
-    requires { ⌜ c .steps ≤ limits .steps ⌝ }
+    requires { ⌜ run .end .steps ≤ limits .steps ⌝ }
     requires { ⌜ stepBytes * limits .steps ≤ length (now proof) ⌝ }
     requires { ⌜ modelBytes ≤ length (now model) ⌝ }
-    requires { ⌜ ReadyLines (now proof) (c .steps) ⌝ }
-    requires { ⌜ Narrow (now proof) (c .steps) r ⌝ }
-    ensures { λ s. ⌜ Written b r c (now (proof .entry)) (now (model .entry)) (now (model .exit)) s ⌝ }
-    ensures { λ _. ⌜ now (proof .exit) ≡ zeroed (c .steps) (limits .steps) (now (proof .entry)) ⌝ }
+    requires { ⌜ ReadyLines (now proof) (run .end .steps) ⌝ }
+    requires { ⌜ Narrow (now proof) (run .end .steps) r ⌝ }
+    requires { ⌜ Ordered (variablesOf (run .order)) ⌝ }
+    ensures { λ s. ⌜ Written b r (variablesOf (run .order)) (run .end) (now (proof .entry)) (now (model .entry)) (now (model .exit)) s ⌝ }
+    ensures { λ _. ⌜ now (proof .exit) ≡ zeroed (run .end .steps) (limits .steps) (now (proof .entry)) ⌝ }
 {
-    let w = walk(proof, c.steps, r);
+    let c = run.end;
+    let order = run.order;
+    let w = walk(proof, c.steps, order, r);
     if !w.written {
         return without_model(proof, model, Verdict::Unwritten, c, limits);
     }

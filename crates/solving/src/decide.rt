@@ -32,12 +32,13 @@ pub fn decide(
     ensures { λ _. ⌜ now (proof .exit) ≡ proofAfter limits (outcomeAt limits (now (input .entry)) sizes) (now (proof .entry)) ⌝ }
     ensures { λ _. ⌜ now (model .exit) ≡ modelAfter (outcomeAt limits (now (input .entry)) sizes) (now (model .entry)) ⌝ }
 {
-    let c = eliminate(input, sizes, proof, limits);
+    let run = eliminate(input, sizes, proof, limits);
+    let c = run.end;
     let progress = c.progress;
     match progress {
         Progress::Overflow => refuse(proof, Refusal::Overflow, c, limits),
         Progress::OutOfSteps => refuse(proof, Refusal::OutOfSteps, c, limits),
         Progress::Empty => without_model(proof, model, Verdict::Unsatisfiable, c, limits),
-        Progress::Running => saturated(sizes.booleans, sizes.rationals, proof, model, c, limits),
+        Progress::Running => saturated(sizes.booleans, sizes.rationals, proof, model, run, limits),
     }
 }

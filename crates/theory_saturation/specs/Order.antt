@@ -87,25 +87,30 @@ unfolding orderBy
 boolean-at fs n i h = at-behind fs (tabulate limit.allBooleans boolean) i (limit.rationals + i) (boolean i) (omega arith)
     (at-tabulate limit.allBooleans boolean i h)
 
--- ---- that of a problem's run
-problem-at : (p : Problem) (t : ℕ) → t < limit.rationals → At (orderOf p) t (rational t)
-unfolding orderOf rationalsOf
-problem-at p t h =
-    let fs = tabulate limit.rationals (λ f. f) in
-    subst (λ (f : ℕ). At (orderBy fs) t (rational f)) (getD-tabulate limit.rationals (λ f. f) t 0 h)
-    (rational-at fs t (omega (arith, length-tabulate limit.rationals (λ f. f))))
+-- ---- the rational variables by their numbers
+abbrev pub rising : List ℕ
+rising = tabulate limit.rationals (λ f. f)
+
+rising-at : (t : ℕ) → t < limit.rationals → At (orderBy rising) t (rational t)
+rising-at t h = subst (λ (f : ℕ). At (orderBy rising) t (rational f)) (getD-tabulate limit.rationals (λ f. f) t 0 h)
+    (rational-at rising t (omega (arith, length-tabulate limit.rationals (λ f. f))))
 
 booleans-once : (n : ℕ) (f : ℕ → ℕ) → Once (tabulate n (λ i. boolean (f i)))
 unfolding tabulate
 booleans-once zero f = tt
 booleans-once (suc n) f = (tt, booleans-once n (λ i. f (suc i)))
 
-pub problem-ordered : (p : Problem) → Ordered (orderOf p)
-unfolding orderOf rationalsOf orderBy tabulate names any
-problem-ordered p = record {
+pub rising-ordered : Ordered (orderBy rising)
+unfolding orderBy tabulate names any
+rising-ordered = record {
   count = refl;
-  rationals = λ t h. (t, h, problem-at p t h);
-  booleans = boolean-at (tabulate limit.rationals (λ f. f)) (length-tabulate limit.rationals (λ f. f));
-  each = λ f h. (f, h, problem-at p f h);
+  rationals = λ t h. (t, h, rising-at t h);
+  booleans = boolean-at rising (length-tabulate limit.rationals (λ f. f));
+  each = λ f h. (f, h, rising-at f h);
   once = (tt, (tt, (tt, (tt, (tt, (tt, (tt, (tt, booleans-once limit.allBooleans (λ i. i)))))))));
 }
+
+-- ---- that of a problem's run
+pub problem-ordered : (p : Problem) → Ordered (orderOf p)
+unfolding orderOf rationalsOf
+problem-ordered p = rising-ordered

@@ -13,13 +13,13 @@ use Rattle.rules.specs.Problem.{Constraint}
 use Rattle.rules.specs.Meaning.{Assignment}
 use Rattle.rules.specs.Lines as rules
 use Rattle.rules.specs.Lines.{Variable, rational, aLiteralHolds, positively, negatively}
-use Rattle.rules.specs.Elimination.{order, roundOf}
 use Rattle.rules.specs.Values.{Fraction, beyond, less, Bound, absent, tighter, boundOf, Gathered, boundsOf, gather, tightest}
 use Rattle.fractions.specs.Meaning.{boundMeaning}
 use Rattle.fractions.specs.Range.{Small, Within}
 use Rattle.fractions.specs.NotBeyond.{small-not-beyond, tighter-within}
+use Rattle.lines.specs.declared.order.RationalRound.{RationalRound}
 use Rattle.values.specs.declared.gather.Bounds.{Bounds}
-use Rattle.values.specs.Round.{own, filter-other, filter-more}
+use Rattle.values.specs.Round.{belongs, ownOf, filter-other, filter-more}
 
 -- ---- one side
 abbrev pub anyBeyond : List Gathered → Bool
@@ -74,9 +74,9 @@ module _ (side : Variable → rules.Line → Bool) (χ : Assignment) (f : ℕ) (
       by true (some c) e = rw (e, h) (or-true (beyond (boundOf χ f c)))
 
 -- ---- both sides
-pub record Collected (χ : Assignment) (f : ℕ) (ls : List rules.Line) (L U : Bound) : Type 0 where
-  pub lower : Side negatively (λ x y. less y x) χ f (own f ls) L
-  pub upper : Side positively less χ f (own f ls) U
+pub record Collected (χ : Assignment) (current : RationalRound) (ls : List rules.Line) (L U : Bound) : Type 0 where
+  pub lower : Side negatively (λ x y. less y x) χ (current .rational) (ownOf current ls) L
+  pub upper : Side positively less χ (current .rational) (ownOf current ls) U
 
 -- a bound more, an upper one or a lower one
 abbrev pub withLower : Bool → Fraction → Bool → Bound → Bound
@@ -87,35 +87,42 @@ abbrev pub withUpper : Bool → Fraction → Bool → Bound → Bound
 withUpper true x s U = tighter less x s U
 withUpper false x s U = U
 
-unfoldable pub exceeding : Assignment → ℕ → List rules.Line → Bool
-exceeding χ f ls = anyBeyond (gather negatively χ f (own f ls)) || anyBeyond (gather positively χ f (own f ls))
+unfoldable pub exceeding : Assignment → RationalRound → List rules.Line → Bool
+exceeding χ current ls = anyBeyond (gather negatively χ (current .rational) (ownOf current ls))
+    || anyBeyond (gather positively χ (current .rational) (ownOf current ls))
 
-abbrev pub Gathering : Bool → Assignment → ℕ → List rules.Line → Bound → Bound → Type 0
-Gathering true χ f ls L U = exceeding χ f ls ≡ true
-Gathering false χ f ls L U = Collected χ f ls L U
+abbrev pub Gathering : Bool → Assignment → RationalRound → List rules.Line → Bound → Bound → Type 0
+Gathering true χ current ls L U = exceeding χ current ls ≡ true
+Gathering false χ current ls L U = Collected χ current ls L U
 
 -- ---- in machine words
-abbrev pub CollectedIn : Bounds → Assignment → ℕ → List rules.Line → Type 0
-CollectedIn b χ f ls = Collected χ f ls (boundMeaning (b .lower)) (boundMeaning (b .upper))
+abbrev pub CollectedIn : Bounds → Assignment → RationalRound → List rules.Line → Type 0
+CollectedIn b χ current ls = Collected χ current ls (boundMeaning (b .lower)) (boundMeaning (b .upper))
 
-abbrev pub GatheredIn : Bounds → Assignment → ℕ → List rules.Line → Type 0
-GatheredIn b χ f ls = Gathering (b .beyond) χ f ls (boundMeaning (b .lower)) (boundMeaning (b .upper))
+abbrev pub GatheredIn : Bounds → Assignment → RationalRound → List rules.Line → Type 0
+GatheredIn b χ current ls = Gathering (b .beyond) χ current ls (boundMeaning (b .lower)) (boundMeaning (b .upper))
 
 -- with this line more, whichever lines gave the bounds so far
-abbrev pub WithLine : Bounds → Bounds → Assignment → ℕ → rules.Line → Type 0
-WithLine earlier b χ f l = (ls : List rules.Line) → CollectedIn earlier χ f ls → GatheredIn b χ f (l ∷ ls)
+abbrev pub WithLine : Bounds → Bounds → Assignment → RationalRound → rules.Line → Type 0
+WithLine earlier b χ current l = (ls : List rules.Line) → CollectedIn earlier χ current ls → GatheredIn b χ current (l ∷ ls)
 
-pub collected-none : (χ : Assignment) (f : ℕ) → Collected χ f [] absent absent
+pub collected-none : (χ : Assignment) (current : RationalRound) → Collected χ current [] absent absent
 unfolding filter gather boundsOf tightest any
-collected-none χ f = record {
+collected-none χ current = record {
   lower = record { tightest = refl; within = tt; none = refl };
   upper = record { tightest = refl; within = tt; none = refl };
 }
 
-module _ (χ : Assignment) (f : ℕ) (l : rules.Line) (ls : List rules.Line) where
-  pub exceeding-more : exceeding χ f ls ≡ true → exceeding χ f (l ∷ ls) ≡ true
+module _ (χ : Assignment) (current : RationalRound) (l : rules.Line) (ls : List rules.Line) where
+  abbrev f : ℕ
+  f = current .rational
+
+  abbrev mine : List rules.Line
+  mine = ownOf current ls
+
+  pub exceeding-more : exceeding χ current ls ≡ true → exceeding χ current (l ∷ ls) ≡ true
   unfolding exceeding
-  exceeding-more h = by (eqb (roundOf order l) f) refl
+  exceeding-more h = by (belongs current l) refl
     where
       either : (a b c d : Bool) → (a ≡ true → c ≡ true) → (b ≡ true → d ≡ true) → a || b ≡ true → c || d ≡ true
       either true b c d g k e = rw (g refl)
@@ -123,33 +130,33 @@ module _ (χ : Assignment) (f : ℕ) (l : rules.Line) (ls : List rules.Line) whe
       either false true false d g k e = k refl
       either false false c d g k e = let z : _≡_ {A = ℕ} 0 1 = cc in absurd (omega arith)
 
-      by : (t : Bool) → eqb (roundOf order l) f ≡ t → anyBeyond (gather negatively χ f (own f (l ∷ ls)))
-          || anyBeyond (gather positively χ f (own f (l ∷ ls))) ≡ true
-      by false e = rw (filter-other (λ l. eqb (roundOf order l) f) l ls e) h
+      by : (t : Bool) → belongs current l ≡ t → anyBeyond (gather negatively χ f (ownOf current (l ∷ ls)))
+          || anyBeyond (gather positively χ f (ownOf current (l ∷ ls))) ≡ true
+      by false e = rw (filter-other (belongs current) l ls e) h
       by true e =
-          rw (filter-more (λ l. eqb (roundOf order l) f) l ls e)
-          (either (anyBeyond (gather negatively χ f (own f ls))) (anyBeyond (gather positively χ f (own f ls)))
-          (anyBeyond (gather negatively χ f (l ∷ own f ls))) (anyBeyond (gather positively χ f (l ∷ own f ls)))
-          (beyond-kept negatively χ f l (own f ls)) (beyond-kept positively χ f l (own f ls)) h)
+          rw (filter-more (belongs current) l ls e)
+          (either (anyBeyond (gather negatively χ f mine)) (anyBeyond (gather positively χ f mine))
+          (anyBeyond (gather negatively χ f (l ∷ mine))) (anyBeyond (gather positively χ f (l ∷ mine)))
+          (beyond-kept negatively χ f l mine) (beyond-kept positively χ f l mine) h)
 
-  module _ (L U : Bound) (h : Collected χ f ls L U) where
+  module _ (L U : Bound) (h : Collected χ current ls L U) where
     -- a line of another round
-    pub collected-other : eqb (roundOf order l) f ≡ false → Collected χ f (l ∷ ls) L U
-    collected-other e = let k = filter-other (λ l. eqb (roundOf order l) f) l ls e in record {
+    pub collected-other : belongs current l ≡ false → Collected χ current (l ∷ ls) L U
+    collected-other e = let k = filter-other (belongs current) l ls e in record {
       lower = rw k (h .lower);
       upper = rw k (h .upper);
     }
 
-    module _ (e : eqb (roundOf order l) f ≡ true) where
-      mine : own f (l ∷ ls) ≡ l ∷ own f ls
-      mine = filter-more (λ l. eqb (roundOf order l) f) l ls e
+    module _ (e : belongs current l ≡ true) where
+      with-it : ownOf current (l ∷ ls) ≡ l ∷ mine
+      with-it = filter-more (belongs current) l ls e
 
       -- one in which a literal holds
-      pub collected-held : aLiteralHolds χ l ≡ true → Collected χ f (l ∷ ls) L U
+      pub collected-held : aLiteralHolds χ l ≡ true → Collected χ current (l ∷ ls) L U
       collected-held t =
           record {
-            lower = rw mine (side-skip negatively χ f l (own f ls) (λ x y. less y x) L (h .lower) (never (negatively (rational f) l)));
-            upper = rw mine (side-skip positively χ f l (own f ls) less U (h .upper) (never (positively (rational f) l)));
+            lower = rw with-it (side-skip negatively χ f l mine (λ x y. less y x) L (h .lower) (never (negatively (rational f) l)));
+            upper = rw with-it (side-skip positively χ f l mine less U (h .upper) (never (positively (rational f) l)));
           }
         where
           never : (a : Bool) → a && not (aLiteralHolds χ l) ≡ false
@@ -163,33 +170,34 @@ module _ (χ : Assignment) (f : ℕ) (l : rules.Line) (ls : List rules.Line) whe
 
         -- its bound counts on its side
         pub collected-more : (t : Bool) → positively (rational f) l ≡ t → negatively (rational f) l ≡ not t → Small (boundOf χ f c)
-            → Collected χ f (l ∷ ls) (withLower t (boundOf χ f c) (c .strict) L) (withUpper t (boundOf χ f c) (c .strict) U)
+            → Collected χ current (l ∷ ls) (withLower t (boundOf χ f c) (c .strict) L) (withUpper t (boundOf χ f c) (c .strict) U)
         collected-more true p n s =
             record {
-              lower = rw mine (side-skip negatively χ f l (own f ls) (λ x y. less y x) L (h .lower) (only (negatively (rational f) l) ∙ n));
-              upper = rw mine (side-more positively χ f l (own f ls) less U (h .upper) c (only (positively (rational f) l) ∙ p) given s);
+              lower = rw with-it (side-skip negatively χ f l mine (λ x y. less y x) L (h .lower) (only (negatively (rational f) l) ∙ n));
+              upper = rw with-it (side-more positively χ f l mine less U (h .upper) c (only (positively (rational f) l) ∙ p) given s);
             }
         collected-more false p n s =
             record {
-              lower = rw mine (side-more negatively χ f l (own f ls) (λ x y. less y x) L (h .lower) c
+              lower = rw with-it (side-more negatively χ f l mine (λ x y. less y x) L (h .lower) c
                   (only (negatively (rational f) l) ∙ n) given s);
-              upper = rw mine (side-skip positively χ f l (own f ls) less U (h .upper) (only (positively (rational f) l) ∙ p));
+              upper = rw with-it (side-skip positively χ f l mine less U (h .upper) (only (positively (rational f) l) ∙ p));
             }
 
         -- its bound is beyond: on whichever side it is
         pub exceeding-here : positively (rational f) l || negatively (rational f) l ≡ true → beyond (boundOf χ f c) ≡ true
-            → exceeding χ f (l ∷ ls) ≡ true
+            → exceeding χ current (l ∷ ls) ≡ true
         unfolding exceeding
-        exceeding-here v b = rw mine (by (positively (rational f) l) (negatively (rational f) l) refl refl v)
+        exceeding-here v b = rw with-it (by (positively (rational f) l) (negatively (rational f) l) refl refl v)
           where
             by : (p n : Bool) → positively (rational f) l ≡ p → negatively (rational f) l ≡ n → p || n ≡ true
-                → anyBeyond (gather negatively χ f (l ∷ own f ls)) || anyBeyond (gather positively χ f (l ∷ own f ls)) ≡ true
-            by p true i j w = rw (beyond-here negatively χ f l (own f ls) c (only (negatively (rational f) l) ∙ j) given b)
-            by true false i j w = rw (beyond-here positively χ f l (own f ls) c (only (positively (rational f) l) ∙ i) given b)
-                (or-true (anyBeyond (gather negatively χ f (l ∷ own f ls))))
+                → anyBeyond (gather negatively χ f (l ∷ mine)) || anyBeyond (gather positively χ f (l ∷ mine)) ≡ true
+            by p true i j w = rw (beyond-here negatively χ f l mine c (only (negatively (rational f) l) ∙ j) given b)
+            by true false i j w = rw (beyond-here positively χ f l mine c (only (positively (rational f) l) ∙ i) given b)
+                (or-true (anyBeyond (gather negatively χ f (l ∷ mine))))
             by false false i j w = let z : _≡_ {A = ℕ} 0 1 = cc in absurd (omega arith)
 
-pub exceeding-front : (χ : Assignment) (f j : ℕ) (ls : List rules.Line) → exceeding χ f (drop j ls) ≡ true → exceeding χ f ls ≡ true
-exceeding-front χ f zero ls h = h
-exceeding-front χ f (suc j) [] h = h
-exceeding-front χ f (suc j) (l ∷ ls) h = exceeding-more χ f l ls (exceeding-front χ f j ls h)
+pub exceeding-front : (χ : Assignment) (current : RationalRound) (j : ℕ) (ls : List rules.Line) → exceeding χ current (drop j ls) ≡ true
+    → exceeding χ current ls ≡ true
+exceeding-front χ current zero ls h = h
+exceeding-front χ current (suc j) [] h = h
+exceeding-front χ current (suc j) (l ∷ ls) h = exceeding-more χ current l ls (exceeding-front χ current j ls h)

@@ -1,44 +1,39 @@
 -- A line of a rational variable's round has a coefficient for it, and so a constraint.
-use mathlib.Core.Path.{_≡_, refl, sym, ap, _∙_}
+use mathlib.Core.Path.{_≡_, refl, ap, subst, _∙_}
 use mathlib.Core.Bool.{Bool, true, false, not}
-use mathlib.Core.List.{List, [], _∷_}
+use mathlib.Core.List.{List}
 use Prim.Native.Nat.{ℕ, zero, suc, _<_}
 use native.Mathlib.Omega.{arith}
 use lib.IntN.{ℤ, pos, negsuc, natAbs}
-use lib.ListN.{length, getD}
-use lib.Count.{trailingZeros}
-use lib.Bits.{bitOr}
+use lib.Dec.{T}
+use lib.ListN.{getD}
 use Rattle.rules_types.specs.Limits as limit
 use Rattle.rules.specs.Arithmetic.{isPositive, isNegative, isZero}
-use Rattle.rules.specs.Elimination.{order, roundOf}
+use Rattle.rules.specs.Elimination.{roundOf}
 use Rattle.rules.specs.Lines.{rational, positively, negatively}
-use Rattle.theory_lists.specs.Tests.{of-false}
+use Rattle.theory_lists.specs.Tests.{is-false, of-false}
 use Rattle.theory_lists.specs.All.{getD-replicate-same}
 use Rattle.theory_vectors.specs.Sign.{0<abs-nonzero}
+use Rattle.theory_resolution.specs.Variables.{contains-rational}
+use Rattle.theory_saturation.specs.Rounds.{round-contains}
+use Rattle.lines.specs.declared.order.RationalRound.{RationalRound}
+use Rattle.lines.specs.Order.{variablesOf, ScheduledRational}
 use Rattle.lines.specs.declared.line.Line.{Line}
 use Rattle.lines.specs.Line.{meaning, Shaped}
-use Rattle.lines.specs.Forms.{here, leading, round-is, coefficient-is}
+use Rattle.lines.specs.Forms.{coefficient-is}
 
-leading-nonzero : (cs : List ℤ) (rest f : ℕ) → f < length cs → leading cs rest ≡ f → isZero (getD cs f (pos 0)) ≡ false
-unfolding leading
-leading-nonzero [] rest f h e = absurd (omega arith)
-leading-nonzero (c ∷ cs) rest f h e = by (λ g. leading-nonzero cs rest g) (isZero c) refl f h e
-  where
-    by : ((g : ℕ) → g < length cs → leading cs rest ≡ g → isZero (getD cs g (pos 0)) ≡ false) → (z : Bool) → isZero c ≡ z → (f : ℕ)
-        → f < suc (length cs) → here (not z) (leading cs rest) ≡ f → isZero (getD (c ∷ cs) f (pos 0)) ≡ false
-    by next false i zero h e = i
-    by next false i (suc f) h e = absurd (omega arith)
-    by next true i zero h e = absurd (omega arith)
-    by next true i (suc f) h e = next f (omega arith) (omega arith)
+module _ (l : Line) (k : Shaped l) (current : RationalRound) (h : ScheduledRational current)
+    (e : roundOf (variablesOf (current .order)) (meaning l) ≡ current .number) where
+  abbrev f : ℕ
+  f = current .rational
 
-module _ (l : Line) (k : Shaped l) (n : length (l .coefficients) ≡ limit.rationals) (f : ℕ) (h : f < limit.rationals)
-    (e : roundOf order (meaning l) ≡ f) where
   abbrev a : ℤ
   a = getD (l .coefficients) f (pos 0)
 
   leads : isZero a ≡ false
-  leads = leading-nonzero (l .coefficients) (trailingZeros limit.allBooleans (bitOr (l .positive) (l .negative))) f (omega arith)
-      (sym (round-is l k n) ∙ e)
+  leads = is-false (isZero a) (subst (λ (z : ℤ). T (not (isZero z))) (coefficient-is l k f)
+      (rw (contains-rational f (meaning l)) at
+      (round-contains (variablesOf (current .order)) (current .number) (rational f) (meaning l) (h .at) e)))
 
   pub round-coefficient : 0 < natAbs a
   round-coefficient = 0<abs-nonzero a (of-false (isZero a) leads)

@@ -8,14 +8,23 @@ use lib.Dec.{eqb}
 use lib.ListN.{drop}
 use Rattle.rules.specs.Lists.{any, filter}
 use Rattle.rules.specs.Lines as rules
-use Rattle.rules.specs.Elimination.{order, roundOf}
+use Rattle.rules.specs.Elimination.{roundOf}
 use Rattle.theory_lists.specs.Tabulated.{drop-tabulate, drop-tabulated}
+use Rattle.lines.specs.declared.order.RationalRound.{RationalRound}
+use Rattle.lines.specs.Order.{variablesOf}
 use Rattle.lines.specs.Line.{meaning}
 use Rattle.steps.specs.Lines.{lineAt, linesIn}
 
 -- "A line belongs to the earliest turn whose figure or mark it contains": those of round t
-abbrev pub own : ℕ → List rules.Line → List rules.Line
-own t ls = filter (λ l. eqb (roundOf order l) t) ls
+abbrev pub own : List rules.Variable → ℕ → List rules.Line → List rules.Line
+own variables t ls = filter (λ l. eqb (roundOf variables l) t) ls
+
+-- of a rational variable's round
+abbrev pub belongs : RationalRound → rules.Line → Bool
+belongs current l = eqb (roundOf (variablesOf (current .order)) l) (current .number)
+
+abbrev pub ownOf : RationalRound → List rules.Line → List rules.Line
+ownOf current ls = own (variablesOf (current .order)) (current .number) ls
 
 -- one element more
 module _ {A : Type 0} (p : A → Bool) (a : A) (s : List A) where

@@ -1,6 +1,7 @@
 // "A mark is yes exactly if some line of its turn containing it positively has nothing else that holds."
 use crate::holds::line_holds;
 use lines::line::Line;
+use lines::order::Order;
 use lines::order::boolean_round;
 use masks::without;
 use models::model::Model;
@@ -10,7 +11,8 @@ ghost use Prim.Native.Nat.{_*_, _≤_, _<_};
 ghost use lib.ListN.{length};
 ghost use Rattle.rules_types.specs.Limits.{allBooleans, stepBytes};
 ghost use Rattle.rules.specs.Values.{withoutBoolean, booleanValue};
-ghost use Rattle.lines.specs.Order.{booleanRound};
+ghost use Rattle.theory_saturation.specs.Order.{Ordered};
+ghost use Rattle.lines.specs.Order.{variablesOf, booleanRound};
 ghost use Rattle.lines.specs.Line.{meaning, Ready};
 ghost use Rattle.steps.specs.Lines.{linesIn, ReadyLines};
 ghost use Rattle.models.specs.Model.{assignment};
@@ -30,13 +32,14 @@ fn without_boolean(line: Line, i: usize) -> Line
 }
 
 // A line of the variable's round makes it yes.
-fn forces(line: Line, i: usize, model: Model) -> bool
+fn forces(line: Line, order: Order, i: usize, model: Model) -> bool
+    requires { ⌜ Ordered (variablesOf order) ⌝ }
     requires { ⌜ i < allBooleans ⌝ }
     requires { ⌜ Ready line ⌝ }
     requires { ⌜ InRange model ⌝ }
-    ensures { λ t. ⌜ t ≡ forces (assignment model) i (meaning line) ⌝ }
+    ensures { λ t. ⌜ t ≡ forces (variablesOf order) (assignment model) i (meaning line) ⌝ }
 {
-    if line.round() != boolean_round(i) {
+    if line.round(order) != boolean_round(i) {
         return false;
     }
     if !line.has_positive_boolean(i) {
@@ -46,17 +49,18 @@ fn forces(line: Line, i: usize, model: Model) -> bool
     !line_holds(rest, model)
 }
 
-pub fn boolean_value(proof: &[u8], n: usize, i: usize, model: Model) -> bool
+pub fn boolean_value(proof: &[u8], n: usize, order: Order, i: usize, model: Model) -> bool
     requires { ⌜ stepBytes * n ≤ length (now proof) ⌝ }
     requires { ⌜ ReadyLines (now proof) n ⌝ }
+    requires { ⌜ Ordered (variablesOf order) ⌝ }
     requires { ⌜ i < allBooleans ⌝ }
     requires { ⌜ InRange model ⌝ }
-    ensures { λ t. ⌜ t ≡ booleanValue (assignment model) i (own (booleanRound i) (linesIn (now (proof .entry)) n)) ⌝ }
+    ensures { λ t. ⌜ t ≡ booleanValue (assignment model) i (own (variablesOf order) (booleanRound i) (linesIn (now (proof .entry)) n)) ⌝ }
 {
     let mut j: usize = 0;
     while j < n {
         let line = line_at(proof, j);
-        if forces(line, i, model) {
+        if forces(line, order, i, model) {
             return true;
         }
         j += 1;

@@ -5,6 +5,7 @@ use crate::sum::sum;
 use fractions::bound::Bound;
 use fractions::fraction::Fraction;
 use lines::line::Line;
+use lines::order::RationalRound;
 use models::model::Model;
 use rows::product::scaled;
 use steps::access::line_at;
@@ -18,6 +19,7 @@ ghost use Rattle.rules.specs.Values.{boundOf};
 ghost use Rattle.theory_bounds.specs.Meets.{rest};
 ghost use Rattle.fractions.specs.Meaning.{meaning as fractionMeaning, boundMeaning};
 ghost use Rattle.fractions.specs.Range.{Within};
+ghost use Rattle.lines.specs.Order.{ScheduledRational};
 ghost use Rattle.lines.specs.Line.{constraintIn, meaning, Ready};
 ghost use Rattle.steps.specs.Lines.{linesIn, ReadyLines};
 ghost use Rattle.models.specs.Model.{value, assignment};
@@ -61,20 +63,22 @@ fn bound_of(line: Line, f: usize, model: Model) -> Fraction
 }
 
 // The bounds so far, with one line more.
-fn with_line(earlier: Bounds, line: Line, f: usize, model: Model) -> Bounds
+fn with_line(earlier: Bounds, line: Line, current: RationalRound, model: Model) -> Bounds
     requires { ⌜ earlier .beyond ≡ false ⌝ }
     requires { ⌜ Within (boundMeaning (earlier .lower)) × Within (boundMeaning (earlier .upper)) ⌝ }
-    requires { ⌜ f < rationals ⌝ }
+    requires { ⌜ ScheduledRational current ⌝ }
     requires { ⌜ Ready line ⌝ }
     requires { ⌜ InRange model ⌝ }
-    ensures { λ b. ⌜ WithLine earlier b (assignment model) f (meaning line) ⌝ }
+    ensures { λ b. ⌜ WithLine earlier b (assignment model) current (meaning line) ⌝ }
 {
-    if line.round() != f {
+    let order = current.order;
+    if line.round(order) != current.number {
         return earlier;
     }
     if literal_holds(line, model) {
         return earlier;
     }
+    let f = current.rational;
     let x = bound_of(line, f, model);
     let lower = earlier.lower;
     let upper = earlier.upper;
@@ -101,12 +105,12 @@ fn with_line(earlier: Bounds, line: Line, f: usize, model: Model) -> Bounds
 }
 
 // From the last line to the first.
-pub fn gathered(proof: &[u8], n: usize, f: usize, model: Model) -> Bounds
+pub fn gathered(proof: &[u8], n: usize, current: RationalRound, model: Model) -> Bounds
     requires { ⌜ stepBytes * n ≤ length (now proof) ⌝ }
     requires { ⌜ ReadyLines (now proof) n ⌝ }
-    requires { ⌜ f < rationals ⌝ }
+    requires { ⌜ ScheduledRational current ⌝ }
     requires { ⌜ InRange model ⌝ }
-    ensures { λ b. ⌜ GatheredIn b (assignment model) f (linesIn (now (proof .entry)) n) ⌝ }
+    ensures { λ b. ⌜ GatheredIn b (assignment model) current (linesIn (now (proof .entry)) n) ⌝ }
 {
     let mut b = Bounds {
         beyond: false,
@@ -117,7 +121,7 @@ pub fn gathered(proof: &[u8], n: usize, f: usize, model: Model) -> Bounds
     while 0 < j {
         j -= 1;
         let line = line_at(proof, j);
-        b = with_line(b, line, f, model);
+        b = with_line(b, line, current, model);
         if b.beyond {
             return b;
         }

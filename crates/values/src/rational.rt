@@ -2,11 +2,13 @@
 use crate::gather::gathered;
 use fractions::bound::value;
 use fractions::fraction::Fraction;
+use lines::order::RationalRound;
 use models::model::Model;
-ghost use Prim.Native.Nat.{_*_, _≤_, _<_};
+ghost use Prim.Native.Nat.{_*_, _≤_};
 ghost use lib.ListN.{length};
-ghost use Rattle.rules_types.specs.Limits.{rationals, stepBytes};
+ghost use Rattle.rules_types.specs.Limits.{stepBytes};
 ghost use Rattle.fractions.specs.Meaning.{meaning};
+ghost use Rattle.lines.specs.Order.{ScheduledRational};
 ghost use Rattle.steps.specs.Lines.{linesIn, ReadyLines};
 ghost use Rattle.models.specs.Model.{assignment};
 ghost use Rattle.values.specs.Range.{InRange};
@@ -17,14 +19,14 @@ pub struct RationalValue {
     pub value: Fraction,
 }
 
-pub fn rational_value(proof: &[u8], n: usize, f: usize, model: Model) -> RationalValue
+pub fn rational_value(proof: &[u8], n: usize, current: RationalRound, model: Model) -> RationalValue
     requires { ⌜ stepBytes * n ≤ length (now proof) ⌝ }
     requires { ⌜ ReadyLines (now proof) n ⌝ }
-    requires { ⌜ f < rationals ⌝ }
+    requires { ⌜ ScheduledRational current ⌝ }
     requires { ⌜ InRange model ⌝ }
-    ensures { λ r. ⌜ Chosen (r .beyond) (assignment model) f (linesIn (now (proof .entry)) n) (meaning (r .value)) ⌝ }
+    ensures { λ r. ⌜ Chosen (r .beyond) (assignment model) current (linesIn (now (proof .entry)) n) (meaning (r .value)) ⌝ }
 {
-    let b = gathered(proof, n, f, model);
+    let b = gathered(proof, n, current, model);
     if b.beyond {
         return RationalValue {
             beyond: true,

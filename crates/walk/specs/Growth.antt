@@ -1,5 +1,5 @@
 -- What is too large stays too large: the common denominator becomes a multiple of itself, and the numerators grow with it.
-use mathlib.Core.Path.{_≡_, refl, ap, _∙_}
+use mathlib.Core.Path.{_≡_, refl, ap, subst, _∙_}
 use mathlib.Core.Bool.{Bool, true, false, _||_, or-true}
 use mathlib.Core.List.{List, [], _∷_}
 use Prim.Native.Nat.{ℕ, zero, suc, _*_, _/_, _≤_, _<_}
@@ -7,24 +7,22 @@ use native.Mathlib.Nat.{mul-div-cancel', le-mul-of-pos-right, le-of-dvd, pos-of-
 use native.Mathlib.Omega.{arith}
 use lib.IntN.{ℤ, pos, natAbs, _*ℤ_}
 use lib.Dec.{eqb, ltb}
-use lib.ListN.{drop}
+use lib.ListN.{length, getD, drop}
+use lib.Seq.{drop-cons}
 use borrow.Author.Tests.{ltb-true, lt-ltb, eqb-true, eqb-false}
-use Rattle.rules_types.specs.Limits as limit
 use Rattle.rules_types.specs.Limits.{amount}
 use Rattle.theory_integers.specs.Size.{abs-*}
 use Rattle.rules.specs.Lists.{any, tabulate, put}
 use Rattle.rules.specs.Arithmetic.{lcm}
 use Rattle.rules.specs.Meaning.{Assignment}
 use Rattle.rules.specs.Lines.{Line, Variable, rational, boolean}
-use Rattle.rules.specs.Elimination.{order}
 use Rattle.rules.specs.Values.{Fraction, rationalValue, withRational, withBoolean, assign, exceeds, Walked, walkFrom}
 use Rattle.rules.specs.Model.{tooLarge}
 use Rattle.theory_vectors.specs.Put.{put-other}
 use Rattle.theory_vectors.specs.Lcm.{lcm-dvdˡ, lcm-positive}
 use Rattle.theory_bounds.specs.Below.{Positive}
 use Rattle.theory_saturation.specs.Gathered.{rational-sound}
-use Rattle.theory_saturation.specs.Order.{variableAt, order-from}
-use Rattle.theory_saturation.specs.Aligned.{Aligned, aligned-cons, rest-aligned}
+use Rattle.theory_saturation.specs.Once.{Alone, Once, once-drop}
 use Rattle.theory_saturation.specs.Unset.{Unset, walk-unset}
 use Rattle.values.specs.Round.{own}
 
@@ -83,36 +81,41 @@ module _ (f : ℕ) (x : Fraction) (χ : Assignment) (z : 0 < χ .denominator) (q
           rw (any-grows (λ z. ltb amount (natAbs z)) r (χ .numerators) scaled numerator-grows w)
           (or-true (ltb amount D))
 
-pub assign-grows : (t : ℕ) (ls : List Line) (χ : Assignment) → Unset (suc t) χ → (v : Variable) (r : ℕ) → Aligned t (v ∷ [])
+pub assign-grows : (vs : List Variable) (ls : List Line) (χ : Assignment) → Unset vs χ → (v : Variable) (r : ℕ) → Alone v vs
     → tooLarge r χ ≡ true → tooLarge r (assign v ls χ) ≡ true
 unfolding assign withBoolean tooLarge
-assign-grows t ls χ s (boolean i) r h e = e
-assign-grows t ls χ s (rational g) r h e =
-    rational-grows g (rationalValue χ g ls) χ (s .positive) (rational-sound χ (s .positive) g ls) (s .free g (omega (arith, h .0))) r e
+assign-grows vs ls χ s (boolean i) r h e = e
+assign-grows vs ls χ s (rational g) r h e =
+    rational-grows g (rationalValue χ g ls) χ (s .positive) (rational-sound χ (s .positive) g ls) (s .free g h) r e
 
 -- ---- the walk
-module _ (lines : List Line) where
+module _ (variables : List Variable) (lines : List Line) where
   -- it cannot be written, and so not at the end
   abbrev pub unwritable : ℕ → Walked → Bool
   unwritable r w = w .exceeded || tooLarge r (w .assignment)
 
-  unwritable-next : (r t : ℕ) (v : Variable) (vs : List Variable) → Aligned t (v ∷ vs)
-      → unwritable r (walkFrom order lines (suc t) vs) ≡ true → unwritable r (walkFrom order lines t (v ∷ vs)) ≡ true
+  unwritable-next : (r t : ℕ) (v : Variable) (vs : List Variable) → Once (v ∷ vs)
+      → unwritable r (walkFrom variables lines (suc t) vs) ≡ true → unwritable r (walkFrom variables lines t (v ∷ vs)) ≡ true
   unfolding walkFrom
-  unwritable-next r t v vs h e = by (w .exceeded) (tooLarge r (w .assignment)) refl (exceeds v (own t lines) (w .assignment)) e
+  unwritable-next r t v vs h e = by (w .exceeded) (tooLarge r (w .assignment)) refl (exceeds v mine (w .assignment)) e
     where
       w : Walked
-      w = walkFrom order lines (suc t) vs
+      w = walkFrom variables lines (suc t) vs
+
+      mine : List Line
+      mine = own variables t lines
 
       by : (x l : Bool) → tooLarge r (w .assignment) ≡ l → (y : Bool) → x || l ≡ true → (x || y)
-          || tooLarge r (assign v (own t lines) (w .assignment)) ≡ true
+          || tooLarge r (assign v mine (w .assignment)) ≡ true
       by true l i y k = refl
-      by false l i y k = let a = aligned-cons t v vs h in
-          rw (assign-grows t (own t lines) (w .assignment) (walk-unset order lines (suc t) vs (a .1)) v r (a .0) (i ∙ k)) (or-true y)
+      by false l i y k =
+          rw (assign-grows vs mine (w .assignment) (walk-unset variables lines (suc t) vs) v r (h .0) (i ∙ k)) (or-true y)
 
-  pub unwritable-end : (r t : ℕ) → t ≤ limit.rounds → unwritable r (walkFrom order lines t (drop t order)) ≡ true
-      → unwritable r (walkFrom order lines 0 order) ≡ true
-  unwritable-end r zero h e = e
-  unwritable-end r (suc t) h e =
-      let o = order-from t (omega arith) in
-      unwritable-end r t (omega arith) (rw o (unwritable-next r t (variableAt t) (drop (suc t) order) (rw o at (rest-aligned t)) e))
+  pub unwritable-end : Once variables → (r t : ℕ) → t ≤ length variables
+      → unwritable r (walkFrom variables lines t (drop t variables)) ≡ true → unwritable r (walkFrom variables lines 0 variables) ≡ true
+  unwritable-end o r zero h e = e
+  unwritable-end o r (suc t) h e =
+      let v = getD variables t (rational 0) in
+      let d = drop-cons variables t (rational 0) (omega arith) in
+      unwritable-end o r t (omega arith)
+      (rw d (unwritable-next r t v (drop (suc t) variables) (subst Once d (once-drop t variables o)) e))

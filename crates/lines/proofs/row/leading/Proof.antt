@@ -1,7 +1,7 @@
 -- `row::leading` meets its contract. Invariant: the coefficients passed are 0. Assumes nothing.
 use mathlib.Core.Path.{_≡_, sym, ap, _∙_}
 use mathlib.Core.Bool.{not}
-use Prim.Native.Nat.{_-_}
+use Prim.Native.Nat.{ℕ, _-_}
 use native.Mathlib.Omega.{arith}
 use borrow.Author.Needs.{needs}
 use lib.IntN.{pos}
@@ -14,13 +14,16 @@ use Rattle.lines.proofs.row.leading.Statement.{statement}
 use Rattle.lines.proofs.row.leading.Tie as tie
 
 abbrev Inv-loop : tie.InvT-loop
-Inv-loop rest row i₀ i = Scanned (λ k. not (isZero (getD row k (pos 0)))) i
+Inv-loop order rest row t₀ t = Scanned (λ k. not (isZero (getD row (getD (order .rationals) k 0) (pos 0)))) t
 
 abbrev μ-loop : tie.MeasureT-loop
-μ-loop rest row i₀ i = limit.rationals - i
+μ-loop order rest row t₀ t = limit.rationals - t
 
 loop-holds : tie.Need-loop-holds Inv-loop μ-loop
-loop-holds c = scanned-start (λ k. not (isZero (getD (c .args .t1) k (pos 0))))
+loop-holds c = scanned-start _
+
+rational-requires : tie.Need-rational-requires Inv-loop μ-loop
+rational-requires c κs = search needs
 
 mul-is-zero : tie.Need-mul-is-zero Inv-loop μ-loop
 mul-is-zero c = search needs
@@ -32,34 +35,44 @@ is-zero-requires : tie.Need-is-zero-requires Inv-loop μ-loop
 is-zero-requires c κs = search needs
 
 -- the test at the place
-here : (c : tie.After-is-zero Inv-loop μ-loop) → not
-    (isZero (getD (c .before .before .before .before .args .t1) (c .before .before .before .loop .i) (pos 0))) ≡ not (c .is-zero .result)
-here c = ap not (told isZero (getD (c .before .before .before .before .args .t1) (c .before .before .before .loop .i) (pos 0))
-    (search (needs, c .before)) (c .is-zero .ensures))
+here : (c : tie.After-is-zero Inv-loop μ-loop) → let l = c .before .before .before .before in let a = l .before .args in
+    not (isZero (getD (a .t2) (getD (a .order .rationals) (l .loop .t) 0) (pos 0))) ≡ not (c .is-zero .result)
+here c =
+    let r = c .before .before in
+    let a = r .before .before .before .args in
+    ap (λ (f : ℕ). not (isZero (getD (a .t2) f (pos 0)))) (sym (r .rational .ensures .0))
+    ∙ ap not (told isZero (getD (a .t2) (r .rational .result) (pos 0)) (search (needs, c .before)) (c .is-zero .ensures))
+
+-- a round for each rational variable
+row : (s : tie.Start Inv-loop μ-loop) → length (s .args .order .rationals) ≡ limit.rationals
+row s = search (needs, s .good)
 
 returns : tie.Need-returns Inv-loop μ-loop
-returns c = let a = c .before .before .before .before in let n : length (a .before .args .t1) ≡ limit.rationals = search needs in
-    sym (leading-at (a .before .args .t1) (a .loop .i) (a .before .args .rest) (a .loop .inv .none) (omega arith)
+returns c =
+    let l = c .before .before .before .before .before in
+    let a = l .before .args in
+    sym (leading-at (a .order .rationals) (a .t2) (l .loop .t) (a .rest) (l .loop .inv .none) (omega (arith, row (l .before)))
     (here (c .before) ∙ c .if1 .taken))
 
-add-i : tie.Need-add-i Inv-loop μ-loop
-add-i c = search needs
+add-t : tie.Need-add-t Inv-loop μ-loop
+add-t c = search needs
 
 loop-less : tie.Need-loop-less Inv-loop μ-loop
 loop-less c = search needs
 
 loop-again : tie.Need-loop-again Inv-loop μ-loop
-loop-again c = let a = c .before .before .before .before in
-    scanned-next _ (a .loop .i) (a .loop .inv) (omega arith) (here (c .before) ∙ c .if1 .left)
+loop-again c = let l = c .before .before .before .before .before in
+    scanned-next _ (l .loop .t) (l .loop .inv) (omega arith) (here (c .before) ∙ c .if1 .left)
 
 boolean-round-requires : tie.Need-boolean-round-requires Inv-loop μ-loop
 boolean-round-requires c κs = search needs
 
 returns-2 : tie.Need-returns-2 Inv-loop μ-loop
 returns-2 c =
-    let a = c .before .before in
-    let n : length (a .before .args .t1) ≡ limit.rationals = search needs in
-    let e = leading-none (a .before .args .t1) (a .before .args .rest) (λ k h. a .loop .inv .none k (omega arith)) in
+    let l = c .before .before in
+    let a = l .before .args in
+    let n = row (l .before) in
+    let e = leading-none (a .order .rationals) (a .t2) (a .rest) (λ k h. l .loop .inv .none k (omega arith)) in
     omega (arith, c .boolean-round .ensures, e)
 
 pub leading-spec : {M : Type 1} → statement M
@@ -69,11 +82,12 @@ leading-spec =
     Inv-loop
     μ-loop
     loop-holds
+    rational-requires
     mul-is-zero
     array-copy-out-is-zero
     is-zero-requires
     returns
-    add-i
+    add-t
     loop-less
     loop-again
     boolean-round-requires

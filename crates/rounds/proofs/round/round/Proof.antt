@@ -6,6 +6,7 @@ use Prim.Native.Nat.{ℕ, _+_, _*_, _-_, _<_}
 use native.Mathlib.Omega.{arith}
 use borrow.Author.Needs.{needs}
 use borrow.Author.Tests.{not-true, not-false}
+use Rattle.rules_types.specs.Limits as limit
 use Rattle.placing.specs.declared.point.Point.{Point}
 use Rattle.steps.specs.Held.{held-fewer}
 use Rattle.rounds.specs.Left.{line-same}
@@ -15,17 +16,17 @@ use Rattle.rounds.proofs.round.round.Statement.{statement}
 use Rattle.rounds.proofs.round.round.Tie as tie
 
 abbrev Inv-loop : tie.InvT-loop
-Inv-loop proof₀ t v limits m first i p₀ upper j₀ proof p j = (start : List ℕ) (from : Point)
-    → Entered limits v t m j₀ start from proof₀ p₀ i → AtLower limits v t start from proof p i j
+Inv-loop proof₀ current limits m v first i p₀ upper j₀ proof p j = (start : List ℕ) (from : Point)
+    → Entered limits current m j₀ start from proof₀ p₀ i → AtLower limits current start from proof p i j
 
 abbrev μ-loop : tie.MeasureT-loop
-μ-loop proof₀ t v limits m first i p₀ upper j₀ proof p j = m - j
+μ-loop proof₀ current limits m v first i p₀ upper j₀ proof p j = m - j
 
 abbrev Inv-pairs : tie.InvT-pairs
-Inv-pairs proof₀ t v limits m first i₀ p₀ proof i p = AtUpper limits v t proof₀ p₀ proof p i
+Inv-pairs proof₀ current limits m v first i₀ p₀ proof i p = AtUpper limits current proof₀ p₀ proof p i
 
 abbrev μ-pairs : tie.MeasureT-pairs
-μ-pairs proof₀ t v limits m first i₀ p₀ proof i p = m - i
+μ-pairs proof₀ current limits m v first i₀ p₀ proof i p = m - i
 
 -- the loop over the uppers that a loop over the lowers is in, and the start
 abbrev uppers : tie.At-loop Inv-loop μ-loop Inv-pairs μ-pairs → tie.At-pairs Inv-loop μ-loop Inv-pairs μ-pairs
@@ -41,7 +42,7 @@ next-requires-2 : tie.Need-next-requires-2 Inv-loop μ-loop Inv-pairs μ-pairs
 next-requires-2 c κs = let s = c .before .before .before .before in (s .pre .0 .held, (omega arith, s .pre .1 .1 .0))
 
 pairs-holds : tie.Need-pairs-holds Inv-loop μ-loop Inv-pairs μ-pairs
-pairs-holds c = let s = c .before .before .before .before .before in upper-first (s .args .limits) (s .args .v) (s .args .t)
+pairs-holds c = let s = c .before .before .before .before .before in upper-first (s .args .limits) (s .args .current)
     (s .args .proof .now) (s .args .from) (s .pre .0) (s .pre .1 .0) (c .next2 .ensures)
 
 line-at-requires : tie.Need-line-at-requires Inv-loop μ-loop Inv-pairs μ-pairs
@@ -52,13 +53,13 @@ loop-holds c =
     λ start from w.
     let a = begun (c .before .before .before) .args in
     let h = w .steps in
-    lower-first (a .limits) (a .v) (a .t) start from (w .standing) (w .at) (omega arith) (w .first-lower)
+    lower-first (a .limits) (a .current) start from (w .standing) (w .at) (omega arith) (w .first-lower)
 
 -- before the loop over the lowers
 entered : (c : tie.At-loop Inv-loop μ-loop Inv-pairs μ-pairs) →
     let u = uppers c in
     let a = begun u .args in
-    Entered (a .limits) (a .v) (a .t) (a .from .steps) (u .before .before .before .next .result) (a .proof .now) (a .from) (u .pairs .proof)
+    Entered (a .limits) (a .current) (a .from .steps) (u .before .before .before .next .result) (a .proof .now) (a .from) (u .pairs .proof)
     (u .pairs .p) (u .pairs .i)
 entered c =
     let u = uppers c in
@@ -69,7 +70,7 @@ entered c =
 lower : (c : tie.At-loop Inv-loop μ-loop Inv-pairs μ-pairs) →
     let u = uppers c in
     let a = begun u .args in
-    AtLower (a .limits) (a .v) (a .t) (a .proof .now) (a .from) (c .loop .proof) (c .loop .p) (u .pairs .i) (c .loop .j)
+    AtLower (a .limits) (a .current) (a .proof .now) (a .from) (c .loop .proof) (c .loop .p) (u .pairs .i) (c .loop .j)
 lower c = let a = begun (uppers c) .args in
     c .loop .inv (a .proof .now) (a .from) (entered c)
 
@@ -84,8 +85,8 @@ pair-requires c κs =
     let i = u .pairs .i in (
       r .underway .leads .standing,
       (
-        pairable (a .limits) (a .v) (a .t) (a .proof .now) (a .from) (s .pre .0) r (omega arith) (u .pairs .inv .upper (omega arith))
-            (omega arith) (s .pre .1 .1 .0) (s .pre .1 .1 .1 .0) (s .pre .1 .1 .1 .1),
+        pairable (a .limits) (a .current) (a .proof .now) (a .from) (s .pre .0) r (omega arith) (u .pairs .inv .upper (omega arith))
+            (omega arith) (s .pre .1 .1 .0 .ranged) (s .pre .1 .1 .1 .0) (s .pre .1 .1 .1 .1),
         l .before .line-at .ensures ∙ line-same (u .pairs .inv .underway .leads) room i (omega arith)
             ∙ sym (line-same (r .underway .leads) room i (omega arith)),
       ),
@@ -96,14 +97,14 @@ tried : (c : tie.After-pair Inv-loop μ-loop Inv-pairs μ-pairs) →
     let l = c .before .before .before in
     let u = uppers l in
     let a = begun u .args in
-    Underway (a .limits) (a .v) (a .t) (a .proof .now) (a .from) (c .pair .last .0) (c .pair .result) (laterLowers (a .limits) (a .v) (a .t)
-    (a .proof .now) (a .from) (u .pairs .i) (l .loop .j + 1)) (65536 * u .pairs .i + (l .loop .j + 1))
+    Underway (a .limits) (a .current) (a .proof .now) (a .from) (c .pair .last .0) (c .pair .result) (laterLowers (a .limits) (a .current)
+    (a .proof .now) (a .from) (u .pairs .i) (l .loop .j + 1)) (limit.mostSteps * u .pairs .i + (l .loop .j + 1))
 tried c =
     let l = c .before .before .before in
     let u = uppers l in
     let s = begun u in
     let a = s .args in
-    underway-pair (a .limits) (a .v) (a .t) (a .proof .now) (a .from) (s .pre .0) (lower l) (omega arith)
+    underway-pair (a .limits) (a .current) (a .proof .now) (a .from) (s .pre .0) (lower l) (omega arith)
     (u .pairs .inv .upper (omega arith)) (omega arith) (c .pair .ensures)
 
 is-running-requires : tie.Need-is-running-requires Inv-loop μ-loop Inv-pairs μ-pairs
@@ -139,7 +140,7 @@ loop-again c =
     let h = w .steps in
     let i : u .pairs .i < from .steps = omega (arith, l .before .before .before .pairs-test) in
     let j : l .loop .j < from .steps = omega (arith, k .before .before .loop-test) in
-    lower-next (a .limits) (a .v) (a .t) start from (w .standing) (l .loop .inv start from w) i (w .at .upper i) j (k .pair .ensures)
+    lower-next (a .limits) (a .current) start from (w .standing) (l .loop .inv start from w) i (w .at .upper i) j (k .pair .ensures)
     (sym (e .before .is-running .ensures) ∙ not-false _ (e .if1 .left)) (rw (w .steps) (c .next3 .ensures))
 
 add-next-2 : tie.Need-add-next-2 Inv-loop μ-loop Inv-pairs μ-pairs
@@ -164,7 +165,7 @@ pairs-again c =
     let l = c .before .before .before in
     let s = begun (uppers l) in
     let a = s .args in
-    upper-next (a .limits) (a .v) (a .t) (a .proof .now) (a .from) (s .pre .0) (lower l) (omega (arith, c .before .before .loop-test))
+    upper-next (a .limits) (a .current) (a .proof .now) (a .from) (s .pre .0) (lower l) (omega (arith, c .before .before .loop-test))
     (omega (arith, s .pre .0 .few, s .pre .1 .1 .1 .0)) (c .next4 .ensures)
 
 same-length : tie.Need-same-length Inv-loop μ-loop Inv-pairs μ-pairs
@@ -176,7 +177,7 @@ returns c =
     let s = begun u in
     let a = s .args in
     let r = u .pairs .inv in (
-      upper-done (a .limits) (a .v) (a .t) (a .proof .now) (a .from) (s .pre .0) r (omega arith),
+      upper-done (a .limits) (a .current) (a .proof .now) (a .from) (s .pre .0) r (omega arith),
       omega (arith, r .underway .counted, r .few, s .pre .0 .few, s .pre .1 .1 .1 .0),
     )
 
@@ -192,7 +193,7 @@ returns-2 c =
     let a = s .args in
     let i : u .pairs .i < a .from .steps = omega (arith, l .before .before .before .pairs-test) in
     let j : l .loop .j < a .from .steps = omega (arith, k .before .before .loop-test) in (
-      round-ended (a .limits) (a .v) (a .t) (a .proof .now) (a .from) (s .pre .0) (lower l) i (u .pairs .inv .upper i) j (k .pair .ensures)
+      round-ended (a .limits) (a .current) (a .proof .now) (a .from) (s .pre .0) (lower l) i (u .pairs .inv .upper i) j (k .pair .ensures)
           (sym (c .before .is-running .ensures) ∙ not-true _ (c .if1 .taken)),
       omega (arith, tried k .counted, s .pre .0 .few, s .pre .1 .1 .1 .0),
     )

@@ -4,17 +4,16 @@ use Prim.Native.Nat.{_-_, _≤_}
 use native.Mathlib.Omega.{arith}
 use borrow.Author.Needs.{needs}
 use Rattle.steps.specs.Lines.{lineAt}
-use Rattle.lines.specs.Order.{variableOf}
 use Rattle.rounds.specs.Sides.{chosen, selected, selected-past}
 use Rattle.rounds.proofs.side.next.Statement.{statement}
 use Rattle.rounds.proofs.side.next.Tie as tie
 
 abbrev Inv-loop : tie.InvT-loop
-Inv-loop proof from m t v upper i₀ i = (from ≤ i) × (i ≤ m)
-    × (selected (chosen upper (variableOf v) t) proof m from ≡ selected (chosen upper (variableOf v) t) proof m i)
+Inv-loop proof from m current upper i₀ i = (from ≤ i) × (i ≤ m)
+    × (selected (chosen upper current) proof m from ≡ selected (chosen upper current) proof m i)
 
 abbrev μ-loop : tie.MeasureT-loop
-μ-loop proof from m t v upper i₀ i = m - i
+μ-loop proof from m current upper i₀ i = m - i
 
 loop-holds : tie.Need-loop-holds Inv-loop μ-loop
 loop-holds c = (omega arith, search needs, refl)
@@ -44,7 +43,7 @@ loop-again c =
     let a = s .args in (
       omega arith,
       omega arith,
-      l .inv .2 ∙ selected-past (chosen (a .upper) (variableOf (a .v)) (a .t)) (a .proof .now) (a .m) (l .i)
+      l .inv .2 ∙ selected-past (chosen (a .upper) (a .current)) (a .proof .now) (a .m) (l .i)
           (omega arith) (sym (c .before .stands .ensures) ∙ c .if1 .left),
     )
 

@@ -17,14 +17,17 @@ line-at-requires : tie.Need-line-at-requires
 line-at-requires c κs = search needs
 
 round-requires : tie.Need-round-requires
-round-requires c κs = rw (c .line-at .ensures) (c .before .before .before .before .pre .1 .1)
+round-requires c κs =
+    let k = c .before in
+    let s = k .before .before .before .before in
+    (rw (k .line-at .ensures) (s .pre .1 .1), s .pre .1 .0 .ordered)
 
 returns-2 : tie.Need-returns-2
 unfolding chosen
 returns-2 c =
-    let k = c .before in
+    let k = c .before .before .before in
     let e = k .before in
-    rw (sym (e .before .has-side .ensures) ∙ not-false _ (e .if1 .left), c .round .ensures, k .line-at .ensures)
+    rw (sym (e .before .has-side .ensures) ∙ not-false _ (e .if1 .left), c .before .round .ensures, k .line-at .ensures)
 
 pub stands-spec : {M : Type 1} → statement M
 stands-spec =

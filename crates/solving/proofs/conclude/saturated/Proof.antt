@@ -2,9 +2,9 @@
 use mathlib.Core.Path.{_≡_, ap, _∙_}
 use mathlib.Core.Bool.{Bool, true, false}
 use borrow.Author.Tests.{not-true, not-false}
-use Rattle.rules.specs.Elimination.{order}
 use Rattle.rules.specs.Values.{walk}
 use Rattle.rules.specs.Model.{written}
+use Rattle.lines.specs.Order.{variablesOf}
 use Rattle.steps.specs.Lines.{linesIn}
 use Rattle.walk.specs.Reached.{bytesOf, WrittenInRange}
 use borrow.Author.Needs.{needs}
@@ -13,10 +13,11 @@ use Rattle.solving.proofs.conclude.saturated.Tie as tie
 
 -- what the walk has told, by whether it can be written
 model : (c : tie.After-walk) (t : Bool) → c .walk .result .written ≡ t
-    → let s = c .before .before .before .before in written (s .args .b) (s .args .r)
-    (walk order (linesIn (s .args .proof .now) (s .args .c .steps))) ≡ bytesOf (s .args .b) (s .args .r) t (c .walk .result .model)
+    → let s = c .before .before .before .before .before .before in
+    written (s .args .b) (s .args .r) (walk (variablesOf (s .args .run .order)) (linesIn (s .args .proof .now) (s .args .run .end .steps)))
+    ≡ bytesOf (s .args .b) (s .args .r) t (c .walk .result .model)
 model c t e =
-    let s = c .before .before .before .before in
+    let s = c .before .before .before .before .before .before in
     c .walk .ensures .0 (s .args .b) ∙ ap (λ (t : Bool). bytesOf (s .args .b) (s .args .r) t (c .walk .result .model)) e
 
 walk-requires : tie.Need-walk-requires
@@ -51,7 +52,7 @@ write-model-requires c κs =
     let z = c .before .before .before in
     let f = z .before .before .before .before in
     let w = f .before .before in
-    let s = w .before .before .before .before in
+    let s = w .before .before .before .before .before .before in
     let e : w .walk .result .written ≡ true = search (needs, not-true, not-false, f .if1) in
     let k : WrittenInRange true (w .walk .result .model) = rw e at (w .walk .ensures .1) in
     (s .pre .1 .1 .1 .1 .0, (s .pre .0, (s .pre .1 .0, k .amounts)))

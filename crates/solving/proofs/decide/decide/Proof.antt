@@ -1,4 +1,6 @@
 -- `decide::decide` meets its contract: a law for each end of the elimination. Assumes nothing.
+use mathlib.Core.Path.{sym, subst}
+use Rattle.theory_saturation.specs.Order.{Ordered, problem-ordered}
 use Rattle.theory_splitting.specs.WellFormed.{WellFormed}
 use Rattle.theory_splitting.specs.Reading.{read-well-formed}
 use Rattle.problem_read.specs.Parsed.{problemAt}
@@ -34,20 +36,21 @@ enum-told-3 : tie.Need-enum-told-3
 enum-told-3 c = search needs
 
 without-model-requires : tie.Need-without-model-requires
-without-model-requires c κs = let k = c .before .before .before .before .before .before in
-    (few-steps (formed k) (k .eliminate .ensures), search needs)
+without-model-requires c κs = let k = c .before .before .before .before .before .before .before in
+    (few-steps (formed k) (k .eliminate .ensures .0), search needs)
 
 enum-told-4 : tie.Need-enum-told-4
 enum-told-4 c = search needs
 
 saturated-requires : tie.Need-saturated-requires
 saturated-requires c κs =
-    let k = c .before .before .before .before .before .before in
+    let k = c .before .before .before .before .before .before .before in
     let s = k .before .before .before .before .before in
-    let e = k .eliminate .ensures in
-    let w = formed k in (
+    let e = k .eliminate .ensures .0 in
+    let w = formed k in
+    let ordered = subst Ordered (sym (k .eliminate .ensures .1)) (problem-ordered (problemAt (s .args .input .now) (s .args .sizes))) in (
       s .pre .0 .parsed .booleans,
-      (s .pre .0 .parsed .rationals, (few-steps w e, (search needs, (s .pre .1 .1 .0, (e .ready, narrow w e))))),
+      (s .pre .0 .parsed .rationals, (few-steps w e, (search needs, (s .pre .1 .1 .0, (e .ready, (narrow w e, ordered)))))),
     )
 
 same-length : tie.Need-same-length
@@ -57,8 +60,8 @@ returns : tie.Need-returns
 returns c =
     let f = c .before .before in
     let t = f .before .before in
-    let k = t .before .before .before .before in
-    rw (f .refuse .ensures .0, f .refuse .ensures .1) (leaves-overflow (formed k) (k .eliminate .ensures)
+    let k = t .before .before .before .before .before in
+    rw (f .refuse .ensures .0, f .refuse .ensures .1) (leaves-overflow (formed k) (k .eliminate .ensures .0)
     (k .before .before .before .before .before .args .model .now) (t .enum-told .given .1))
 
 same-length-2 : tie.Need-same-length-2
@@ -68,8 +71,8 @@ returns-2 : tie.Need-returns-2
 returns-2 c =
     let f = c .before .before in
     let t = f .before .before in
-    let k = t .before .before .before .before in
-    rw (f .refuse2 .ensures .0, f .refuse2 .ensures .1) (leaves-out (formed k) (k .eliminate .ensures)
+    let k = t .before .before .before .before .before in
+    rw (f .refuse2 .ensures .0, f .refuse2 .ensures .1) (leaves-out (formed k) (k .eliminate .ensures .0)
     (k .before .before .before .before .before .args .model .now) (t .enum-told2 .given .1))
 
 same-length-3 : tie.Need-same-length-3
@@ -82,9 +85,9 @@ returns-3 : tie.Need-returns-3
 returns-3 c =
     let f = c .before .before .before .before in
     let t = f .before .before .before in
-    let k = t .before .before .before .before in
+    let k = t .before .before .before .before .before in
     rw (f .without-model .ensures .0, f .without-model .ensures .1 .0, f .without-model .ensures .1 .1)
-    (leaves-empty (formed k) (k .eliminate .ensures) (k .before .before .before .before .before .args .model .now)
+    (leaves-empty (formed k) (k .eliminate .ensures .0) (k .before .before .before .before .before .args .model .now)
     (t .enum-told3 .given .1))
 
 same-length-5 : tie.Need-same-length-5
@@ -97,10 +100,10 @@ returns-4 : tie.Need-returns-4
 returns-4 c =
     let f = c .before .before .before .before in
     let t = f .before .before .before in
-    let k = t .before .before .before .before in
+    let k = t .before .before .before .before .before in
     rw (f .saturated .ensures .1)
-    (leaves-saturated (formed k) (k .eliminate .ensures) (k .before .before .before .before .before .args .model .now) _ _
-    (t .enum-told4 .given .1) (f .saturated .ensures .0))
+    (leaves-saturated (formed k) (k .eliminate .ensures .0) (k .before .before .before .before .before .args .model .now) _ _
+    (t .enum-told4 .given .1) (rw (k .eliminate .ensures .1) at (f .saturated .ensures .0)))
 
 pub decide-spec : {M : Type 1} → statement M
 decide-spec =

@@ -4,8 +4,8 @@ use mathlib.Core.Bool.{not, true, false}
 use borrow.Author.Needs.{needs}
 use borrow.Author.Tests.{eq-eqb, ne-eqb, not-true, not-false}
 use lib.Dec.{eqb}
-use Rattle.rules.specs.Elimination.{order, roundOf}
-use Rattle.lines.specs.Order.{booleanRound}
+use Rattle.rules.specs.Elimination.{roundOf}
+use Rattle.lines.specs.Order.{variablesOf, booleanRound}
 use Rattle.lines.specs.Line.{meaning}
 use Rattle.values.specs.Boolean.{forces}
 use Rattle.values.proofs.boolean.forces.Statement.{statement}
@@ -19,7 +19,7 @@ boolean-round-requires c κs = search needs
 
 -- the two rounds compared
 compared : (c : tie.After-boolean-round) → let s = c .before .before in eqb (c .before .round .result) (c .boolean-round .result)
-    ≡ eqb (roundOf order (meaning (s .args .line))) (booleanRound (s .args .i))
+    ≡ eqb (roundOf (variablesOf (s .args .order)) (meaning (s .args .line))) (booleanRound (s .args .i))
 compared c = λ k. eqb (c .before .round .ensures k) (c .boolean-round .ensures k)
 
 returns : tie.Need-returns
@@ -31,7 +31,7 @@ returns c =
 
 -- the line is of this round
 here : (c : tie.Else1) → let s = c .before .before .before in
-    eqb (roundOf order (meaning (s .args .line))) (booleanRound (s .args .i)) ≡ true
+    eqb (roundOf (variablesOf (s .args .order)) (meaning (s .args .line))) (booleanRound (s .args .i)) ≡ true
 here c = let b = c .before in sym (compared b) ∙ eq-eqb (b .before .round .result) (b .boolean-round .result) (c .if1 .left)
 
 has-positive-boolean-requires : tie.Need-has-positive-boolean-requires

@@ -13,10 +13,10 @@ use Rattle.values.proofs.gather.gathered.Statement.{statement}
 use Rattle.values.proofs.gather.gathered.Tie as tie
 
 abbrev Inv-loop : tie.InvT-loop
-Inv-loop proof n f model b₀ j₀ b j = (j ≤ n) × (b .beyond ≡ false) × CollectedIn b (assignment model) f (drop j (linesIn proof n))
+Inv-loop proof n current model b₀ j₀ b j = (j ≤ n) × (b .beyond ≡ false) × CollectedIn b (assignment model) current (drop j (linesIn proof n))
 
 abbrev μ-loop : tie.MeasureT-loop
-μ-loop proof n f model b₀ j₀ b j = j
+μ-loop proof n current model b₀ j₀ b j = j
 
 -- at the entry
 abbrev entry : tie.At-loop Inv-loop μ-loop → tie.Start Inv-loop μ-loop
@@ -25,7 +25,7 @@ entry c = c .before .before
 loop-holds : tie.Need-loop-holds Inv-loop μ-loop
 loop-holds c =
     let s = c .before in
-    (omega arith, refl, rw (lines-end (s .args .proof .now) (s .args .n)) (collected-none (assignment (s .args .model)) (s .args .f)))
+    (omega arith, refl, rw (lines-end (s .args .proof .now) (s .args .n)) (collected-none (assignment (s .args .model)) (s .args .current)))
 
 sub-j : tie.Need-sub-j Inv-loop μ-loop
 sub-j c = search needs
@@ -47,7 +47,7 @@ with-line-requires c κs =
 
 -- the bounds with the line that was read
 gathering : (c : tie.After-with-line Inv-loop μ-loop) → let s = entry (c .before .before .before) in
-    GatheredIn (c .with-line .result) (assignment (s .args .model)) (s .args .f)
+    GatheredIn (c .with-line .result) (assignment (s .args .model)) (s .args .current)
     (drop (c .before .before .before .loop .j - 1) (linesIn (s .args .proof .now) (s .args .n)))
 gathering c =
     let l = c .before .before .before .loop in
@@ -63,7 +63,7 @@ returns c =
     let a = c .before in
     let s = entry (a .before .before .before) in
     let g = rw (c .if1 .taken) at (gathering a) in
-    rw (c .if1 .taken) (exceeding-front (assignment (s .args .model)) (s .args .f) (a .before .before .before .loop .j - 1)
+    rw (c .if1 .taken) (exceeding-front (assignment (s .args .model)) (s .args .current) (a .before .before .before .loop .j - 1)
     (linesIn (s .args .proof .now) (s .args .n)) g)
 
 loop-less : tie.Need-loop-less Inv-loop μ-loop

@@ -10,15 +10,17 @@ use lib.IntN.{pos, natAbs}
 use lib.Dec.{eqb}
 use lib.ListN.{length, getD}
 use Rattle.rules_types.specs.Limits as limit
-use Rattle.rules.specs.Elimination.{order, roundOf}
+use Rattle.rules.specs.Elimination.{roundOf}
 use Rattle.rules.specs.Lines as rules
 use Rattle.rules.specs.Lines.{aLiteralHolds, rational, positively, negatively}
 use Rattle.rules.specs.Values.{boundOf}
 use Rattle.fractions.specs.Meaning.{meaning as fractionMeaning, boundMeaning}
 use Rattle.fractions.specs.Range.{Small}
+use Rattle.lines.specs.Order.{variablesOf}
 use Rattle.lines.specs.Line.{constraintIn, meaning}
 use Rattle.lines.specs.Forms.{constraint-is}
 use Rattle.models.specs.Model.{assignment}
+use Rattle.values.specs.Round.{belongs}
 use Rattle.values.specs.Constraint.{bound-small}
 use Rattle.values.specs.Leading.{round-coefficient, round-related, round-sides}
 use Rattle.values.specs.Gather.{Collected, CollectedIn, withLower, withUpper, collected-other, collected-held, collected-more}
@@ -31,41 +33,44 @@ abbrev of-round : tie.After-bound-of → tie.Else1
 of-round c = c .before .before .before
 
 abbrev entry : tie.Else1 → tie.Start
-entry c = c .before .before
+entry c = c .before .before .before .before
 
 round-requires : tie.Need-round-requires
 round-requires c κs = search needs
 
 returns : tie.Need-returns
 returns c = λ ls h.
-    let s = c .before .before in
-    let e : eqb (roundOf order (meaning (s .args .line))) (s .args .f) ≡ false =
-    rw (← c .before .round .ensures) (ne-eqb (c .before .round .result) (s .args .f) (c .if1 .taken)) in
-    rw (s .pre .0) (collected-other (assignment (s .args .model)) (s .args .f) (meaning (s .args .line)) ls
+    let r = c .before .before in
+    let s = r .before .before in
+    let e : belongs (s .args .current) (meaning (s .args .line)) ≡ false =
+    rw (← r .round .ensures) (ne-eqb (r .round .result) (s .args .current .number) (c .if1 .taken)) in
+    rw (s .pre .0) (collected-other (assignment (s .args .model)) (s .args .current) (meaning (s .args .line)) ls
     (boundMeaning (s .args .earlier .lower)) (boundMeaning (s .args .earlier .upper)) h e)
 
 -- ---- a line of the variable's round
 row-length : (s : tie.Start) → length (s .args .line .coefficients) ≡ limit.rationals
-row-length s = search (needs, s .good)
+row-length s = search (needs, s .good .1 .0)
 
-same-round : (c : tie.Else1) → let s = entry c in roundOf order (meaning (s .args .line)) ≡ s .args .f
-same-round c = sym (c .before .round .ensures) ∙ c .if1 .left
+same-round : (c : tie.Else1) → let s = entry c in
+    roundOf (variablesOf (s .args .current .order)) (meaning (s .args .line)) ≡ s .args .current .number
+same-round c = sym (c .before .before .round .ensures) ∙ c .if1 .left
 
-own-round : (c : tie.Else1) → let s = entry c in eqb (roundOf order (meaning (s .args .line))) (s .args .f) ≡ true
-own-round c = let s = entry c in eq-eqb (roundOf order (meaning (s .args .line))) (s .args .f) (same-round c)
+own-round : (c : tie.Else1) → let s = entry c in belongs (s .args .current) (meaning (s .args .line)) ≡ true
+own-round c = let s = entry c in
+    eq-eqb (roundOf (variablesOf (s .args .current .order)) (meaning (s .args .line))) (s .args .current .number) (same-round c)
 
-bounded : (c : tie.Else1) → let s = entry c in 0 < natAbs (getD (s .args .line .coefficients) (s .args .f) (pos 0))
+bounded : (c : tie.Else1) → let s = entry c in 0 < natAbs (getD (s .args .line .coefficients) (s .args .current .rational) (pos 0))
 bounded c = let s = entry c in
-    round-coefficient (s .args .line) (s .pre .1 .1 .1 .0 .shaped) (row-length s) (s .args .f) (s .pre .1 .1 .0) (same-round c)
+    round-coefficient (s .args .line) (s .pre .1 .1 .1 .0 .shaped) (s .args .current) (s .pre .1 .1 .0) (same-round c)
 
 constrained : (c : tie.Else1) → let s = entry c in meaning (s .args .line) .constraint ≡ some (constraintIn (s .args .line))
 constrained c = let s = entry c in constraint-is (s .args .line)
-    (round-related (s .args .line) (s .pre .1 .1 .1 .0 .shaped) (row-length s) (s .args .f) (s .pre .1 .1 .0) (same-round c))
+    (round-related (s .args .line) (s .pre .1 .1 .1 .0 .shaped) (s .args .current) (s .pre .1 .1 .0) (same-round c))
 
 one-side : (c : tie.Else1) → let s = entry c in
-    negatively (rational (s .args .f)) (meaning (s .args .line)) ≡ not (positively (rational (s .args .f)) (meaning (s .args .line)))
+    negatively (rational (s .args .current .rational)) (meaning (s .args .line)) ≡ not (positively (rational (s .args .current .rational)) (meaning (s .args .line)))
 one-side c = let s = entry c in
-    round-sides (s .args .line) (s .pre .1 .1 .1 .0 .shaped) (row-length s) (s .args .f) (s .pre .1 .1 .0) (same-round c)
+    round-sides (s .args .line) (s .pre .1 .1 .1 .0 .shaped) (s .args .current) (s .pre .1 .1 .0) (same-round c)
 
 literal-holds-requires : tie.Need-literal-holds-requires
 literal-holds-requires c κs = search needs
@@ -75,7 +80,7 @@ returns-2 c = λ ls h.
     let o = c .before .before in
     let s = entry o in
     rw (s .pre .0)
-    (collected-held (assignment (s .args .model)) (s .args .f) (meaning (s .args .line)) ls (boundMeaning (s .args .earlier .lower))
+    (collected-held (assignment (s .args .model)) (s .args .current) (meaning (s .args .line)) ls (boundMeaning (s .args .earlier .lower))
     (boundMeaning (s .args .earlier .upper)) h (own-round o) (sym (c .before .literal-holds .ensures) ∙ c .if2 .taken))
 
 free : (c : tie.Else2) → let s = entry (c .before .before) in
@@ -85,7 +90,7 @@ free c = sym (c .before .literal-holds .ensures) ∙ c .if2 .left
 bound-of-requires : tie.Need-bound-of-requires
 bound-of-requires c κs =
     let s = entry (c .before .before) in
-    (s .pre .1 .1 .0, (s .pre .1 .1 .1 .0, (bounded (c .before .before), s .pre .1 .1 .1 .1)))
+    (s .pre .1 .1 .0 .ranged, (s .pre .1 .1 .1 .0, (bounded (c .before .before), s .pre .1 .1 .1 .1)))
 
 beyond-requires : tie.Need-beyond-requires
 beyond-requires c κs = search needs
@@ -95,19 +100,19 @@ returns-3 c = λ ls h.
     let b = c .before .before in
     let o = of-round b in
     let s = entry o in
-    exceeding-here (assignment (s .args .model)) (s .args .f) (meaning (s .args .line)) ls (boundMeaning (s .args .earlier .lower))
+    exceeding-here (assignment (s .args .model)) (s .args .current) (meaning (s .args .line)) ls (boundMeaning (s .args .earlier .lower))
     (boundMeaning (s .args .earlier .upper)) h (own-round o) (free (b .before)) (constraintIn (s .args .line)) (constrained o)
-    (rw (one-side o) (or-not-self (positively (rational (s .args .f)) (meaning (s .args .line)))))
+    (rw (one-side o) (or-not-self (positively (rational (s .args .current .rational)) (meaning (s .args .line)))))
     (rw (← b .bound-of .ensures, ← c .before .beyond .ensures) (c .if3 .taken))
 
 -- the bound is in range
 small : (c : tie.Else3) → let s = entry (of-round (c .before .before)) in
-    Small (boundOf (assignment (s .args .model)) (s .args .f) (constraintIn (s .args .line)))
+    Small (boundOf (assignment (s .args .model)) (s .args .current .rational) (constraintIn (s .args .line)))
 small c =
     let b = c .before .before in
     let o = of-round b in
     let s = entry o in
-    bound-small (s .args .line) (s .args .model) (s .args .f) (row-length s) (s .pre .1 .1 .0) (s .pre .1 .1 .1 .0) (s .pre .1 .1 .1 .1)
+    bound-small (s .args .line) (s .args .model) (s .args .current .rational) (row-length s) (s .pre .1 .1 .0 .ranged) (s .pre .1 .1 .1 .0) (s .pre .1 .1 .1 .1)
     (bounded o) (rw (← b .bound-of .ensures, ← c .before .beyond .ensures) (c .if3 .left))
 
 has-positive-rational-requires : tie.Need-has-positive-rational-requires
@@ -117,8 +122,8 @@ has-positive-rational-requires c κs = search needs
 more : (c : tie.After-has-positive-rational) (t : Bool) → c .has-positive-rational .result ≡ t
     → let b = c .before .before .before .before in let s = entry (of-round b) in let e = s .args .earlier in
     let strict = eqb (s .args .line .relation) 2 in
-    (ls : List rules.Line) → CollectedIn e (assignment (s .args .model)) (s .args .f) ls
-    → Collected (assignment (s .args .model)) (s .args .f) (meaning (s .args .line) ∷ ls)
+    (ls : List rules.Line) → CollectedIn e (assignment (s .args .model)) (s .args .current) ls
+    → Collected (assignment (s .args .model)) (s .args .current) (meaning (s .args .line) ∷ ls)
     (withLower t (fractionMeaning (b .bound-of .result)) strict (boundMeaning (e .lower)))
     (withUpper t (fractionMeaning (b .bound-of .result)) strict (boundMeaning (e .upper)))
 more c t e = λ ls h.
@@ -128,7 +133,7 @@ more c t e = λ ls h.
     let s = entry o in
     let p = sym (c .has-positive-rational .ensures) ∙ e in
     rw (b .bound-of .ensures)
-    (collected-more (assignment (s .args .model)) (s .args .f) (meaning (s .args .line)) ls (boundMeaning (s .args .earlier .lower))
+    (collected-more (assignment (s .args .model)) (s .args .current) (meaning (s .args .line)) ls (boundMeaning (s .args .earlier .lower))
     (boundMeaning (s .args .earlier .upper)) h (own-round o) (free (b .before)) (constraintIn (s .args .line)) (constrained o)
     t p (one-side o ∙ ap not p) (small r))
 

@@ -15,11 +15,11 @@ gathered-requires c κs = search needs
 returns : tie.Need-returns
 returns c =
     let s = c .before .before .before in
-    chosen-beyond (assignment (s .args .model)) (s .args .f) (linesIn (s .args .proof .now) (s .args .n))
+    chosen-beyond (assignment (s .args .model)) (s .args .current) (linesIn (s .args .proof .now) (s .args .n))
     (record { numerator = pos 0; denominator = 1 }) (rw (c .if1 .taken) at (c .before .gathered .ensures))
 
 collected : (c : tie.Else1) → let s = c .before .before .before in let b = c .before .gathered .result in
-    Collected (assignment (s .args .model)) (s .args .f) (linesIn (s .args .proof .now) (s .args .n)) (boundMeaning (b .lower))
+    Collected (assignment (s .args .model)) (s .args .current) (linesIn (s .args .proof .now) (s .args .n)) (boundMeaning (b .lower))
     (boundMeaning (b .upper))
 collected c = rw (c .if1 .left) at (c .before .gathered .ensures)
 
@@ -34,7 +34,7 @@ returns-2 c =
     let g = c .before .before .before in
     let s = g .before .before in
     let b = g .gathered .result in
-    chosen-value (assignment (s .args .model)) (s .args .f) (linesIn (s .args .proof .now) (s .args .n)) (boundMeaning (b .lower))
+    chosen-value (assignment (s .args .model)) (s .args .current) (linesIn (s .args .proof .now) (s .args .n)) (boundMeaning (b .lower))
     (boundMeaning (b .upper)) (fractionMeaning (c .before .value .result)) (collected (c .before .before)) (c .before .value .ensures)
     (c .beyond .result) (c .beyond .ensures)
 

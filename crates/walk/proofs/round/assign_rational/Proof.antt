@@ -3,7 +3,7 @@ use borrow.Author.Needs.{needs}
 use Rattle.fractions.specs.Meaning.{meaning}
 use Rattle.steps.specs.Lines.{linesIn}
 use Rattle.models.specs.Model.{assignment}
-use Rattle.values.specs.Round.{own}
+use Rattle.values.specs.Round.{ownOf}
 use Rattle.values.specs.Chosen.{Value}
 use Rattle.walk.specs.Reached.{assigned-by}
 use Rattle.walk.proofs.round.assign_rational.Statement.{statement}
@@ -15,18 +15,20 @@ rational-value-requires c κs = search needs
 returns : tie.Need-returns
 returns c = rw (rw (c .if1 .taken) at (c .before .rational-value .ensures))
 
-chosen : (c : tie.Else1) → let s = c .before .before .before in Value (assignment (s .args .model)) (s .args .f)
+chosen : (c : tie.Else1) → let s = c .before .before .before in Value (assignment (s .args .model)) (s .args .current)
     (linesIn (s .args .proof .now) (s .args .n)) (meaning (c .before .rational-value .result .value))
 chosen c = rw (c .if1 .left) at (c .before .rational-value .ensures)
 
 with-rational-requires : tie.Need-with-rational-requires
-with-rational-requires c κs = let s = c .before .before .before .before in (s .pre .1 .1 .0, (chosen (c .before) .small, s .pre .1 .1 .1))
+with-rational-requires c κs = let s = c .before .before .before .before in
+    (s .pre .1 .1 .0 .ranged, (chosen (c .before) .small, s .pre .1 .1 .1))
 
 returns-2 : tie.Need-returns-2
 returns-2 c =
     let v = chosen (c .before .before) in
     let s = c .before .before .before .before .before in
-    assigned-by (assignment (s .args .model)) (s .args .f) (own (s .args .f) (linesIn (s .args .proof .now) (s .args .n)))
+    assigned-by (assignment (s .args .model)) (s .args .current .rational)
+    (ownOf (s .args .current) (linesIn (s .args .proof .now) (s .args .n)))
     (meaning (c .before .before .before .rational-value .result .value)) (v .same) (v .none) (c .with-rational .result .written)
     (c .with-rational .result .model)
     (c .with-rational .ensures)
