@@ -24,7 +24,7 @@ use Rattle.rules.specs.Resolve.{combination, combinationOf, oneOf, resol
 use Rattle.rules.specs.Steps.{Origin, header, headerBytes, relationByte, mask, row, lineBytes, encodeStep, encodeProof}
 use Rattle.rules.specs.Elimination.{order, roundOf, overflows, limited, unlimited, placed, covered, select, pairUp, sideOf}
 use Rattle.rules.specs.Elimination.{roundPairs, partSteps, loadable, loadableOf, add, load, tried, tryAll, rounds, eliminate}
-use Rattle.rules.specs.Elimination.{elimination}
+use Rattle.rules.specs.Elimination.{drops, elimination}
 use Rattle.rules.specs.Values.{reduce, quotient, less, midpoint, plus, beyond, tighter, value, boundOf, boundsOf, gather, tightest}
 use Rattle.rules.specs.Values.{rationalValue, withoutBoolean, booleanValue, withRational, withBoolean, assign, exceeds, start}
 use Rattle.rules.specs.Values.{walkFrom, walk}
@@ -44,7 +44,7 @@ unfolding any all filter concat same tabulate put gcdWithin gcd gcdAll lcm sum s
     constraint clause end problem literalHolds constraintHolds clauseHolds noBooleans including excluding union meet someYes aLiteralHolds
     theConstraintHolds lineHolds coefficient positively negatively contains noConstraint isEmpty sameConstraint sameLine membersOf reduced
     settled settledAll normalClause settledLine normalLine chain parts partsOf splitsOf overSplit combination combinationOf oneOf resolvent
-    resolve header headerBytes relationByte mask row lineBytes encodeStep encodeProof order roundOf overflows limited unlimited placed
+    resolve header headerBytes relationByte mask row lineBytes encodeStep encodeProof order roundOf overflows limited unlimited placed drops
     covered select pairUp sideOf roundPairs partSteps loadable loadableOf add load tried tryAll rounds eliminate elimination reduce quotient
     less midpoint plus beyond tighter value boundOf boundsOf gather tightest rationalValue withoutBoolean booleanValue withRational
     withBoolean assign exceeds start walkFrom walk booleanByte encodeModel tooLarge written model pairable derived variableNamed
