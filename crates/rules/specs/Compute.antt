@@ -29,8 +29,8 @@ use Rattle.rules.specs.Values.{reduce, quotient, less, midpoint, plus, b
 use Rattle.rules.specs.Values.{rationalValue, withoutBoolean, booleanValue, withRational, withBoolean, assign, exceeds, start}
 use Rattle.rules.specs.Values.{walkFrom, walk}
 use Rattle.rules.specs.Model.{booleanByte, encodeModel, tooLarge, written, model}
-use Rattle.rules.specs.Checker.{pairable, derived, variableNamed, resolventNamed, lineAmong, statedLine, checkSteps, checkProof}
-use Rattle.rules.specs.Checker.{checkClauses}
+use Rattle.rules.specs.Checker.{pairable, derived, variableNamed, resolventNamed, lineAmong, statedLine, followed, checkProof}
+use Rattle.rules.specs.Checker.{followedLines, endsEmpty, withEmptyEnd, checkClauses}
 use Rattle.rules.specs.Calls.{Outcome, faulted, stopped, decided, withinSplits, read, noModel, concluded, outcome, lent, said}
 use Rattle.rules.specs.Calls.{proofAfter, modelAfter, solve, wholeSteps, proofChecked, modelChecked, evidence, evidenceBytes}
 use Rattle.rules.specs.Print.{ascii, digitsWithin, decimal, signedDecimal, printLine, printStep, printProof, printModel, printRefusal}
@@ -48,10 +48,11 @@ unfolding any all filter concat same tabulate put gcdWithin gcd gcdAll lcm sum s
     covered select pairUp sideOf roundPairs partSteps loadable loadableOf add load tried tryAll rounds eliminate elimination reduce quotient
     less midpoint plus beyond tighter value boundOf boundsOf gather tightest rationalValue withoutBoolean booleanValue withRational
     withBoolean assign exceeds start walkFrom walk booleanByte encodeModel tooLarge written model pairable derived variableNamed
-    resolventNamed lineAmong statedLine checkSteps checkProof checkClauses withinSplits read noModel concluded outcome lent said proofAfter
+    resolventNamed lineAmong statedLine followed checkProof checkClauses withinSplits read noModel concluded outcome lent said proofAfter
     modelAfter solve wholeSteps proofChecked modelChecked evidence evidenceBytes ascii digitsWithin decimal signedDecimal printLine
     printStep printProof printModel printRefusal printed stepsOf pairsOf needs listed triedResolvents roundResolvents resolvents
     refusalNumber verdictNumber answerNumber answerValue checkedNumber checkedValue evidenceNumber evidenceLength
+    followedLines endsEmpty withEmptyEnd
 definitions = tt
 
 -- the answer with its pairs; the lines' origins; and the model's booleans, numerators and denominator (0 without a model)
