@@ -78,10 +78,11 @@ followed parts (suc k) earlier bytes =
       | some l ↦ followed parts k (earlier ++ (l ∷ [])) (drop limit.stepBytes bytes)
     ]
 
+-- of a whole proof
 unfoldable pub followedLines : Problem → List ℕ → Followed
 followedLines p bytes = followed (loadableOf p) (length bytes / limit.stepBytes) [] bytes
 
--- "the last is empty"
+-- "the last is empty"; without a line, none is
 unfoldable pub endsEmpty : List Line → Bool
 endsEmpty lines = elim (getElem? lines (length lines - 1)) [ none ↦ false | some l ↦ isEmpty l ]
 

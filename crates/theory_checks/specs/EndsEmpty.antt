@@ -9,7 +9,6 @@ use native.Mathlib.Omega.{arith}
 use lib.Dec.{T}
 use lib.ListN.{length, getElem?}
 use Rattle.rules_types.specs.declared.answers.Refusal.{Refusal}
-use Rattle.rules_types.specs.declared.answers.Checked.{Checked}
 use Rattle.rules_types.specs.declared.answers.Checked.the-variants.{Accepted, Fails, Refused}
 use Rattle.rules.specs.Lines.{Line, isEmpty}
 use Rattle.rules.specs.Checker.{Followed, fails, follow, endsEmpty, withEmptyEnd}

@@ -1,12 +1,11 @@
 -- `follow::follow_steps` meets its contract. Invariant: the first i steps follow, and what is left decides. Assumes nothing.
-use mathlib.Core.Path.{_≡_, sym, ap, subst, _∙_}
-use mathlib.Core.Bool.{Bool, true, false, cond}
+use mathlib.Core.Path.{_≡_, subst}
+use mathlib.Core.Bool.{true, false}
 use mathlib.Core.List.{List}
 use Prim.Native.Nat.{ℕ, _-_}
 use native.Mathlib.Omega.{arith}
 use borrow.Author.Needs.{needs}
 use borrow.Author.Tests.{not-true, not-false}
-use Rattle.rules_types.specs.declared.answers.Checked.the-variants.{Accepted, Fails}
 use Rattle.rules.specs.Elimination.{loadableOf}
 use Rattle.rules.specs.Checker.{statedLine, followedLines}
 use Rattle.steps.specs.Places.{stepAt}
