@@ -1,4 +1,4 @@
-// A line put to the tests: equal to an earlier one, one too many, empty; and else held.
+// A line put to the tests: dropped by an earlier one, one too many, empty; and else held.
 use crate::covered::covered;
 use crate::point::Point;
 use crate::point::Progress;
@@ -24,7 +24,7 @@ fn progress_of(line: Line) -> Progress
     Progress::Running
 }
 
-// The step goes behind the others, if there is no equal line and room for it.
+// The step goes behind the others, if no earlier line drops it and there is room for it.
 pub fn admit(proof: &mut [u8], p: Point, step: Step, limits: Limits) -> Point
     requires { ⌜ Standing limits (now proof) (p .steps) ⌝ }
     requires { ⌜ Ready (step .line) ⌝ }

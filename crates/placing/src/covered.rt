@@ -1,4 +1,4 @@
-// Whether an equal line is held already: the one place that looks for it.
+// Whether a line that is held already drops another: the one place that looks for it.
 use lines::line::Line;
 use rules_types::layout::STEP_RELATION;
 use rules_types::limits::Limits;
@@ -8,22 +8,22 @@ use steps::encode::encode;
 use steps::origin::Origin;
 use steps::origin::Step;
 ghost use mathlib.Core.Path.{_≡_};
-ghost use lib.Dec.{eqb};
 ghost use lib.ListN.{length};
 ghost use Rattle.rules_types.specs.Limits.{stepBytes};
-ghost use Rattle.rules.specs.Lists.{same};
-ghost use Rattle.rules.specs.Elimination.{covered};
+ghost use Rattle.rules.specs.Elimination.{drops, covered};
 ghost use Rattle.lines.specs.Line.{meaning, Ready};
 ghost use Rattle.steps.specs.Places.{stepAt, HasStep};
-ghost use Rattle.steps.specs.Held.{stepsIn, Held};
-ghost use Rattle.placing.specs.Same.{behind};
+ghost use Rattle.steps.specs.Lines.{lineAt};
+ghost use Rattle.steps.specs.Decoding.{decoded};
+ghost use Rattle.steps.specs.Held.{stepsIn, StepBytes, Held};
 
-// Whether step i and these bytes are equal behind their headers. The bound, which tells most lines apart, is compared first, and then the
-// positive literals.
-fn same_step(proof: &[u8], i: usize, bytes: &[u8]) -> bool
+// Whether step i drops the line of these bytes of a step: "if it equals an earlier line in relation, marks, coefficients and bound", which
+// are all that stands behind the header. The bound, which tells most lines apart, is compared first, and then the positive literals.
+fn drops(proof: &[u8], i: usize, bytes: &[u8]) -> bool
     requires { ⌜ HasStep (now proof) i ⌝ }
     requires { ⌜ length (now bytes) ≡ stepBytes ⌝ }
-    ensures { λ r. ⌜ r ≡ same eqb (behind (stepAt (now (proof .entry)) i)) (behind (now (bytes .entry))) ⌝ }
+    requires { ⌜ StepBytes (stepAt (now proof) i) × StepBytes (now bytes) ⌝ }
+    ensures { λ r. ⌜ r ≡ drops (meaning (lineAt (now (proof .entry)) i)) (meaning (decoded (now (bytes .entry)))) ⌝ }
 {
     if bound_at(proof, i) != bound_at(bytes, 0) {
         return false;
@@ -42,7 +42,7 @@ fn same_step(proof: &[u8], i: usize, bytes: &[u8]) -> bool
     true
 }
 
-// "dropped if it equals an earlier line in relation, marks, coefficients and bound". The origin is not compared.
+// Whether one of the n lines drops this one.
 pub fn covered(proof: &[u8], n: usize, line: Line) -> bool
     requires { ⌜ Held (now proof) n ⌝ }
     requires { ⌜ Ready line ⌝ }
@@ -54,7 +54,7 @@ pub fn covered(proof: &[u8], n: usize, line: Line) -> bool
     });
     let mut i: usize = 0;
     while i < n {
-        if same_step(proof, i, &bytes) {
+        if drops(proof, i, &bytes) {
             return true;
         }
         i += 1;

@@ -2,13 +2,12 @@
 use mathlib.Core.Path.{_≡_, refl, _∙_}
 use mathlib.Core.Bool.{Bool, true, false, _&&_}
 use mathlib.Core.Logic.{_↔_, ⊎-elim}
-use mathlib.Core.List.{List, [], _∷_, _++_}
-use mathlib.Core.Option.{Option, none, some}
-use Prim.Native.Nat.{ℕ, zero, suc, _+_, _*_, _/_, _%_, _≤_, _<_}
+use mathlib.Core.List.{List, [], _∷_}
+use Prim.Native.Nat.{ℕ, suc, _*_, _/_, _%_, _≤_, _<_}
 use native.Mathlib.Omega.{arith}
 use borrow.Author.Tests.{lt-ltb, le-ltb}
 use lib.Dec.{T, eqb, leb, leb→le}
-use lib.ListN.{length, take, drop, length-append, length-take}
+use lib.ListN.{length}
 use mir.Facts.{and-yes}
 use Rattle.rules_types.specs.declared.answers.Refusal.{Refusal}
 use Rattle.rules_types.specs.declared.answers.Refusal.the-variants.{ShortModel, ProofLength, BadModel}
@@ -18,82 +17,35 @@ use Rattle.rules_types.specs.declared.limits.Limits.{Limits}
 use Rattle.rules_types.specs.Limits as limit
 use Rattle.rules.specs.Problem.{Clause, Problem, Read, fault, got}
 use Rattle.rules.specs.Meaning.{Assignment, clauseHolds}
-use Rattle.rules.specs.Lines.{Line, isEmpty}
-use Rattle.rules.specs.Steps.{Step}
 use Rattle.rules.specs.Elimination.{loadableOf}
 use Rattle.rules.specs.Model.{model}
-use Rattle.rules.specs.Checker.{statedLine, checkSteps, checkProof, checkClauses}
+use Rattle.rules.specs.Checker.{followedLines, checkProof, checkClauses}
 use Rattle.rules.specs.Calls.{faulty, sound, read, wholeSteps, proofChecked, modelChecked}
 use Rattle.theory_lists.specs.Tests.{split, is-true, is-false, clash}
 use Rattle.theory_checks.specs.ProofChecked.{refused-not, same-problem}
 use Rattle.theory_checks.specs.ModelChecked.{CheckedModel, model-checked-satisfies, satisfying-model-checked}
-use Rattle.theory_lists.specs.All.{All, all-append}
 use Rattle.theory_splitting.specs.WellFormed.{WellFormed}
 use Rattle.theory_splitting.specs.Reading.{read-well-formed}
 use Rattle.theory_bytes.specs.Bytes.{AllBytes}
-use Rattle.theory_bytes.specs.Lines.{Encodable}
 use Rattle.theory_layout.specs.Offsets.{FirstBadField}
-use Rattle.theory_layout.specs.Fields.{take-bytes, drop-bytes}
-use Rattle.theory_layout.specs.Steps.{Writable}
 use Rattle.theory_layout.specs.Models.{refused-exactly}
-use Rattle.theory_checks.specs.Following.{Follows}
-use Rattle.theory_checks.specs.ByOffset.{stated-follows, follows-stated, follows-encodable}
+use Rattle.theory_checks.specs.EndsEmpty.{end-accepted}
+use Rattle.theory_checks.specs.LinesFollow.{follow-exactly}
 use Rattle.theory_checks.specs.Writable.{parts-writable}
-use Rattle.promises.specs.Words.{RefutesFrom, Refutes, WritesAssignment}
-
-never : {X : Type 0} (n : ℕ) → Fails n ≡ Accepted → X
-never n e = absurd (let z : _≡_ {A = ℕ} 0 1 = cc in omega arith)
-
-module _ (parts : List Step) (known : All Writable parts) where
-  -- the check finds the line that follows
-  pub line-found : (earlier : List Line) → length earlier ≤ limit.mostSteps → All Encodable earlier → (bytes : List ℕ) → AllBytes bytes
-      → (l : Line) → Follows parts earlier (take limit.stepBytes bytes) l
-      → statedLine parts earlier (take limit.stepBytes bytes) ≡ some l
-  line-found earlier few h bytes b l f =
-      follows-stated parts known earlier few h l (take limit.stepBytes bytes) (take-bytes limit.stepBytes bytes b)
-      (omega (arith, length-take limit.stepBytes bytes)) f
-
-  steps-exactly : (k : ℕ) (earlier : List Line) (ends : Bool) (bytes : List ℕ) → AllBytes bytes → All Encodable earlier
-      → length earlier + k ≤ limit.mostSteps
-      → checkSteps parts k earlier ends bytes ≡ Accepted ↔ RefutesFrom parts k earlier ends bytes
-  unfolding checkSteps
-  steps-exactly zero earlier true bytes b h n = (λ a. tt, λ a. refl)
-  steps-exactly zero earlier false bytes b h n = (λ a. never (length earlier) a, λ a. absurd a)
-  steps-exactly (suc k) earlier ends bytes b h n =
-      both
-      (λ l f. steps-exactly k (earlier ++ (l ∷ [])) (isEmpty l) (drop limit.stepBytes bytes) (drop-bytes limit.stepBytes bytes b)
-      (all-append Encodable earlier (l ∷ []) h (follows-encodable parts known earlier (omega arith) h l line f, tt))
-      (rw (length-append earlier (l ∷ [])) (omega arith)))
-    where
-      line : List ℕ
-      line = take limit.stepBytes bytes
-
-      Then : Line → Type 0
-      Then l = checkSteps parts k (earlier ++ (l ∷ [])) (isEmpty l) (drop limit.stepBytes bytes) ≡ Accepted
-          ↔ RefutesFrom parts k (earlier ++ (l ∷ [])) (isEmpty l) (drop limit.stepBytes bytes)
-
-      forth : ((l : Line) → Follows parts earlier line l → Then l) → (o : Option Line) → statedLine parts earlier line ≡ o
-          → _≡_ {A = Checked} (elim o [
-            | none ↦ Fails (length earlier)
-            | some l ↦ checkSteps parts k (earlier ++ (l ∷ [])) (isEmpty l)
-                (drop limit.stepBytes bytes)
-          ]) Accepted → RefutesFrom parts (suc k) earlier ends bytes
-      forth then none e a = never (length earlier) a
-      forth then (some l) e a = let f = stated-follows parts known earlier (omega arith) h l line e in (l, f, then l f .0 a)
-
-      both : ((l : Line) → Follows parts earlier line l → Then l) → checkSteps parts (suc k) earlier ends bytes ≡ Accepted
-          ↔ RefutesFrom parts (suc k) earlier ends bytes
-      both then = (
-        λ a. forth then (statedLine parts earlier line) refl a,
-        λ r. rw (line-found earlier (omega arith) h bytes b (r .0) (r .1), checkSteps) (then (r .0) (r .1) .1 (r .2)),
-      )
+use Rattle.promises.specs.Words.{Refutes, WritesAssignment}
 
 accepted-exactly : (p : Problem) → WellFormed p → (bytes : List ℕ) → AllBytes bytes → length bytes / limit.stepBytes ≤ limit.mostSteps
     → checkProof p bytes ≡ Accepted
     ↔ Refutes (loadableOf p) (length bytes / limit.stepBytes) bytes
-unfolding checkProof
+unfolding checkProof followedLines
 accepted-exactly p w bytes b n =
-    steps-exactly (loadableOf p) (parts-writable p w) (length bytes / limit.stepBytes) [] false bytes b tt (omega arith)
+    let x = end-accepted (followedLines p bytes) in
+    let y = follow-exactly (loadableOf p) (parts-writable p w) (length bytes / limit.stepBytes) bytes b n in (
+      λ a. let h = x .0 a in
+          let f = y (h .0) .0 (h .1) in
+          record { lines = h .0; follow = record { count = f .0; follow = f .1 }; last = h .2 },
+      λ r. x .1 (r .lines, y (r .lines) .1 (r .follow .count, r .follow .follow), r .last),
+    )
 
 -- no more lines than the limit
 pub whole-few : (limits : Limits) → limits .steps ≤ limit.mostSteps → (n : ℕ) → T (wholeSteps limits n)

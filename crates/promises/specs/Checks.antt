@@ -1,8 +1,7 @@
 -- What the checks answer, for a problem, a proof and a model of arbitrary bytes; they write nothing.
 use mathlib.Core.Path.{_≡_}
-use mathlib.Core.Bool.{false}
 use mathlib.Core.Logic.{_↔_}
-use mathlib.Core.List.{List, []}
+use mathlib.Core.List.{List}
 use Prim.Native.Nat.{ℕ, _≤_, _<_}
 use lib.ListN.{length}
 use Rattle.rules_types.specs.declared.answers.Refusal.{Refusal}
@@ -34,7 +33,7 @@ pub record ChecksProof (limits : Limits) (input proof : List ℕ) (says : Checke
       ↔ ((k : ℕ) × WholeLines limits (length proof) k × Refutes (loadableOf p) k proof)
   -- "the first failing line, the line count if only the empty end is missing"
   pub fails : (p : Problem) → read input ≡ sound p → (k : ℕ) → WholeLines limits (length proof) k → (n : ℕ) → (says ≡ Fails n)
-      ↔ LineFails (loadableOf p) k [] false proof n
+      ↔ LineFails (loadableOf p) k proof n
   -- "whenever the check accepts a book for Q ... no choice satisfies Q, whoever wrote the book"
   pub refutes : (p : Problem) → read input ≡ sound p → says ≡ Accepted → NoAssignment p
 

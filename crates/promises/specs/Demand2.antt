@@ -15,11 +15,11 @@ use Rattle.rules.specs.Lines.{Line, Variable}
 use Rattle.rules.specs.Split.{partsOf, splitsOf}
 use Rattle.rules.specs.Resolve.{resolve}
 use Rattle.rules.specs.Steps.{Step}
-use Rattle.rules.specs.Elimination.{Stops, State, orderOf, covered, roundPairs, loadableOf, elimination}
+use Rattle.rules.specs.Elimination.{Stops, State, orderOf, drops, covered, roundPairs, loadableOf, elimination}
 use Rattle.rules.specs.Needs.{stepsOf}
 use Rattle.rules.specs.Calls.{sound, read, solve, proofChecked, modelChecked, evidence}
 use Rattle.theory_lists.specs.All.{All, Any}
-use Rattle.theory_saturation.specs.Equal.{covered-exactly}
+use Rattle.theory_saturation.specs.Drops.{drops-exactly, covered-exactly}
 use Rattle.theory_bytes.specs.Bytes.{AllBytes}
 use Rattle.theory_splitting.specs.EveryPart.{EveryPart, every-part}
 use Rattle.theory_resolution.specs.Result.{IsResolvent, resolve-is}
@@ -28,13 +28,13 @@ use Rattle.theory_splitting.specs.SplitsInto.{SplitsInto, clause-splits}
 use Rattle.theory_splitting.specs.Count.{splits-number}
 use Rattle.theory_splitting.specs.Reading.{read-well-formed}
 use Rattle.theory_elimination.specs.Sound.{Sound}
-use Rattle.theory_elimination.specs.Origins.{Each, Justified, Fresh}
+use Rattle.theory_elimination.specs.Origins.{Each, Justified, Fresh, Distinct}
 use Rattle.theory_elimination.specs.InOrder.{InOrder, round-in-order}
 use Rattle.theory_elimination.specs.Exactly.{Exactly}
 use Rattle.theory_elimination.specs.Loaded.{AllLoaded}
 use Rattle.promises.specs.Words.{WholeLines, Refutes, WritesAssignment}
-use Rattle.promises.specs.Elimination.{elimination-lines, elimination-distinct, elimination-is, elimination-only, elimination-parts}
-use Rattle.promises.specs.Elimination.{elimination-normalized}
+use Rattle.promises.specs.Elimination.{elimination-lines, elimination-undropped, elimination-distinct, elimination-is}
+use Rattle.promises.specs.Elimination.{elimination-only, elimination-parts, elimination-normalized}
 use Rattle.promises.specs.Checked.{model-exactly}
 use Rattle.promises.specs.Whole.{accepted-lines}
 use Rattle.promises.specs.Handing.{hands}
@@ -44,23 +44,25 @@ use Rattle.promises.specs.Demand3.{demand3}
 
 pub record Demand2 (input : List ℕ) (p : Problem) : Type 0 where
   -- "Our book is the course of the published Davis-Putnam and Fourier-Motzkin rules as 01 sets it out: each line is the clause or
-  -- resolvent it names,": a part, the one that it names, or the resolvent of two earlier lines of its round; no two are equal,
-  -- and all are normalized: no Boolean variable in both signs, no constant constraint, no common divisor
+  -- resolvent it names,": a part, the one that it names, or the resolvent of two earlier lines of its round; no earlier line
+  -- drops one, no two are equal, and all are normalized: no Boolean variable in both signs, no constant constraint, no common divisor
   pub lines : (stops : Stops) → Each (Justified (orderOf p) (loadableOf p)) [] (stepsOf (elimination stops p))
   pub parts : EveryPart p (loadableOf p)
   pub splits : (k : ℕ) (c : Clause) → splitsOf c ≡ length (partsOf k c) - 1
   pub pieces : (n : ℕ) (c : Clause) → getElem? (p .clauses) n ≡ some c
       → let k = p .booleans + splitsIn (take n (p .clauses)) in SplitsInto k c (partsOf k c)
   pub resolvents : (v : Variable) (u l : Line) → IsResolvent v u l (resolve v u l)
-  pub distinct : (stops : Stops) → Each Fresh [] (stepsOf (elimination stops p))
+  pub undropped : (stops : Stops) → Each Fresh [] (stepsOf (elimination stops p))
+  pub distinct : (stops : Stops) → Each Distinct [] (stepsOf (elimination stops p))
   pub normalized : (stops : Stops) → All (λ s. Sound (s .line)) (stepsOf (elimination stops p))
-  -- "and none is left out.": the lines are exactly the parts and resolvents in 01's order, without those that normalizing drops or an
-  -- earlier one equals, up to the one that ended it; the pairs are the resolvents counted; and no other proof is that
+  -- "and none is left out.": the lines are exactly the parts and resolvents in 01's order, without those that normalizing or an
+  -- earlier one drops, up to the one that ended it; the pairs are the resolvents counted; and no other proof is that
   pub exactly : (stops : Stops) → Exactly stops (orderOf p) (loadableOf p) (elimination stops p)
   pub only : (stops : Stops) (other : State) → Exactly stops (orderOf p) (loadableOf p) other → other ≡ elimination stops p
-  -- the words of that: the order of a round's pairs; which line an earlier one equals; every part before the end is loaded
+  -- the words of that: the order of a round's pairs; which line an earlier one drops; every part before the end is loaded
   pub inOrder : (v : Variable) (t : ℕ) (steps : List Step) → InOrder (orderOf p) v t steps (roundPairs (orderOf p) v t steps)
-  pub equal : (l : Line) (steps : List Step) → T (covered l steps) ↔ Any (λ s. s .line ≡ l) steps
+  pub dropping : (earlier l : Line) → T (drops earlier l) ↔ (earlier ≡ l)
+  pub covering : (l : Line) (steps : List Step) → T (covered l steps) ↔ Any (λ s. T (drops (s .line) l)) steps
   pub loaded : (stops : Stops) → AllLoaded stops (loadableOf p) (elimination stops p)
   -- "The check accepts a book exactly if its lines follow and the last is empty, a sheet exactly if every clause holds,"
   pub proof : (limits : Limits) → limits .steps ≤ limit.mostSteps → (bytes : List ℕ) → AllBytes bytes
@@ -74,12 +76,14 @@ demand2 input p e = record {
   splits = splits-number;
   pieces = clause-splits p (read-well-formed input p e);
   resolvents = resolve-is;
+  undropped = elimination-undropped p;
   distinct = elimination-distinct p;
   normalized = λ stops. elimination-normalized p stops (read-well-formed input p e);
   exactly = elimination-is p;
   only = elimination-only p;
   inOrder = round-in-order (orderOf p);
-  equal = covered-exactly;
+  dropping = drops-exactly;
+  covering = covered-exactly;
   loaded = elimination-parts p;
   proof = λ limits few bytes b. accepted-lines input p e limits bytes b few;
   model = model-exactly input p e;

@@ -7,7 +7,7 @@ use Rattle.rules.specs.Needs.{stepsOf}
 use Rattle.theory_lists.specs.All.{All}
 use Rattle.theory_splitting.specs.WellFormed.{WellFormed}
 use Rattle.theory_elimination.specs.Sound.{Sound, elimination-sound}
-use Rattle.theory_elimination.specs.Origins.{Each, Justified, Fresh, elimination-origins, elimination-fresh}
+use Rattle.theory_elimination.specs.Origins.{Each, Justified, Fresh, Distinct, elimination-origins, elimination-fresh, fresh-distinct}
 use Rattle.theory_elimination.specs.Exactly.{Exactly}
 use Rattle.theory_elimination.specs.OneLoop.{elimination-exactly}
 use Rattle.theory_elimination.specs.Determined.{exactly-one}
@@ -18,9 +18,12 @@ module _ (p : Problem) (stops : Stops) where
   unfolding elimination
   elimination-lines = elimination-origins (orderOf p) (loadableOf p) stops
 
-  pub elimination-distinct : Each Fresh [] (stepsOf (elimination stops p))
+  pub elimination-undropped : Each Fresh [] (stepsOf (elimination stops p))
   unfolding elimination
-  elimination-distinct = elimination-fresh stops (orderOf p) (loadableOf p)
+  elimination-undropped = elimination-fresh stops (orderOf p) (loadableOf p)
+
+  pub elimination-distinct : Each Distinct [] (stepsOf (elimination stops p))
+  elimination-distinct = fresh-distinct [] (stepsOf (elimination stops p)) elimination-undropped
 
   pub elimination-is : Exactly stops (orderOf p) (loadableOf p) (elimination stops p)
   unfolding elimination

@@ -2,36 +2,34 @@
 -- that fails".
 use mathlib.Core.Path.{_≡_, refl, sym, ap, _∙_}
 use mathlib.Core.Bool.{Bool, true, false}
-use mathlib.Core.Logic.{_↔_}
-use mathlib.Core.List.{List, [], _∷_, _++_}
-use mathlib.Core.Option.{Option, none, some}
+use mathlib.Core.Logic.{_↔_, _⊎_, ⊎-map}
+use mathlib.Core.List.{List, [], _∷_}
 use Prim.Native.Nat.{ℕ, zero, suc, _+_, _/_, _≤_}
 use native.Mathlib.Omega.{arith}
-use lib.ListN.{length, take, drop, length-append}
+use lib.ListN.{length}
 use Rattle.rules_types.specs.declared.answers.Checked.{Checked}
 use Rattle.rules_types.specs.declared.answers.Checked.the-variants.{Fails}
 use Rattle.rules_types.specs.declared.limits.Limits.{Limits}
 use Rattle.rules_types.specs.Limits as limit
 use Rattle.rules.specs.Problem.{Problem, Clause}
 use Rattle.rules.specs.Meaning.{Assignment, clauseHolds}
-use Rattle.rules.specs.Lines.{Line, isEmpty}
+use Rattle.rules.specs.Lines.{Line}
 use Rattle.rules.specs.Steps.{Step}
 use Rattle.rules.specs.Elimination.{loadableOf}
-use Rattle.rules.specs.Checker.{statedLine, checkSteps, checkProof, checkClauses}
+use Rattle.rules.specs.Checker.{followed, followedLines, withEmptyEnd, checkProof, checkClauses}
 use Rattle.rules.specs.Calls.{sound, read, wholeSteps, proofChecked, modelChecked}
-use Rattle.theory_lists.specs.All.{All, all-append}
+use Rattle.theory_lists.specs.All.{All}
 use Rattle.theory_lists.specs.Tests.{of-true}
 use Rattle.theory_splitting.specs.Reading.{read-well-formed}
 use Rattle.theory_bytes.specs.Bytes.{AllBytes}
-use Rattle.theory_bytes.specs.Lines.{Encodable}
 use Rattle.theory_layout.specs.Offsets.{StatesModel}
-use Rattle.theory_layout.specs.Fields.{drop-bytes}
 use Rattle.theory_layout.specs.Steps.{Writable}
-use Rattle.theory_checks.specs.Following.{Follows}
-use Rattle.theory_checks.specs.ByOffset.{stated-follows, follows-encodable}
+use Rattle.theory_checks.specs.EndsEmpty.{EndsEmpty, end-fails}
+use Rattle.theory_checks.specs.LinesFollow.{FirstFails, follow-exactly, fails-exactly}
 use Rattle.theory_checks.specs.ModelChecked.{model-checks}
 use Rattle.theory_checks.specs.Writable.{parts-writable}
-use Rattle.promises.specs.Checked.{line-found, whole-few}
+use Rattle.promises.specs.Words.{AllFollow}
+use Rattle.promises.specs.Checked.{whole-few}
 
 same-number : {m n : ℕ} → Fails m ≡ Fails n → m ≡ n
 same-number e = cc
@@ -76,85 +74,28 @@ module _ (χ : Assignment) where
         λ h. absurd (let z : _≡_ {A = Bool} true false = sym (h .0) ∙ i in let y : _≡_ {A = ℕ} 0 1 = cc in omega arith),
       )
 
--- ---- the first line that does not follow, or the end that is not empty: k lines are left after `earlier`
-abbrev pub LineFails : List Step → ℕ → List Line → Bool → List ℕ → ℕ → Type 0
-LineFails parts zero earlier ends bytes n = (ends ≡ false) × (n ≡ 0)
-LineFails parts (suc k) earlier ends bytes zero = (l : Line) → Follows parts earlier (take limit.stepBytes bytes) l → ⊥
-LineFails parts (suc k) earlier ends bytes (suc n) = (l : Line) × Follows parts earlier (take limit.stepBytes bytes) l
-    × LineFails parts k (earlier ++ (l ∷ [])) (isEmpty l) (drop limit.stepBytes bytes) n
+-- ---- the first line that does not follow, or the end that is not empty
+-- all of k lines follow, and the last is not empty
+pub record EndMissing (parts : List Step) (k : ℕ) (bytes : List ℕ) : Type 0 where
+  pub lines : List Line
+  pub follow : AllFollow parts k bytes lines
+  pub last : EndsEmpty lines → ⊥
 
-module _ (parts : List Step) (known : All Writable parts) where
-  abbrev Next : ℕ → List Line → List ℕ → Line → Checked
-  Next k earlier bytes l = checkSteps parts k (earlier ++ (l ∷ [])) (isEmpty l) (drop limit.stepBytes bytes)
+-- "the first failing line, the line count if only the empty end is missing"
+abbrev pub LineFails : List Step → ℕ → List ℕ → ℕ → Type 0
+LineFails parts k bytes n = FirstFails parts k [] bytes n ⊎ ((n ≡ k) × EndMissing parts k bytes)
 
-  steps-from : (k : ℕ) (earlier : List Line) (ends : Bool) (bytes : List ℕ) (m : ℕ)
-      → checkSteps parts k earlier ends bytes ≡ Fails m → length earlier ≤ m
-  unfolding checkSteps
-  steps-from zero earlier true bytes m e = absurd (let z : _≡_ {A = ℕ} 0 1 = cc in omega arith)
-  steps-from zero earlier false bytes m e = omega (arith, same-number e)
-  steps-from (suc k) earlier ends bytes m e =
-      by (statedLine parts earlier (take limit.stepBytes bytes)) (λ l h. rw (length-append earlier (l ∷ []))
-      at (steps-from k (earlier ++ (l ∷ [])) (isEmpty l) (drop limit.stepBytes bytes) m h)) e
-    where
-      by : (o : Option Line) → ((l : Line) → Next k earlier bytes l ≡ Fails m → length earlier + 1 ≤ m)
-          → _≡_ {A = Checked} (elim o [ none ↦ Fails (length earlier) | some l ↦ Next k earlier bytes l ]) (Fails m) → length earlier ≤ m
-      by none r e = omega (arith, same-number e)
-      by (some l) r e = omega (arith, r l e)
-
-  steps-fail : (k : ℕ) (earlier : List Line) (ends : Bool) (bytes : List ℕ) (n : ℕ) → AllBytes bytes → All Encodable earlier
-      → length earlier + k ≤ limit.mostSteps
-      → checkSteps parts k earlier ends bytes ≡ Fails (length earlier + n) ↔ LineFails parts k earlier ends bytes n
-  unfolding checkSteps
-  steps-fail zero earlier true bytes n b h few =
-      (λ e. absurd (let z : _≡_ {A = ℕ} 0 1 = cc in omega arith), λ a. absurd (let b = a .0 in let z : _≡_ {A = ℕ} 0 1 = cc in omega arith))
-  steps-fail zero earlier false bytes n b h few = (λ e. (refl, omega (arith, same-number e)), λ a. ap Fails (omega (arith, a .1)))
-  steps-fail (suc k) earlier ends bytes zero b h few = by (statedLine parts earlier line) refl
-    where
-      line : List ℕ
-      line = take limit.stepBytes bytes
-
-      by : (o : Option Line) → statedLine parts earlier line ≡ o
-          → _≡_ {A = Checked} (elim o [ none ↦ Fails (length earlier) | some l ↦ Next k earlier bytes l ]) (Fails (length earlier + 0))
-          ↔ ((l : Line) → Follows parts earlier line l → ⊥)
-      by none i = (
-        λ e l f. let j = line-found parts known earlier (omega arith) h bytes b l f in
-            absurd (let y = sym i ∙ j in let z : _≡_ {A = ℕ} 0 1 = cc in omega arith),
-        λ a. ap Fails (omega arith),
-      )
-      by (some l) i = (
-        λ e. absurd (let b = steps-from k (earlier ++ (l ∷ [])) (isEmpty l) (drop limit.stepBytes bytes) (length earlier + 0) e in
-            omega (arith, b, length-append earlier (l ∷ []))),
-        λ a. absurd (a l (stated-follows parts known earlier (omega arith) h l line i)),
-      )
-  steps-fail (suc k) earlier ends bytes (suc n) b h few =
-      by (statedLine parts earlier line) refl
-      (λ l f. steps-fail k (earlier ++ (l ∷ [])) (isEmpty l) (drop limit.stepBytes bytes) n (drop-bytes limit.stepBytes bytes b)
-      (all-append Encodable earlier (l ∷ []) h (follows-encodable parts known earlier (omega arith) h l line f, tt))
-      (rw (length-append earlier (l ∷ [])) (omega arith)))
-    where
-      line : List ℕ
-      line = take limit.stepBytes bytes
-
-      Then : Line → Type 0
-      Then l = Next k earlier bytes l ≡ Fails (length (earlier ++ (l ∷ [])) + n)
-          ↔ LineFails parts k (earlier ++ (l ∷ [])) (isEmpty l) (drop limit.stepBytes bytes) n
-
-      by : (o : Option Line) → statedLine parts earlier line ≡ o → ((l : Line) → Follows parts earlier line l → Then l)
-          → _≡_ {A = Checked} (elim o [ none ↦ Fails (length earlier) | some l ↦ Next k earlier bytes l ])
-          (Fails (length earlier + suc n)) ↔ LineFails parts (suc k) earlier ends bytes (suc n)
-      by none i then = (
-        λ e. absurd (omega (arith, same-number e)),
-        λ a. let j = line-found parts known earlier (omega arith) h bytes b (a .0) (a .1) in
-            absurd (let y = sym i ∙ j in let z : _≡_ {A = ℕ} 0 1 = cc in omega arith),
-      )
-      by (some l) i then =
-          let q : (m : Line) → length (earlier ++ (m ∷ [])) + n ≡ length earlier + suc n =
-          λ m. omega (arith, length-append earlier (m ∷ [])) in
-          let f = stated-follows parts known earlier (omega arith) h l line i in (
-            λ e. (l, f, then l f .0 (e ∙ ap Fails (sym (q l)))),
-            λ a. let j : l ≡ a .0 = (let y = sym i ∙ line-found parts known earlier (omega arith) h bytes b (a .0) (a .1) in cc) in
-                rw j (then (a .0) (a .1) .1 (a .2) ∙ ap Fails (q (a .0))),
-          )
+lines-fail : (parts : List Step) → All Writable parts → (k : ℕ) (bytes : List ℕ) → AllBytes bytes → k ≤ limit.mostSteps → (n : ℕ)
+    → withEmptyEnd (followed parts k [] bytes) ≡ Fails n ↔ LineFails parts k bytes n
+lines-fail parts known k bytes b few n =
+    let x = end-fails (followed parts k [] bytes) n in
+    let first = fails-exactly parts known k bytes b few n in
+    let all = follow-exactly parts known k bytes b few in (
+      λ e. ⊎-map (first .0) (λ h. let f = all (h .0) .0 (h .1) in
+          (h .3 ∙ f .0, record { lines = h .0; follow = record { count = f .0; follow = f .1 }; last = h .2 })) (x .0 e),
+      λ h. x .1 (⊎-map (first .1) (λ m. let f = m .1 .follow in
+          (m .1 .lines, all (m .1 .lines) .1 (f .count, f .follow), m .1 .last, m .0 ∙ sym (f .count))) h),
+    )
 
 -- ---- the calls, for a problem read without fault
 module _ (input : List ℕ) (p : Problem) (e : read input ≡ sound p) where
@@ -166,10 +107,8 @@ module _ (input : List ℕ) (p : Problem) (e : read input ≡ sound p) where
 
   pub proof-fails : (limits : Limits) → limits .steps ≤ limit.mostSteps → (bytes : List ℕ) → AllBytes bytes
       → wholeSteps limits (length bytes) ≡ true
-      → (k : ℕ) → proofChecked limits input bytes ≡ Fails k ↔ LineFails (loadableOf p) (length bytes / limit.stepBytes) [] false bytes k
-  unfolding proofChecked checkProof
+      → (k : ℕ) → proofChecked limits input bytes ≡ Fails k ↔ LineFails (loadableOf p) (length bytes / limit.stepBytes) bytes k
+  unfolding proofChecked checkProof followedLines
   proof-fails limits few bytes b h k =
-      let q : 0 + k ≡ k = omega arith in
-      let room = whole-few limits few (length bytes) (of-true (wholeSteps limits (length bytes)) h) in
-      rw (e, proofChecked, h) (rw q at (steps-fail (loadableOf p) (parts-writable p (read-well-formed input p e))
-      (length bytes / limit.stepBytes) [] false bytes k b tt (omega arith)))
+      rw (e, proofChecked, h) (lines-fail (loadableOf p) (parts-writable p (read-well-formed input p e))
+      (length bytes / limit.stepBytes) bytes b (whole-few limits few (length bytes) (of-true (wholeSteps limits (length bytes)) h)) k)

@@ -18,7 +18,7 @@ use Rattle.theory_splitting.specs.WellFormed.{WellFormed}
 use Rattle.theory_splitting.specs.PartsChosen.{chosen-same}
 use Rattle.theory_splitting.specs.SplitProblem.{StepsHold, splitting-keeps}
 use Rattle.theory_saturation.specs.Covered.{Covers}
-use Rattle.theory_saturation.specs.Equal.{equal-covers}
+use Rattle.theory_saturation.specs.Drops.{Drops, drops-covers}
 use Rattle.theory_saturation.specs.Saturation.{LinesHold, all-pairs-map}
 use Rattle.theory_saturation.specs.Order.{problem-ordered}
 use Rattle.theory_saturation.specs.Formed.{saturation-formed}
@@ -42,14 +42,15 @@ module _ (p : Problem) (w : WellFormed p) (stops : Stops) (steps : List Step) (n
       (all-mapped Formed (λ x. x .line) steps (all-map (λ x. Sound (x .line)) (λ x. Formed (x .line)) steps (λ x h. h .formed) s))
       (all-mapped ProperLine (λ x. x .line) steps (all-map (λ x. Sound (x .line)) (λ x. ProperLine (x .line)) steps (λ x h. h .proper) s))
       (all-mapped (λ l. T (not (isEmpty l))) (λ x. x .line) steps (subst EndsRight e (elimination-ends stops (orderOf p) (loadableOf p))))
-      (all-pairs-map _≡_ Covers equal-covers (lines steps) (orderOf p) (elimination-saturated stops (orderOf p) (loadableOf p) steps n e))
+      (all-pairs-map Drops Covers drops-covers (lines steps) (orderOf p) (elimination-saturated stops (orderOf p) (loadableOf p) steps n e))
 
-  -- so does every part, which one of them equals
+  -- so does every part, which one of them drops
   parts-hold : StepsHold (chosen p steps) (loadableOf p)
   parts-hold =
       let b = proof-holds in
-      all-map (λ x. Any (λ j. j ≡ x .line) (lines steps)) (λ x. T (lineHolds (chosen p steps) (x .line))) (loadableOf p)
-      (λ x h. all-any (λ l. T (lineHolds (chosen p steps) l)) (λ j. j ≡ x .line) (lines steps) (λ j t c. rw c at t) (b .lines) h)
+      all-map (λ x. Any (λ j. Drops j (x .line)) (lines steps)) (λ x. T (lineHolds (chosen p steps) (x .line))) (loadableOf p)
+      (λ x h. all-any (λ l. T (lineHolds (chosen p steps) l)) (λ j. Drops j (x .line)) (lines steps)
+      (λ j t d. drops-covers j (x .line) d .gives (chosen p steps) (b .denominator) t) (b .lines) h)
       (elimination-loaded stops (orderOf p) (loadableOf p) steps n e)
 
   pub walk-satisfies : Satisfies (chosen p steps) p

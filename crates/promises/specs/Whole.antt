@@ -1,28 +1,24 @@
 -- The check of a proof, by how many lines its bytes are: accepted, the first line that fails, or 16.
-use mathlib.Core.Path.{_≡_, refl, sym, ap, _∙_}
-use mathlib.Core.Bool.{Bool, true, false, cond, _&&_}
+use mathlib.Core.Path.{_≡_, sym, ap, _∙_}
+use mathlib.Core.Bool.{Bool, _&&_}
 use mathlib.Core.Logic.{_↔_, ⊎-elim}
-use mathlib.Core.List.{List, [], _∷_, _++_}
-use mathlib.Core.Option.{Option, none, some}
-use Prim.Native.Nat.{ℕ, zero, suc, _*_, _/_, _%_, _≤_}
+use mathlib.Core.List.{List}
+use Prim.Native.Nat.{ℕ, _*_, _/_, _%_, _≤_}
 use native.Mathlib.Omega.{arith}
 use lib.Dec.{T, eqb, leb, leb→le, eqb→eq}
-use lib.ListN.{length, take, drop}
+use lib.ListN.{length}
 use mir.Facts.{and-yes, yes-and, yes-leb, yes-eqb}
-use Rattle.rules_types.specs.declared.answers.Refusal.{Refusal}
 use Rattle.rules_types.specs.declared.answers.Refusal.the-variants.{ProofLength}
-use Rattle.rules_types.specs.declared.answers.Checked.{Checked}
 use Rattle.rules_types.specs.declared.answers.Checked.the-variants.{Accepted, Fails, Refused}
 use Rattle.rules_types.specs.declared.limits.Limits.{Limits}
 use Rattle.rules_types.specs.Limits as limit
 use Rattle.rules.specs.Problem.{Problem}
-use Rattle.rules.specs.Lines.{Line, isEmpty}
-use Rattle.rules.specs.Steps.{Step}
 use Rattle.rules.specs.Elimination.{loadableOf}
-use Rattle.rules.specs.Checker.{statedLine, checkSteps, checkProof}
+use Rattle.rules.specs.Checker.{followedLines, checkProof}
 use Rattle.rules.specs.Calls.{sound, read, wholeSteps, proofChecked}
 use Rattle.theory_lists.specs.Tests.{split, is-true, is-false, clash}
 use Rattle.theory_bytes.specs.Bytes.{AllBytes}
+use Rattle.theory_checks.specs.EndsEmpty.{end-unrefused}
 use Rattle.promises.specs.Words.{Refutes, WholeLines}
 use Rattle.promises.specs.Checked.{proof-exactly, proof-length-refused}
 use Rattle.promises.specs.Failing.{LineFails, proof-fails}
@@ -53,25 +49,6 @@ module _ (limits : Limits) (n : ℕ) where
   lines-are : (k : ℕ) → WholeLines limits n k → n / limit.stepBytes ≡ k
   lines-are k h = let c = h .count in omega arith
 
--- the check of steps refuses nothing
-steps-no-refusal : (parts : List Step) (k : ℕ) (earlier : List Line) (ends : Bool) (bytes : List ℕ) (f : Refusal) (place : ℕ)
-    → checkSteps parts k earlier ends bytes ≡ Refused f place → ⊥
-unfolding checkSteps
-steps-no-refusal parts zero earlier true bytes f place e = let z : _≡_ {A = ℕ} 0 1 = cc in omega arith
-steps-no-refusal parts zero earlier false bytes f place e = let z : _≡_ {A = ℕ} 0 1 = cc in omega arith
-steps-no-refusal parts (suc k) earlier ends bytes f place e =
-    by (statedLine parts earlier (take limit.stepBytes bytes))
-    (λ l h. steps-no-refusal parts k (earlier ++ (l ∷ [])) (isEmpty l) (drop limit.stepBytes bytes) f place h) e
-  where
-    by : (o : Option Line)
-        → ((l : Line) → checkSteps parts k (earlier ++ (l ∷ [])) (isEmpty l) (drop limit.stepBytes bytes) ≡ Refused f place → ⊥)
-        → _≡_ {A = Checked} (elim o [
-          | none ↦ Fails (length earlier)
-          | some l ↦ checkSteps parts k (earlier ++ (l ∷ [])) (isEmpty l) (drop limit.stepBytes bytes)
-        ]) (Refused f place) → ⊥
-    by none r e = let z : _≡_ {A = ℕ} 0 1 = cc in omega arith
-    by (some l) r e = r l e
-
 -- ---- the call, for a problem read without fault
 module _ (input : List ℕ) (p : Problem) (e : read input ≡ sound p) (limits : Limits) (bytes : List ℕ) where
   abbrev whole : Bool
@@ -87,7 +64,7 @@ module _ (input : List ℕ) (p : Problem) (e : read input ≡ sound p) (limits :
         )
 
     pub failing-line : (k : ℕ) → WholeLines limits (length bytes) k → (m : ℕ) → proofChecked limits input bytes ≡ Fails m
-        ↔ LineFails (loadableOf p) k [] false bytes m
+        ↔ LineFails (loadableOf p) k bytes m
     failing-line k h m =
         rw (lines-are limits (length bytes) k h)
         at (proof-fails input p e limits few bytes are (is-true whole (lines-whole limits (length bytes) k h)) m)
@@ -98,8 +75,7 @@ module _ (input : List ℕ) (p : Problem) (e : read input ≡ sound p) (limits :
   refused-length place =
       ⊎-elim
       (λ t. (
-        λ a. absurd (steps-no-refusal (loadableOf p) (length bytes / limit.stepBytes) [] false bytes ProofLength place
-            (rw (e, proofChecked, is-true whole t) at a)),
+        λ a. absurd (end-unrefused (followedLines p bytes) ProofLength place (rw (e, proofChecked, is-true whole t) at a)),
         λ h. absurd (h .1 (length bytes / limit.stepBytes) (whole-lines limits (length bytes) t)),
       ))
       (λ t. (

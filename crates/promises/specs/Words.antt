@@ -1,12 +1,10 @@
 -- The words of the demands, for their statements.
 use mathlib.Core.Path.{_≡_}
 use mathlib.Core.Logic.{_⊎_}
-use mathlib.Core.Bool.{Bool, false}
-use mathlib.Core.List.{List, [], _∷_, _++_, map}
+use mathlib.Core.List.{List, [], _∷_, map}
 use mathlib.Core.Option.{Option, none, some}
-use Prim.Native.Nat.{ℕ, zero, suc, _+_, _*_, _≤_, _<_}
-use lib.Dec.{T}
-use lib.ListN.{length, take, drop}
+use Prim.Native.Nat.{ℕ, _+_, _*_, _≤_, _<_}
+use lib.ListN.{length, drop}
 use Rattle.rules_types.specs.declared.answers.Refusal.{Refusal}
 use Rattle.rules_types.specs.declared.answers.Refusal.the-variants as refusal
 use Rattle.rules_types.specs.declared.answers.Verdict.{Verdict}
@@ -17,7 +15,7 @@ use Rattle.rules_types.specs.Limits as limit
 use Rattle.rules.specs.Bytes.{fieldAt}
 use Rattle.rules.specs.Problem.{Problem}
 use Rattle.rules.specs.Meaning.{Assignment, Satisfies}
-use Rattle.rules.specs.Lines.{Line, isEmpty}
+use Rattle.rules.specs.Lines.{Line}
 use Rattle.rules.specs.Steps.{Step}
 use Rattle.rules.specs.Elimination.{Stops, End, limited, unlimited, orderOf, elimination}
 use Rattle.rules.specs.Needs.{stepsOf}
@@ -27,7 +25,8 @@ use Rattle.rules.specs.Calls.{Solving}
 use Rattle.theory_layout.specs.Offsets.{HoldsSteps, ModelAt, StatesModel}
 use Rattle.theory_elimination.specs.Events.{Event}
 use Rattle.theory_elimination.specs.Cut.{stopAt}
-use Rattle.theory_checks.specs.Following.{Follows}
+use Rattle.theory_checks.specs.LinesFollow.{LinesFollow}
+use Rattle.theory_checks.specs.EndsEmpty.{EndsEmpty}
 
 -- "one does", for: some assignment satisfies Q
 abbrev pub SomeAssignment : Problem → Type 0
@@ -96,12 +95,13 @@ pub record WholeLines (limits : Limits) (bytes k : ℕ) : Type 0 where
   pub some : 1 ≤ k
   pub few : k ≤ limits .steps
 
--- "its lines follow and the last is empty": k lines of 64 bytes, the first of them after `earlier`; `ends` says whether the last of
--- those is empty
-abbrev pub RefutesFrom : List Step → ℕ → List Line → Bool → List ℕ → Type 0
-RefutesFrom parts zero earlier ends bytes = T ends
-RefutesFrom parts (suc k) earlier ends bytes = (l : Line) × Follows parts earlier (take limit.stepBytes bytes) l
-    × RefutesFrom parts k (earlier ++ (l ∷ [])) (isEmpty l) (drop limit.stepBytes bytes)
+-- "its lines follow": k lines of 64 bytes, which state these
+pub record AllFollow (parts : List Step) (k : ℕ) (bytes : List ℕ) (lines : List Line) : Type 0 where
+  pub count : length lines ≡ k
+  pub follow : LinesFollow parts [] bytes lines
 
-abbrev pub Refutes : List Step → ℕ → List ℕ → Type 0
-Refutes parts k bytes = RefutesFrom parts k [] false bytes
+-- "its lines follow and the last is empty"
+pub record Refutes (parts : List Step) (k : ℕ) (bytes : List ℕ) : Type 0 where
+  pub lines : List Line
+  pub follow : AllFollow parts k bytes lines
+  pub last : EndsEmpty lines

@@ -2,7 +2,7 @@
 use mathlib.Core.Bool.{Bool, true, false, cond, _&&_, _||_}
 use mathlib.Core.List.{List, [], _∷_, _++_}
 use mathlib.Core.Option.{Option, none, some}
-use Prim.Native.Nat.{ℕ, zero, suc, _/_}
+use Prim.Native.Nat.{ℕ, zero, suc, _-_, _/_}
 use lib.Dec.{eqb}
 use lib.ListN.{length, getElem?, take, drop}
 use Rattle.rules_types.specs.declared.answers.Checked.{Checked}
@@ -64,18 +64,35 @@ statedLine parts earlier bytes =
       | none ↦ elim (resolventNamed earlier bytes) [ none ↦ none | some s ↦ lineAmong (s ∷ []) bytes ]
     ]
 
--- k lines are left, `earlier` follow, and `ends` says whether the last of those is empty:
--- "accepted, or the first failing line, the line count if only the empty end is missing"
-unfoldable pub checkSteps : List Step → ℕ → List Line → Bool → List ℕ → Checked
-checkSteps parts zero earlier ends bytes = cond ends Accepted (Fails (length earlier))
-checkSteps parts (suc k) earlier ends bytes =
+-- the number of the first line that does not follow, or the lines that all state
+pub data Followed : Type 0 where
+  fails : ℕ → Followed
+  follow : List Line → Followed
+
+-- k lines are left, and `earlier` follow
+unfoldable pub followed : List Step → ℕ → List Line → List ℕ → Followed
+followed parts zero earlier bytes = follow earlier
+followed parts (suc k) earlier bytes =
     elim (statedLine parts earlier (take limit.stepBytes bytes)) [
-      | none ↦ Fails (length earlier)
-      | some l ↦ checkSteps parts k (earlier ++ (l ∷ [])) (isEmpty l) (drop limit.stepBytes bytes)
+      | none ↦ fails (length earlier)
+      | some l ↦ followed parts k (earlier ++ (l ∷ [])) (drop limit.stepBytes bytes)
     ]
 
+-- of a whole proof
+unfoldable pub followedLines : Problem → List ℕ → Followed
+followedLines p bytes = followed (loadableOf p) (length bytes / limit.stepBytes) [] bytes
+
+-- "the last is empty"; without a line, none is
+unfoldable pub endsEmpty : List Line → Bool
+endsEmpty lines = elim (getElem? lines (length lines - 1)) [ none ↦ false | some l ↦ isEmpty l ]
+
+-- "accepted, or the first failing line, the line count if only the empty end is missing"
+unfoldable pub withEmptyEnd : Followed → Checked
+withEmptyEnd (fails n) = Fails n
+withEmptyEnd (follow lines) = cond (endsEmpty lines) Accepted (Fails (length lines))
+
 unfoldable pub checkProof : Problem → List ℕ → Checked
-checkProof p bytes = checkSteps (loadableOf p) (length bytes / limit.stepBytes) [] false bytes
+checkProof p bytes = withEmptyEnd (followedLines p bytes)
 
 -- ---- a model
 -- "accepted, or the first clause that fails", from clause k on

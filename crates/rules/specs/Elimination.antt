@@ -60,7 +60,7 @@ pub data State : Type 0 where
   ended : End → List Step → ℕ → State
 
 -- ---- one line more
--- overflowing, equal to an earlier line, one too many ("full"), empty: the first of them that is true decides
+-- overflowing, dropped by an earlier line, one too many ("full"), empty: the first of them that is true decides
 unfoldable pub placed : Bool → Bool → Bool → Bool → Step → List Step → ℕ → State
 placed true known many blank s steps n = ended overflow steps n
 placed false true many blank s steps n = running steps n
@@ -68,9 +68,13 @@ placed false false true blank s steps n = ended outOfSteps steps n
 placed false false false true s steps n = ended empty (steps ++ (s ∷ [])) n
 placed false false false false s steps n = running (steps ++ (s ∷ [])) n
 
--- an earlier line covers it: "dropped if it equals an earlier line"
+-- which earlier line drops it: "dropped if it equals an earlier line in relation, marks, coefficients and bound"
+unfoldable pub drops : Line → Line → Bool
+drops earlier l = sameLine earlier l
+
+-- one of these lines does
 unfoldable pub covered : Line → List Step → Bool
-covered l steps = any (λ s. sameLine (s .line) l) steps
+covered l steps = any (λ s. drops (s .line) l) steps
 
 -- ---- a round's pairs
 -- a line with its number in the proof

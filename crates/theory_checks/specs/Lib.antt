@@ -1,4 +1,5 @@
 pub mod Follows
+pub mod EndsEmpty
 pub mod Refutation
 pub mod ProofChecked
 pub mod ModelChecked
@@ -11,3 +12,4 @@ pub mod EliminationAccepted
 pub mod ProofBytes
 pub mod Writable
 pub mod ByOffset
+pub mod LinesFollow

@@ -1,10 +1,10 @@
 -- The check accepts a proof whose lines are parts or resolvents of earlier lines, and whose last line is empty.
-use mathlib.Core.Path.{_≡_, sym, subst}
-use mathlib.Core.Bool.{Bool, true, false, _&&_}
+use mathlib.Core.Path.{_≡_, sym, ap, subst}
+use mathlib.Core.Bool.{true, _&&_}
 use mathlib.Core.Logic.{⊎-elim}
-use mathlib.Core.List.{List, [], _∷_, _++_}
+use mathlib.Core.List.{List, [], _∷_, _++_, append-assoc, append-nil}
 use mathlib.Core.Option.{some}
-use Prim.Native.Nat.{ℕ, _+_, _*_, _/_, _%_, _≤_}
+use Prim.Native.Nat.{ℕ, _+_, _-_, _*_, _/_, _%_, _≤_}
 use native.Mathlib.Omega.{arith}
 use lib.Dec.{T, eqb, leb}
 use lib.ListN.{length, length-append}
@@ -13,14 +13,14 @@ use Rattle.rules_types.specs.declared.limits.Limits.{Limits}
 use Rattle.rules_types.specs.declared.answers.Checked.the-variants.{Accepted}
 use Rattle.rules_types.specs.Limits as limit
 use Rattle.rules.specs.Problem.{Problem}
-use Rattle.rules.specs.Lines.{Variable, isEmpty}
+use Rattle.rules.specs.Lines.{Variable}
 use Rattle.rules.specs.Steps.{Step, resolved, encodeStep, encodeProof}
 use Rattle.rules.specs.Elimination.{orderOf, loadableOf}
-use Rattle.rules.specs.Checker.{pairable, statedLine, checkSteps, checkProof}
+use Rattle.rules.specs.Checker.{follow, pairable, statedLine, followed, followedLines, endsEmpty, withEmptyEnd, checkProof}
 use Rattle.rules.specs.Calls.{read, sound, wholeSteps, proofChecked}
 use Rattle.theory_lists.specs.Tests.{is-true}
 use Rattle.theory_lists.specs.All.{All, all-map, map-append}
-use Rattle.theory_lists.specs.Places.{place-below}
+use Rattle.theory_lists.specs.Places.{place-below, element-last}
 use Rattle.theory_resolution.specs.Formed.{Formed}
 use Rattle.theory_elimination.specs.Saturated.{lines}
 use Rattle.theory_elimination.specs.Origins.{Each, Derived, Justified}
@@ -28,6 +28,7 @@ use Rattle.theory_elimination.specs.Ends.{LastEmpty}
 use Rattle.theory_bytes.specs.Lines.{Encodable, AllEncodable}
 use Rattle.theory_bytes.specs.Steps.{take-step, drop-step, proof-length}
 use Rattle.theory_bytes.specs.Headers.{named-back, parents-back}
+use Rattle.theory_checks.specs.EndsEmpty.{EndsEmpty, ends-exactly}
 use Rattle.theory_checks.specs.Stated.{stated-part, stated-resolvent, at-element, derived-line, resolvent-named}
 
 -- the two lines that a resolvent names may be paired
@@ -65,23 +66,25 @@ module _ (variables : List Variable) (parts : List Step) (known : AllEncodable p
     each-stated (earlier ++ (s ∷ [])) ss (rw length-append (omega arith)) (h .1) (j .1) (q .1),
   )
 
--- ---- so the check goes through to the end
-abbrev endsEmpty : Bool → List Step → Bool
-endsEmpty ends [] = ends
-endsEmpty ends (s ∷ ss) = endsEmpty (isEmpty (s .line)) ss
+-- ---- so all lines follow
+steps-followed : (parts earlier ss : List Step) → All (λ s. Formed (s .line)) ss → Each (Stated parts) earlier ss
+    → followed parts (length ss) (lines earlier) (encodeProof ss) ≡ follow (lines (earlier ++ ss))
+unfolding followed
+steps-followed parts earlier [] f e = ap (λ (xs : List Step). follow (lines xs)) (sym (append-nil earlier))
+steps-followed parts earlier (s ∷ ss) f e =
+    let r = steps-followed parts (earlier ++ (s ∷ [])) ss (f .1) (e .1) in
+    rw (take-step s ss (f .0), followed, e .0, drop-step s ss (f .0))
+    (rw (map-append (λ (s : Step). s .line) earlier (s ∷ []), append-assoc earlier (s ∷ []) ss) at r)
 
-last-empty : (ends : Bool) (ss : List Step) (s : Step) → T (isEmpty (s .line)) → T (endsEmpty ends (ss ++ (s ∷ [])))
-last-empty ends [] s h = h
-last-empty ends (x ∷ ss) s h = last-empty (isEmpty (x .line)) ss s h
-
-steps-accepted : (parts earlier ss : List Step) (ends : Bool) → All (λ s. Formed (s .line)) ss
-    → Each (Stated parts) earlier ss → T (endsEmpty ends ss)
-    → checkSteps parts (length ss) (lines earlier) ends (encodeProof ss) ≡ Accepted
-unfolding checkSteps
-steps-accepted parts earlier [] ends f e t = rw (is-true ends t)
-steps-accepted parts earlier (s ∷ ss) ends f e t =
-    let r = steps-accepted parts (earlier ++ (s ∷ [])) ss (isEmpty (s .line)) (f .1) (e .1) t in
-    rw (take-step s ss (f .0), checkSteps, e .0, drop-step s ss (f .0)) (rw (map-append (λ (s : Step). s .line) earlier (s ∷ [])) at r)
+-- and the last is empty
+last-empty : (steps : List Step) → LastEmpty steps → EndsEmpty (lines steps)
+last-empty steps h =
+    let n : length (lines (h .before)) + 1 - 1 ≡ length (lines (h .before)) = omega arith in (
+      h .last .line,
+      rw (h .is, map-append (λ (s : Step). s .line) (h .before) (h .last ∷ []), length-append, n)
+          (element-last (lines (h .before)) (h .last .line)),
+      h .blank,
+    )
 
 -- ---- the check of a proof
 pub record Refutation (p : Problem) (steps : List Step) : Type 0 where
@@ -104,15 +107,14 @@ module _ (p : Problem) (steps : List Step) (refutation : Refutation p steps) whe
   refutation-some = rw (refutation .last .is, length-append) (omega arith)
 
   pub refutation-accepted : checkProof p (encodeProof steps) ≡ Accepted
-  unfolding checkProof
+  unfolding checkProof followedLines withEmptyEnd
   refutation-accepted =
       let n : length (encodeProof steps) / limit.stepBytes ≡ length steps = rw refutation-length (omega arith) in
-      let ends : T (endsEmpty false steps) =
-      rw (refutation .last .is) (last-empty false (refutation .last .before) (refutation .last .last) (refutation .last .blank)) in
-      rw n
-      (steps-accepted (loadableOf p) [] steps false (all-formed steps (refutation .lines))
+      let follow = steps-followed (loadableOf p) [] steps (all-formed steps (refutation .lines))
       (each-stated (orderOf p) (loadableOf p) (refutation .parts) [] steps (omega (arith, refutation .few)) (refutation .lines)
-      (refutation .origins) (refutation .pairs)) ends)
+      (refutation .origins) (refutation .pairs)) in
+      let ends = ends-exactly (lines steps) .1 (last-empty steps (refutation .last)) in
+      rw (n, follow, withEmptyEnd, is-true (endsEmpty (lines steps)) ends)
 
   module _ (limits : Limits) (q : List ℕ) (few : length steps ≤ limits .steps) where
     whole : wholeSteps limits (length (encodeProof steps)) ≡ true

@@ -1,24 +1,24 @@
 -- A proof that the check accepts is a refutation, whoever wrote it: every line holds under each assignment that satisfies the problem,
 -- with values for the split variables, and an empty line never does.
-use mathlib.Core.Path.{_≡_}
-use mathlib.Core.Bool.{Bool, true, false, not}
+use mathlib.Core.Path.{_≡_, subst}
 use mathlib.Core.List.{List, [], _∷_, _++_}
 use mathlib.Core.Option.{Option, none, some}
-use Prim.Native.Nat.{ℕ, zero, suc, _<_, _/_}
+use Prim.Native.Nat.{ℕ, zero, suc, _<_, _-_, _/_}
 use native.Mathlib.Omega.{arith}
-use lib.Dec.{T, not-T}
+use lib.Dec.{T}
 use lib.ListN.{length, take, drop}
-use Rattle.rules_types.specs.declared.answers.Checked.the-variants.{Accepted, Fails}
+use Rattle.rules_types.specs.declared.answers.Checked.the-variants.{Accepted}
 use Rattle.rules_types.specs.Limits as limit
 use Rattle.theory_lists.specs.Tests.{clash}
 use Rattle.theory_lists.specs.All.{All, all-both, all-map, all-append}
+use Rattle.theory_lists.specs.Places.{element-all}
 use Rattle.rules.specs.Problem.{Problem}
 use Rattle.rules.specs.Meaning.{Assignment, Satisfies}
-use Rattle.rules.specs.Lines.{Line, Variable, rational, boolean, lineHolds, isEmpty}
+use Rattle.rules.specs.Lines.{Line, Variable, rational, boolean, lineHolds}
 use Rattle.rules.specs.Resolve.{resolve}
 use Rattle.rules.specs.Steps.{Step}
 use Rattle.rules.specs.Elimination.{loadableOf}
-use Rattle.rules.specs.Checker.{pairable, statedLine, checkSteps, checkProof}
+use Rattle.rules.specs.Checker.{Followed, fails, follow, pairable, statedLine, followed, followedLines, checkProof}
 use Rattle.theory_lists.specs.Dropped.{DroppedOr, dropped-both}
 use Rattle.theory_resolution.specs.Holds.{Consistent, empty-fails}
 use Rattle.theory_resolution.specs.Resolution.{Resolvable, resolve-holds}
@@ -28,6 +28,7 @@ use Rattle.theory_resolution.specs.Choosing.{choosing}
 use Rattle.theory_splitting.specs.PartsForm.{LineForm}
 use Rattle.theory_splitting.specs.SplitProblem.{loadable-formed, splitting-keeps}
 use Rattle.theory_checks.specs.Follows.{Closed, stated-so}
+use Rattle.theory_checks.specs.EndsEmpty.{EndsEmpty, end-accepted}
 
 -- a line that holds, with no Boolean variable in both signs
 abbrev Follows : Assignment → Line → Type 0
@@ -42,44 +43,43 @@ resolve-follows χ d v u l h k p n a =
     dropped-both (λ m. T (lineHolds χ m)) Consistent (resolve v u l)
     (resolve-holds χ d v u l (resolvable v u l (h .1) (k .1) a) p n (h .0) (k .0)) (resolve-consistent v u l)
 
--- ---- the lines one by one; none of them is empty
-accepted-not : (n : ℕ) → Fails n ≡ Accepted → ⊥
-accepted-not n e = let z : _≡_ {A = ℕ} 0 1 = cc in omega arith
-
+-- ---- where all lines follow, all hold; and none of them is empty
 module _ (χ : Assignment) (d : 0 < χ .denominator) (parts : List Step) (h : All (λ s. Follows χ (s .line)) parts) where
-  not-empty : (l : Line) → Follows χ l → T (not (isEmpty l))
-  not-empty l f = not-T (isEmpty l) (λ t. clash (lineHolds χ l) (f .0) (empty-fails χ l t))
-
-  steps-refused : (k : ℕ) (earlier : List Line) (ends : Bool) (bytes : List ℕ) → All (Follows χ) earlier → T (not ends)
-      → checkSteps parts k earlier ends bytes ≡ Accepted → ⊥
-  unfolding checkSteps
-  steps-refused zero earlier true bytes e n a = n
-  steps-refused zero earlier false bytes e n a = accepted-not (length earlier) a
-  steps-refused (suc k) earlier ends bytes e n a =
+  followed-hold : (k : ℕ) (earlier : List Line) (bytes : List ℕ) → All (Follows χ) earlier → (lines : List Line)
+      → followed parts k earlier bytes ≡ follow lines → All (Follows χ) lines
+  unfolding followed
+  followed-hold zero earlier bytes e lines a = let q : earlier ≡ lines = cc in subst (All (Follows χ)) q e
+  followed-hold (suc k) earlier bytes e lines a =
       by (statedLine parts earlier (take limit.stepBytes bytes))
       (stated-so (Follows χ) (resolve-follows χ d) parts earlier (take limit.stepBytes bytes) h e)
-      (λ l f. steps-refused k (earlier ++ (l ∷ [])) (isEmpty l) (drop limit.stepBytes bytes)
-      (all-append (Follows χ) earlier (l ∷ []) e (f, tt)) (not-empty l f)) a
+      (λ l f. followed-hold k (earlier ++ (l ∷ [])) (drop limit.stepBytes bytes)
+      (all-append (Follows χ) earlier (l ∷ []) e (f, tt)) lines) a
     where
       by : (o : Option Line) → DroppedOr (Follows χ) o
-          → ((l : Line) → Follows χ l → checkSteps parts k (earlier ++ (l ∷ [])) (isEmpty l) (drop limit.stepBytes bytes) ≡ Accepted → ⊥)
-          → elim o [
-            | none ↦ Fails (length earlier)
-            | some l ↦ checkSteps parts k (earlier ++ (l ∷ [])) (isEmpty l)
-                (drop limit.stepBytes bytes)
-          ] ≡ Accepted → ⊥
-      by none f g a = accepted-not (length earlier) a
+          → ((l : Line) → Follows χ l → followed parts k (earlier ++ (l ∷ [])) (drop limit.stepBytes bytes) ≡ follow lines
+          → All (Follows χ) lines)
+          → _≡_ {A = Followed} (elim o [
+            | none ↦ fails (length earlier)
+            | some l ↦ followed parts k (earlier ++ (l ∷ [])) (drop limit.stepBytes bytes)
+          ]) (follow lines) → All (Follows χ) lines
+      by none f g a = absurd (let z : _≡_ {A = ℕ} 0 1 = cc in omega arith)
       by (some l) f g a = g l f a
+
+  not-empty : (lines : List Line) → All (Follows χ) lines → EndsEmpty lines → ⊥
+  not-empty lines f (l, e, t) =
+      clash (lineHolds χ l) (element-all (Follows χ) lines (length lines - 1) l e f .0) (empty-fails χ l t)
 
 -- ---- THE THEOREM
 pub accepted-proof-refutes : (p : Problem) → WellFormed p → (bytes : List ℕ) → checkProof p bytes ≡ Accepted
     → (χ : Assignment) → Satisfies χ p → ⊥
-unfolding checkProof
+unfolding checkProof followedLines
 accepted-proof-refutes p w bytes a χ s =
     let c = splitting-keeps p w χ (s .denominator) .0 s in
     let ψ = choosing (c .values) χ in
     let parts = loadableOf p in
     let consistent = all-map (λ s. LineForm (λ i. i < limit.allBooleans) (s .line)) (λ s. Consistent (s .line)) parts
     (λ s f. f .consistent) (loadable-formed p w) in
-    let follow = all-both (λ s. T (lineHolds ψ (s .line))) (λ s. Consistent (s .line)) parts (c .holds) consistent in
-    steps-refused ψ (s .denominator) parts follow (length bytes / limit.stepBytes) [] false bytes tt tt a
+    let hold = all-both (λ s. T (lineHolds ψ (s .line))) (λ s. Consistent (s .line)) parts (c .holds) consistent in
+    let x = end-accepted (followedLines p bytes) .0 a in
+    not-empty ψ (s .denominator) parts hold (x .0)
+    (followed-hold ψ (s .denominator) parts hold (length bytes / limit.stepBytes) [] bytes tt (x .0) (x .1)) (x .2)

@@ -1,5 +1,5 @@
 -- An elimination, determined: its lines are exactly the parts and resolvents in document 01's order, without those that normalizing
--- drops and those that an earlier one equals, up to the one that ended it; and its pairs are the resolvents counted. The statement
+-- drops and those that an earlier one drops, up to the one that ended it; and its pairs are the resolvents counted. The statement
 -- names neither `add` nor `load`, `tryAll` or `rounds`, and no state but theirs meets it (Determined).
 use mathlib.Core.Path.{_≡_}
 use mathlib.Core.Bool.{true, false, not}
@@ -54,7 +54,7 @@ pairs (made s ∷ xs) = suc (pairs xs)
 pairs (dropped ∷ xs) = suc (pairs xs)
 
 module _ (stops : Stops) where
-  -- where no held line equals it, there is room for it, and it is not empty
+  -- where no held line drops it, there is room for it, and it is not empty
   abbrev pub Goes : List Step → Step → Type 0
   Goes held s = T (not (covered (s .line) held)) → T (not (stops .atSteps (length held))) × T (not (isEmpty (s .line)))
 
@@ -65,7 +65,7 @@ module _ (stops : Stops) where
   Passed held (made s ∷ xs) = T (not (stops .atLine (s .line))) × Goes held s × Passed (keepOne held s) xs
   Passed held (dropped ∷ xs) = Passed held xs
 
-  -- why a line that no held one equals ends it: there is no room, or it is empty
+  -- why a line that no held one drops ends it: there is no room, or it is empty
   abbrev pub New : End → List Step → Step → Type 0
   New overflow held s = ⊥
   New outOfSteps held s = T (not (covered (s .line) held)) × T (stops .atSteps (length held))

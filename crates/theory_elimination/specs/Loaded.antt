@@ -1,4 +1,4 @@
--- Every part before the one that ended an elimination is loaded or equals a loaded one, and all are if none did.
+-- Every part before the one that ended an elimination is loaded or dropped by a loaded one, and all are if none did.
 use mathlib.Core.Path.{_≡_, refl, sym, ap, _∙_, subst}
 use mathlib.Core.Bool.{Bool, true, false}
 use mathlib.Core.Logic.{_⊎_, inl, inr, ⊎-elim}
@@ -10,16 +10,16 @@ use Rattle.rules.specs.Steps.{Step}
 use Rattle.rules.specs.Elimination.{Stops, End, State, running, ended, covered, eliminate}
 use Rattle.rules.specs.Needs.{stepsOf}
 use Rattle.theory_lists.specs.All.{All, Any, all-map, all-append, append-all, any-right}
-use Rattle.theory_saturation.specs.Equal.{covered-steps}
+use Rattle.theory_saturation.specs.Drops.{Drops, drops-self, covered-exactly}
 use Rattle.theory_elimination.specs.Induction.{members}
 use Rattle.theory_elimination.specs.Exactly.{Candidate, part, resolventsFrom, candidates, keepOne, keep, pairs, New}
 use Rattle.theory_elimination.specs.Exactly.{EndsAt, Exactly, Stopped, proofAt}
 use Rattle.theory_elimination.specs.OneLoop.{elimination-exactly}
 use Rattle.theory_elimination.specs.Kept.{stays, stays-at, keep-append}
 
--- a step of the proof is a part, and has the line of s
+-- a step of the proof is a part, and drops the line of s, as the part s itself does
 abbrev pub Loaded : List Step → List Step → Step → Type 0
-Loaded parts steps s = Any (λ x. Any (λ y. y ≡ x) parts × (x .line ≡ s .line)) steps
+Loaded parts steps s = Any (λ x. Any (λ y. y ≡ x) parts × Drops (x .line) (s .line)) steps
 
 -- ended by the part after `before`, with no pair tried; or with all parts loaded
 pub record LoadedBefore (stops : Stops) (e : End) (parts steps : List Step) (n : ℕ) : Type 0 where
@@ -50,33 +50,33 @@ module _ (parts : List Step) where
   unfolding keepOne
   one-loaded held s h a = by (covered (s .line) held) refl
     where
-      both : (xs : List Step) → All Among xs → Any (λ x. x .line ≡ s .line) xs → Loaded parts xs s
+      both : (xs : List Step) → All Among xs → Any (λ x. Drops (x .line) (s .line)) xs → Loaded parts xs s
       both [] k g = absurd g
       both (x ∷ xs) k (inl g) = inl (k .0, g)
       both (x ∷ xs) k (inr g) = inr (both xs (k .1) g)
 
       by : (known : Bool) → covered (s .line) held ≡ known → Loaded parts (elim known [ true ↦ held | false ↦ held ++ (s ∷ []) ]) s
-      by true e = both held h (covered-steps (s .line) held (rw e tt))
-      by false e = any-right (λ x. Among x × (x .line ≡ s .line)) held (s ∷ []) (inl (a, refl))
+      by true e = both held h (covered-exactly (s .line) held .0 (rw e tt))
+      by false e = any-right (λ x. Among x × Drops (x .line) (s .line)) held (s ∷ []) (inl (a, drops-self (s .line)))
 
   parts-loaded : (ss held : List Step) → All Among held → All Among ss → All (Loaded parts (keep held (map part ss))) ss
   unfolding keep
   parts-loaded [] held h a = tt
   parts-loaded (s ∷ ss) held h a = (
-    stays (λ x. Among x × (x .line ≡ s .line)) (map part ss) (keepOne held s) (one-loaded held s h (a .0)),
+    stays (λ x. Among x × Drops (x .line) (s .line)) (map part ss) (keepOne held s) (one-loaded held s h (a .0)),
     parts-loaded ss (keepOne held s) (one-among held s h (a .0)) (a .1),
   )
 
   -- and of more after them
   still : (xs : List Candidate) (held ss : List Step) → All (Loaded parts held) ss → All (Loaded parts (keep held xs)) ss
   still xs held ss h =
-      all-map (Loaded parts held) (Loaded parts (keep held xs)) ss (λ s k. stays (λ x. Among x × (x .line ≡ s .line)) xs held k) h
+      all-map (Loaded parts held) (Loaded parts (keep held xs)) ss (λ s k. stays (λ x. Among x × Drops (x .line) (s .line)) xs held k) h
 
   still-at : (stops : Stops) (e : End) (x : Candidate) (held ss : List Step) → All (Loaded parts held) ss
       → All (Loaded parts (proofAt stops e held x)) ss
   still-at stops e x held ss h =
       all-map (Loaded parts held) (Loaded parts (proofAt stops e held x)) ss
-      (λ s k. stays-at (λ x. Among x × (x .line ≡ s .line)) stops e held x k) h
+      (λ s k. stays-at (λ x. Among x × Drops (x .line) (s .line)) stops e held x k) h
 
 -- ---- where the candidates end: at a part, or behind them all
 pub record AtPart (parts : List Step) (done : List Candidate) (last : Candidate) : Type 0 where

@@ -1,5 +1,5 @@
 -- Each line of an elimination is the part or the resolvent that it names, of lines before it.
-use mathlib.Core.Path.{_≡_, refl}
+use mathlib.Core.Path.{_≡_, refl, sym, subst}
 use mathlib.Core.Bool.{Bool, false, not}
 use mathlib.Core.Logic.{_⊎_, inl, inr}
 use mathlib.Core.List.{List, [], _∷_, _++_, append-assoc, append-nil}
@@ -10,9 +10,11 @@ use lib.ListN.{drop}
 use Rattle.rules.specs.Lines.{Line, Variable, positively, negatively}
 use Rattle.rules.specs.Resolve.{resolve}
 use Rattle.rules.specs.Steps.{Step, resolved}
-use Rattle.rules.specs.Elimination.{Stops, Pair, roundOf, covered, add, eliminate}
+use Rattle.rules.specs.Elimination.{Stops, Pair, roundOf, drops, covered, add, eliminate}
 use Rattle.rules.specs.Needs.{stepsOf}
-use Rattle.theory_lists.specs.All.{Any}
+use Rattle.theory_lists.specs.Tests.{clash}
+use Rattle.theory_lists.specs.All.{All, Any, all-map, any-no}
+use Rattle.theory_saturation.specs.Drops.{Drops, drops-self}
 use Rattle.theory_saturation.specs.Rounds.{At, drop-at}
 use Rattle.theory_elimination.specs.States.{add-steps, add-new}
 use Rattle.theory_elimination.specs.Pairs.{LineAt, PairOf}
@@ -90,7 +92,7 @@ module _ (variables : List Variable) (parts : List Step) where
               (inr (derived t v vs e p l steps q r)) h;
         }) tt
 
--- ---- no two lines are equal
+-- ---- no earlier line drops one
 abbrev pub Fresh : List Step → Step → Type 0
 Fresh earlier s = T (not (covered (s .line) earlier))
 
@@ -105,3 +107,17 @@ elimination-fresh stops variables parts =
       result = λ t v vs e p l steps n q r h. add-new (Each Fresh []) stops (stops .atLine l) (resolventOf v p l) steps (suc n) h
           (each-append Fresh [] steps (resolventOf v p l) h);
     }) tt
+
+-- ---- so no two lines are equal
+abbrev pub Distinct : List Step → Step → Type 0
+Distinct earlier s = All (λ x. x .line ≡ s .line → ⊥) earlier
+
+pub fresh-distinct : (earlier ss : List Step) → Each Fresh earlier ss → Each Distinct earlier ss
+unfolding covered
+fresh-distinct earlier [] h = tt
+fresh-distinct earlier (s ∷ ss) h = (
+  all-map (λ x. T (not (drops (x .line) (s .line)))) (λ x. x .line ≡ s .line → ⊥) earlier
+      (λ x n e. clash (drops (x .line) (s .line)) (subst (λ (l : Line). Drops l (s .line)) (sym e) (drops-self (s .line))) n)
+      (any-no (λ x. drops (x .line) (s .line)) earlier (h .0)),
+  fresh-distinct (earlier ++ (s ∷ [])) ss (h .1),
+)

@@ -1,4 +1,5 @@
--- At its end without an empty line an elimination holds every part and is saturated: of every round all pairs are dropped or equal a line.
+-- At its end without an empty line an elimination holds every part and is saturated: of every round all pairs are dropped, by normalizing
+-- or by a line.
 use mathlib.Core.Path.{_≡_, refl, sym, subst}
 use mathlib.Core.Bool.{Bool, true, false, not}
 use mathlib.Core.Logic.{inl}
@@ -15,7 +16,7 @@ use Rattle.rules.specs.Needs.{stepsOf}
 use Rattle.theory_lists.specs.All.{All, Any, any-right, append-all, mapped-all, any-mapped}
 use Rattle.theory_saturation.specs.Rounds.{At}
 use Rattle.theory_saturation.specs.Covered.{AccountedFor}
-use Rattle.theory_saturation.specs.Equal.{covered-steps}
+use Rattle.theory_saturation.specs.Drops.{Drops, drops-self, covered-exactly}
 use Rattle.theory_saturation.specs.Tried.{pairs-tried}
 use Rattle.theory_saturation.specs.Saturation.{AllPairs}
 use Rattle.theory_elimination.specs.Exactly.{Candidate, part, made, dropped, resolventOr, resolventAt, resolventsFrom, candidates}
@@ -26,9 +27,9 @@ use Rattle.theory_elimination.specs.Kept.{stays}
 abbrev pub lines : List Step → List Line
 lines steps = map (λ s. s .line) steps
 
--- some line of the proof equals the candidate
+-- some line of the proof drops the candidate, as the candidate itself does
 abbrev Held : List Step → Step → Type 0
-Held steps s = Any (λ x. x .line ≡ s .line) steps
+Held steps s = Any (λ x. Drops (x .line) (s .line)) steps
 
 abbrev InProof : List Step → Candidate → Type 0
 InProof steps (part s) = Held steps s
@@ -40,14 +41,14 @@ unfolding keepOne
 kept held s = by (covered (s .line) held) refl
   where
     by : (known : Bool) → covered (s .line) held ≡ known → Held (elim known [ true ↦ held | false ↦ held ++ (s ∷ []) ]) s
-    by true e = covered-steps (s .line) held (rw e tt)
-    by false e = any-right (λ x. x .line ≡ s .line) held (s ∷ []) (inl refl)
+    by true e = covered-exactly (s .line) held .0 (rw e tt)
+    by false e = any-right (λ x. Drops (x .line) (s .line)) held (s ∷ []) (inl (drops-self (s .line)))
 
 all-kept : (xs : List Candidate) (held : List Step) → All (InProof (keep held xs)) xs
 unfolding keep
 all-kept [] held = tt
-all-kept (part s ∷ xs) held = (stays (λ x. x .line ≡ s .line) xs (keepOne held s) (kept held s), all-kept xs (keepOne held s))
-all-kept (made s ∷ xs) held = (stays (λ x. x .line ≡ s .line) xs (keepOne held s) (kept held s), all-kept xs (keepOne held s))
+all-kept (part s ∷ xs) held = (stays (λ x. Drops (x .line) (s .line)) xs (keepOne held s) (kept held s), all-kept xs (keepOne held s))
+all-kept (made s ∷ xs) held = (stays (λ x. Drops (x .line) (s .line)) xs (keepOne held s) (kept held s), all-kept xs (keepOne held s))
 all-kept (dropped ∷ xs) held = (tt, all-kept xs held)
 
 -- ---- the resolvents of one round
@@ -65,17 +66,17 @@ rounds-resolvents variables steps t (suc i) (w ∷ vs) v a h =
     rw e (rounds-resolvents variables steps (suc t) i vs v a
     (append-all (InProof steps) (map (resolventAt w) (roundPairs variables w t steps)) (resolventsFrom variables (suc t) vs steps) h .1))
 
-held-line : (steps : List Step) (s : Step) → Held steps s → Any (λ j. j ≡ s .line) (lines steps)
-held-line steps s h = any-mapped (λ j. j ≡ s .line) (λ x. x .line) steps h
+held-line : (steps : List Step) (s : Step) → Held steps s → Any (λ j. Drops j (s .line)) (lines steps)
+held-line steps s h = any-mapped (λ j. Drops j (s .line)) (λ x. x .line) steps h
 
 accounted : (steps : List Step) (v : Variable) (ps : List Pair) → All (InProof steps) (map (resolventAt v) ps)
-    → All (λ p. AccountedFor _≡_ (lines steps) (resolve v (p .upper .line) (p .lower .line))) ps
+    → All (λ p. AccountedFor Drops (lines steps) (resolve v (p .upper .line) (p .lower .line))) ps
 accounted steps v [] h = tt
 accounted steps v (p ∷ ps) h = (by (resolve v (p .upper .line) (p .lower .line)) (h .0), accounted steps v ps (h .1))
   where
-    by : (m : Option Line) → InProof steps (resolventOr v p m) → AccountedFor _≡_ (lines steps) m
+    by : (m : Option Line) → InProof steps (resolventOr v p m) → AccountedFor Drops (lines steps) m
     by none k = tt
-    by (some l) k = any-mapped (λ j. j ≡ l) (λ x. x .line) steps k
+    by (some l) k = any-mapped (λ j. Drops j l) (λ x. x .line) steps k
 
 module _ (stops : Stops) (variables : List Variable) (parts steps : List Step) (n : ℕ)
     (e : eliminate stops variables parts ≡ running steps n) where
@@ -87,16 +88,16 @@ module _ (stops : Stops) (variables : List Variable) (parts steps : List Step) (
       append-all (InProof steps) (map part parts) (resolventsFrom variables 0 variables steps)
       (subst (λ (now : List Step). All (InProof now) xs) (sym (h .proof)) (all-kept xs []))
 
-  pub elimination-loaded : All (λ x. Any (λ j. j ≡ x .line) (lines steps)) parts
+  pub elimination-loaded : All (λ x. Any (λ j. Drops j (x .line)) (lines steps)) parts
   elimination-loaded = all-of parts (mapped-all (InProof steps) part parts (complete .0))
     where
-      all-of : (ss : List Step) → All (Held steps) ss → All (λ x. Any (λ j. j ≡ x .line) (lines steps)) ss
+      all-of : (ss : List Step) → All (Held steps) ss → All (λ x. Any (λ j. Drops j (x .line)) (lines steps)) ss
       all-of [] h = tt
       all-of (s ∷ ss) h = (held-line steps s (h .0), all-of ss (h .1))
 
-  pub elimination-saturated : AllPairs _≡_ (lines steps) variables
+  pub elimination-saturated : AllPairs Drops (lines steps) variables
   unfolding roundPairs
   elimination-saturated t v a =
       let z : 0 + t ≡ t = omega arith in
       let r = rounds-resolvents variables steps 0 t variables v a (complete .1) in
-      pairs-tried _≡_ variables t v (lines steps) steps (accounted steps v (roundPairs variables v t steps) (rw z at r))
+      pairs-tried Drops variables t v (lines steps) steps (accounted steps v (roundPairs variables v t steps) (rw z at r))

@@ -54,3 +54,7 @@ module _ {A : Type 0} where
   element [] i h = absurd (omega arith)
   element (a ∷ s) zero h = (a, refl)
   element (a ∷ s) (suc i) h = element s i (omega arith)
+
+  pub element-last : (s : List A) (a : A) → getElem? (s ++ (a ∷ [])) (length s) ≡ some a
+  element-last [] a = refl
+  element-last (x ∷ s) a = element-last s a

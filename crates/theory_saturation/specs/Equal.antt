@@ -1,8 +1,6 @@
 -- The tests decide whether lines are equal, and equal lines cover.
 use mathlib.Core.Path.{_≡_, refl, subst}
-use mathlib.Core.Logic.{_↔_}
 use mathlib.Core.Bool.{Bool, true, false, _&&_, Bool·beq}
-use mathlib.Core.List.{List}
 use mathlib.Core.Option.{Option, none, some}
 use lib.Dec.{T}
 use mir.Facts.{and-yes, yes-and}
@@ -10,10 +8,7 @@ use Rattle.rules.specs.Lists.{same}
 use Rattle.rules.specs.Arithmetic.{equal}
 use Rattle.rules.specs.Problem.{Constraint}
 use Rattle.rules.specs.Lines.{Line, sameConstraint, sameLine}
-use Rattle.rules.specs.Steps.{Step}
-use Rattle.rules.specs.Elimination.{covered}
 use Rattle.theory_lists.specs.Equal.{same-yes, yes-same}
-use Rattle.theory_lists.specs.All.{Any, any-map, any-yes, yes-any}
 use Rattle.theory_vectors.specs.Sign.{equal-yes, equal-refl}
 use Rattle.theory_saturation.specs.Covered.{Covers}
 
@@ -72,7 +67,7 @@ sameLine-self l =
     (sameConstraint-self (l .constraint)) (yes-same Bool·beq beq-self (l .positive) (l .positive) refl))
     (yes-same Bool·beq beq-self (l .negative) (l .negative) refl)
 
-yes-sameLine : (l m : Line) → l ≡ m → T (sameLine l m)
+pub yes-sameLine : (l m : Line) → l ≡ m → T (sameLine l m)
 yes-sameLine l m e = subst (λ (x : Line). T (sameLine l x)) e (sameLine-self l)
 
 -- ---- so they cover
@@ -81,17 +76,3 @@ covers-refl l = record { only = λ w h. h; gives = λ χ z h. h }
 
 pub equal-covers : (j r : Line) → j ≡ r → Covers j r
 equal-covers j r e = subst (λ (m : Line). Covers j m) e (covers-refl j)
-
--- ---- what the elimination drops as known equals a line
-pub covered-steps : (r : Line) (steps : List Step) → T (covered r steps) → Any (λ s. s .line ≡ r) steps
-unfolding covered
-covered-steps r steps t = any-map (λ s. T (sameLine (s .line) r)) (λ s. s .line ≡ r) steps (λ s h. sameLine-yes (s .line) r h)
-    (any-yes (λ s. sameLine (s .line) r) steps t)
-
-pub covered-exactly : (r : Line) (steps : List Step) → T (covered r steps) ↔ Any (λ s. s .line ≡ r) steps
-unfolding covered
-covered-exactly r steps = (
-  covered-steps r steps,
-  λ h. yes-any (λ s. sameLine (s .line) r) steps
-      (any-map (λ s. s .line ≡ r) (λ s. T (sameLine (s .line) r)) steps (λ s e. yes-sameLine (s .line) r e) h),
-)

@@ -12,6 +12,7 @@ pub mod Order
 pub mod Covered
 pub mod Saturation
 pub mod Equal
+pub mod Drops
 pub mod Formed
 pub mod Flaws
 pub mod Tried

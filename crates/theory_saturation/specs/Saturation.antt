@@ -8,7 +8,7 @@ use mathlib.Core.List.{List, [], _∷_}
 use Prim.Native.Nat.{ℕ, suc, _≤_}
 use native.Mathlib.Omega.{arith}
 use lib.Dec.{T, eqb}
-use lib.ListN.{drop}
+use lib.ListN.{length, drop}
 use mir.Facts.{eqb-yes, eqb-no}
 use Rattle.rules.specs.Lists.{any, filter}
 use Rattle.rules.specs.Meaning.{Assignment}
@@ -45,17 +45,20 @@ pub record LinesHold (χ : Assignment) (S : List Line) : Type 0 where
   pub denominator : 1 ≤ χ .denominator
   pub lines : All (λ l. T (lineHolds χ l)) S
 
--- the walk by any rule, the rounds from t on
-unfoldable pub walkBy : (Variable → List Line → Assignment → Assignment) → List Variable → List Line → ℕ → List Variable → Assignment
-walkBy next variables S t [] = start
-walkBy next variables S t (v ∷ vs) = next v (filter (λ l. eqb (roundOf variables l) t) S) (walkBy next variables S (suc t) vs)
+-- the walk by any rule from an assignment on, the rounds from t on
+unfoldable pub walkBy : (Variable → List Line → Assignment → Assignment) → Assignment → List Variable → List Line → ℕ → List Variable
+    → Assignment
+walkBy next χ₀ variables S t [] = χ₀
+walkBy next χ₀ variables S t (v ∷ vs) = next v (filter (λ l. eqb (roundOf variables l) t) S) (walkBy next χ₀ variables S (suc t) vs)
 
-module _ (next : Variable → List Line → Assignment → Assignment) (rule : Rule next) (S : List Line) (variables : List Variable) where
-  walk-denominator : (t : ℕ) (vs : List Variable) → 1 ≤ walkBy next variables S t vs .denominator
-  unfolding walkBy start
-  walk-denominator t [] = omega arith
+module _ (next : Variable → List Line → Assignment → Assignment) (rule : Rule next) (χ₀ : Assignment) (z₀ : 1 ≤ χ₀ .denominator)
+    (S : List Line) (variables : List Variable) where
+  walk-denominator : (t : ℕ) (vs : List Variable) → 1 ≤ walkBy next χ₀ variables S t vs .denominator
+  unfolding walkBy
+  walk-denominator t [] = z₀
   walk-denominator t (v ∷ vs) =
-      rule .denominator v (filter (λ l. eqb (roundOf variables l) t) S) (walkBy next variables S (suc t) vs) (walk-denominator (suc t) vs)
+      rule .denominator v (filter (λ l. eqb (roundOf variables l) t) S) (walkBy next χ₀ variables S (suc t) vs)
+      (walk-denominator (suc t) vs)
 
   one-round : (t : ℕ) (v : Variable) (χ : Assignment) → 1 ≤ χ .denominator → At variables t v → RoundDone Covers S variables t v
       → HoldFrom variables (suc t) χ S → HoldFrom variables t (next v (filter (λ l. eqb (roundOf variables l) t) S) χ) S
@@ -72,34 +75,45 @@ module _ (next : Variable → List Line → Assignment → Assignment) (rule : R
       rw (rule .keeps v K χ z l (round-before variables t v l a k′)) (f .1 k′)) (split (mine l)))
       (all-both (λ l. T (mine l) → T (contains v l) → T (lineHolds χ′ l)) (λ l. suc t ≤ roundOf variables l → T (lineHolds χ l)) S now h)
 
-  module _ (placed : HaveRounds S variables) (pairs : AllPairs Covers S variables) where
-    walk-holds : (t : ℕ) (vs : List Variable) → drop t variables ≡ vs → HoldFrom variables t (walkBy next variables S t vs) S
+  -- where the lines that belong to no round hold already
+  module _ (placed : HoldFrom variables (length variables) χ₀ S) (pairs : AllPairs Covers S variables) where
+    walk-holds : (t : ℕ) (vs : List Variable) → drop t variables ≡ vs → HoldFrom variables t (walkBy next χ₀ variables S t vs) S
     unfolding walkBy
     walk-holds t [] e =
-        all-map (λ l. T (any (λ v. contains v l) variables)) (λ l. t ≤ roundOf variables l → T (lineHolds start l)) S
-        (λ l h k. absurd (omega (arith, round-below variables l h, drop-none variables t e))) placed
+        all-map (λ l. length variables ≤ roundOf variables l → T (lineHolds χ₀ l)) (λ l. t ≤ roundOf variables l → T (lineHolds χ₀ l)) S
+        (λ l h k. h (omega (arith, drop-none variables t e))) placed
     walk-holds t (v ∷ vs) e =
         let a = drop-at variables t v vs e in
-        one-round t v (walkBy next variables S (suc t) vs) (walk-denominator (suc t) vs) a (pairs t v a)
+        one-round t v (walkBy next χ₀ variables S (suc t) vs) (walk-denominator (suc t) vs) a (pairs t v a)
         (walk-holds (suc t) vs (drop-next variables t v vs e))
 
-    pub saturation-by : LinesHold (walkBy next variables S 0 variables) S
+    pub saturation-by : LinesHold (walkBy next χ₀ variables S 0 variables) S
     saturation-by =
         record {
           denominator = walk-denominator 0 variables;
-          lines = all-map (λ l. 0 ≤ roundOf variables l → T (lineHolds (walkBy next variables S 0 variables) l))
-              (λ l. T (lineHolds (walkBy next variables S 0 variables) l)) S (λ l h. h (omega arith)) (walk-holds 0 variables refl);
+          lines = all-map (λ l. 0 ≤ roundOf variables l → T (lineHolds (walkBy next χ₀ variables S 0 variables) l))
+              (λ l. T (lineHolds (walkBy next χ₀ variables S 0 variables) l)) S (λ l h. h (omega arith)) (walk-holds 0 variables refl);
         }
 
 -- ---- 01's rule and walk
 walk-is : (variables : List Variable) (S : List Line) (t : ℕ) (vs : List Variable)
-    → walkFrom variables S t vs .assignment ≡ walkBy assign variables S t vs
+    → walkFrom variables S t vs .assignment ≡ walkBy assign start variables S t vs
 unfolding walkFrom walkBy
 walk-is variables S t [] = refl
 walk-is variables S t (v ∷ vs) = rw (walk-is variables S (suc t) vs)
+
+start-denominator : 1 ≤ start .denominator
+unfolding start
+start-denominator = omega arith
+
+-- a line that has a round does not belong to none
+none-left : (S : List Line) (variables : List Variable) → HaveRounds S variables → HoldFrom variables (length variables) start S
+none-left S variables placed =
+    all-map (λ l. T (any (λ v. contains v l) variables)) (λ l. length variables ≤ roundOf variables l → T (lineHolds start l)) S
+    (λ l h k. absurd (omega (arith, round-below variables l h))) placed
 
 pub saturation : (S : List Line) (variables : List Variable) → HaveRounds S variables → AllPairs Covers S variables
     → LinesHold (walk variables S .assignment) S
 unfolding walk
 saturation S variables placed pairs = subst (λ (χ : Assignment). LinesHold χ S) (sym (walk-is variables S 0 variables))
-    (saturation-by assign assign-rule S variables placed pairs)
+    (saturation-by assign assign-rule start start-denominator S variables (none-left S variables placed) pairs)

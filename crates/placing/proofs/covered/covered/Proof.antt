@@ -1,21 +1,17 @@
 -- `covered::covered` meets its contract. Invariant: what is left of the steps decides. Assumes nothing.
 use mathlib.Core.Path.{_≡_, sym, ap, _∙_}
 use mathlib.Core.Bool.{Bool, _||_}
-use mathlib.Core.List.{List}
-use Prim.Native.Nat.{ℕ, _+_, _-_, _≤_}
+use Prim.Native.Nat.{_+_, _-_, _≤_}
 use native.Mathlib.Omega.{arith}
 use borrow.Author.Needs.{needs}
-use lib.Dec.{eqb}
-use Rattle.rules.specs.Lists.{same}
 use Rattle.rules.specs.Elimination.{covered}
 use Rattle.lines.specs.Line.{meaning}
 use Rattle.steps.specs.Decoding.{decoded, decoded-encoded}
 use Rattle.steps.specs.declared.origin.Origin.{Origin}
 use Rattle.steps.specs.Encoding.{encoded}
-use Rattle.steps.specs.Origin.{headerOf, loadedBy}
-use Rattle.steps.specs.Places.{stepAt}
-use Rattle.steps.specs.Held.{stepsIn, Words}
-use Rattle.placing.specs.Same.{behind, coveredFrom, covered-all, covered-step, covered-none}
+use Rattle.steps.specs.Origin.{headerOf, loadedBy, named-loaded}
+use Rattle.steps.specs.Held.{stepsIn, StepBytes, Words, step-bytes}
+use Rattle.placing.specs.Covered.{coveredFrom, covered-all, covered-next, covered-none}
 use Rattle.placing.proofs.covered.covered.Statement.{statement}
 use Rattle.placing.proofs.covered.covered.Tie as tie
 
@@ -31,15 +27,6 @@ loaded-requires c κs = search needs
 
 encode-requires : tie.Need-encode-requires Inv-loop μ-loop
 encode-requires c κs = search needs
-
-loop-holds : tie.Need-loop-holds Inv-loop μ-loop
-loop-holds c = (omega arith, covered-all _ _ _)
-
-slice-aggregate-same-step : tie.Need-slice-aggregate-same-step Inv-loop μ-loop
-slice-aggregate-same-step c = search needs
-
-same-step-requires : tie.Need-same-step-requires Inv-loop μ-loop
-same-step-requires c κs = search needs
 
 words : (s : tie.Start Inv-loop μ-loop) → Words (s .args .line)
 words s = record {
@@ -62,31 +49,39 @@ line-is c =
     let w = words s in
     ap decoded (bytes-are c) ∙ decoded-encoded (headerOf (loadedBy 0 0)) (s .args .line) (w .ready) (w .eight) (w .positive) (w .negative)
 
--- the invariant, of the line itself
-left : (c : tie.At-loop Inv-loop μ-loop) →
-    let s = start (c .before) in
-    covered (meaning (s .args .line)) (stepsIn (s .args .proof .now) (s .args .n))
-    ≡ coveredFrom (c .loop .i) (meaning (s .args .line)) (s .args .proof .now) (s .args .n)
-left c = rw (line-is (c .before)) at (c .loop .inv .1)
+step-is : (c : tie.After-encode Inv-loop μ-loop) → StepBytes (c .encode .result)
+step-is c =
+    rw (bytes-are c) (step-bytes (record { origin = loadedBy 0 0; line = start c .args .line })
+    (named-loaded 0 0 (omega arith) (omega arith)) (words (start c)))
+
+loop-holds : tie.Need-loop-holds Inv-loop μ-loop
+loop-holds c = (omega arith, covered-all _ _ _)
+
+slice-aggregate-drops : tie.Need-slice-aggregate-drops Inv-loop μ-loop
+slice-aggregate-drops c = search needs
+
+drops-requires : tie.Need-drops-requires Inv-loop μ-loop
+drops-requires c κs =
+    let l = c .before .before in
+    (search needs, (search needs, (start (l .before) .pre .0 .steps (l .loop .i) (omega arith), step-is (l .before))))
 
 -- one step on
-next : (c : tie.After-same-step Inv-loop μ-loop) →
+next : (c : tie.After-drops Inv-loop μ-loop) →
     let l = c .before .before .before in
     let s = start (l .before) in
-    covered (meaning (s .args .line)) (stepsIn (s .args .proof .now) (s .args .n)) ≡ c .same-step .result
-    || coveredFrom (l .loop .i + 1) (meaning (s .args .line)) (s .args .proof .now) (s .args .n)
+    let line = meaning (decoded (l .before .encode .result)) in
+    covered line (stepsIn (s .args .proof .now) (s .args .n)) ≡ c .drops .result
+    || coveredFrom (l .loop .i + 1) line (s .args .proof .now) (s .args .n)
 next c =
     let l = c .before .before .before in
-    let e = l .before in
-    let s = start e in
-    left l
-    ∙ covered-step (s .pre .0) (l .loop .i) (omega arith) (headerOf (loadedBy 0 0)) (s .args .line) (words s)
-    ∙ ap (λ (t : Bool). t || coveredFrom (l .loop .i + 1) (meaning (s .args .line)) (s .args .proof .now) (s .args .n))
-    (ap (λ (b : List ℕ). same eqb (behind (stepAt (s .args .proof .now) (l .loop .i))) (behind b)) (sym (bytes-are e))
-    ∙ sym (c .same-step .ensures))
+    let s = start (l .before) in
+    let line = meaning (decoded (l .before .encode .result)) in
+    l .loop .inv .1
+    ∙ covered-next line (s .args .proof .now) (s .args .n) (l .loop .i) (omega arith)
+    ∙ ap (λ (t : Bool). t || coveredFrom (l .loop .i + 1) line (s .args .proof .now) (s .args .n)) (sym (c .drops .ensures))
 
 returns : tie.Need-returns Inv-loop μ-loop
-returns c = sym (next (c .before) ∙ rw (c .if1 .taken))
+returns c = rw (← line-is (c .before .before .before .before .before)) (sym (next (c .before) ∙ rw (c .if1 .taken)))
 
 add-i : tie.Need-add-i Inv-loop μ-loop
 add-i c = search needs
@@ -95,13 +90,11 @@ loop-less : tie.Need-loop-less Inv-loop μ-loop
 loop-less c = search needs
 
 loop-again : tie.Need-loop-again Inv-loop μ-loop
-loop-again c = (
-  omega arith,
-  rw (line-is (c .before .before .before .before .before)) (next (c .before) ∙ rw (c .if1 .left)),
-)
+loop-again c = (omega arith, next (c .before) ∙ rw (c .if1 .left))
 
 returns-2 : tie.Need-returns-2 Inv-loop μ-loop
-returns-2 c = sym (left (c .before) ∙ covered-none _ _ _ (c .before .loop .i) (omega arith) (omega arith))
+returns-2 c = rw (← line-is (c .before .before))
+    (sym (c .before .loop .inv .1 ∙ covered-none _ _ _ (c .before .loop .i) (omega arith) (omega arith)))
 
 pub covered-spec : {M : Type 1} → statement M
 covered-spec =
@@ -112,8 +105,8 @@ covered-spec =
     loaded-requires
     encode-requires
     loop-holds
-    slice-aggregate-same-step
-    same-step-requires
+    slice-aggregate-drops
+    drops-requires
     returns
     add-i
     loop-less

@@ -1,107 +1,46 @@
--- `follow::check_steps` meets its contract. Invariant: the first i steps follow, and what is left decides. Assumes nothing.
-use mathlib.Core.Path.{_≡_, sym, ap, subst, _∙_}
-use mathlib.Core.Bool.{Bool, true, false, cond}
-use mathlib.Core.List.{List}
-use Prim.Native.Nat.{ℕ, _-_}
-use native.Mathlib.Omega.{arith}
+-- `follow::check_steps` meets its contract. Assumes nothing.
+use mathlib.Core.Path.{_≡_}
+use mathlib.Core.Bool.{cond}
+use Prim.Native.Nat.{_/_}
 use borrow.Author.Needs.{needs}
-use borrow.Author.Tests.{not-true, not-false}
+use lib.ListN.{length}
 use Rattle.rules_types.specs.declared.answers.Checked.the-variants.{Accepted, Fails}
-use Rattle.rules.specs.Elimination.{loadableOf}
-use Rattle.rules.specs.Checker.{statedLine, checkProof}
-use Rattle.steps.specs.Places.{stepAt}
-use Rattle.steps.specs.Lines.{linesIn}
-use Rattle.step_check.specs.Stated.{States}
+use Rattle.rules_types.specs.Limits.{stepBytes}
+use Rattle.rules.specs.Checker.{checkProof}
 use Rattle.problem_read.specs.Parsed.{problemAt}
-use Rattle.proof_check.specs.Checking.{Following, following-start, following-done, following-stop, following-next}
+use Rattle.proof_check.specs.Checking.{check-fails, check-follow}
 use Rattle.proof_check.proofs.follow.check_steps.Statement.{statement}
 use Rattle.proof_check.proofs.follow.check_steps.Tie as tie
 
-abbrev Inv-loop : tie.InvT-loop
-Inv-loop q sizes places variables proof count ends₀ i₀ ends i = Following (loadableOf (problemAt q sizes)) proof count ends i
+follow-steps-requires : tie.Need-follow-steps-requires
+follow-steps-requires c κs = search needs
 
-abbrev μ-loop : tie.MeasureT-loop
-μ-loop q sizes places variables proof count ends₀ i₀ ends i = count - i
+enum-known-f : tie.Need-enum-known-f
+enum-known-f c = search needs
 
-loop-holds : tie.Need-loop-holds Inv-loop μ-loop
-loop-holds c = let s = c .before .before .before .before in
-    following-start (loadableOf (problemAt (s .args .input .now) (s .args .sizes))) (s .args .proof .now) _
+enum-told : tie.Need-enum-told
+enum-told c = search needs
 
-get-requires : tie.Need-get-requires Inv-loop μ-loop
-get-requires c κs = omega (arith, c .loop-test .taken)
+ends-empty-requires : tie.Need-ends-empty-requires
+ends-empty-requires c κs = search needs
 
-abbrev start : tie.At-loop Inv-loop μ-loop → tie.Start Inv-loop μ-loop
-start l = l .before .before .before .before .before
+-- where all steps follow, the end decides
+ended : (c : tie.After-ends-empty) →
+    let a = c .before .before .before .before .before .before .before .before .args in
+    let n = length (a .proof .now) / stepBytes in
+    cond (c .ends-empty .result) Accepted (Fails n) ≡ checkProof (problemAt (a .input .now) (a .sizes)) (a .proof .now)
+ended c = check-follow _ _ (c .before .before .before .follow-steps .ensures) (c .before .enum-told .given .1) (c .ends-empty .ensures)
 
-line-stated-requires : tie.Need-line-stated-requires Inv-loop μ-loop
-line-stated-requires c κs =
-    let k = c .before in
-    let s = start (k .before) in
-    (s .pre, (omega (arith, k .loop-test .taken), k .before .loop .inv .ready))
+returns : tie.Need-returns
+returns c = rw (c .if1 .taken) at (ended (c .before))
 
--- what step i states
-stated : (c : tie.After-line-stated Inv-loop μ-loop) → let l = c .before .before .before .loop in let a =
-    start (c .before .before .before) .args in
-    States (statedLine (loadableOf (problemAt (a .input .now) (a .sizes))) (linesIn (a .proof .now) (l .i)) (stepAt (a .proof .now) (l .i)))
-    (stepAt (a .proof .now) (l .i)) (c .line-stated .result)
-stated c =
-    let l = c .before .before .before .loop in
-    let a = start (c .before .before .before) .args in
-    subst (λ (b : List ℕ). States (statedLine (loadableOf (problemAt (a .input .now) (a .sizes))) (linesIn (a .proof .now) (l .i)) b) b
-    (c .line-stated .result)) (c .before .get .ensures) (c .line-stated .ensures)
+returns-2 : tie.Need-returns-2
+returns-2 c = check-fails _ _ (c .before .before .before .follow-steps .ensures) _ (c .before .f .given .1)
 
-returns : tie.Need-returns Inv-loop μ-loop
-unfolding checkProof
-returns c =
-    let k = c .before .before in
-    let n = k .before .before in
-    let t : k .line-stated .result .found ≡ false = search (needs, not-true, not-false, c .if1) in
-    following-stop (n .before .loop .inv) (n .loop-test .taken) (k .line-stated .result) (stated k) t
-
-is-empty-requires : tie.Need-is-empty-requires Inv-loop μ-loop
-is-empty-requires c κs = search needs
-
-add-i : tie.Need-add-i Inv-loop μ-loop
-add-i c =
-    let n = c .before .before .before .before .before .before in
-    omega (arith, n .loop-test .taken, start (n .before) .good)
-
-loop-less : tie.Need-loop-less Inv-loop μ-loop
-loop-less c = search needs
-
-loop-again : tie.Need-loop-again Inv-loop μ-loop
-loop-again c =
-    let e = c .before .before in
-    let k = e .before .before in
-    let n = k .before .before in
-    let t : k .line-stated .result .found ≡ true = search (needs, not-true, not-false, e .if1) in
-    rw (c .is-empty .ensures) (following-next (n .before .loop .inv) (n .loop-test .taken) (k .line-stated .result) (stated k) t)
-
-returns-2 : tie.Need-returns-2 Inv-loop μ-loop
-unfolding checkProof
-returns-2 c =
-    let l = c .before .before .loop in
-    sym (ap (λ (b : Bool). cond b Accepted (Fails (l .i))) (c .if2 .taken)) ∙ following-done (l .inv) (c .before .loop-test .left)
-
-returns-3 : tie.Need-returns-3 Inv-loop μ-loop
-unfolding checkProof
-returns-3 c =
-    let l = c .before .before .loop in
-    sym (ap (λ (b : Bool). cond b Accepted (Fails (l .i))) (c .if2 .left)) ∙ following-done (l .inv) (c .before .loop-test .left)
+returns-3 : tie.Need-returns-3
+returns-3 c = rw (c .if1 .left) at (ended (c .before))
 
 pub check-steps-spec : {M : Type 1} → statement M
 check-steps-spec =
     tie.close
-    (tie.spec
-    Inv-loop
-    μ-loop
-    loop-holds
-    get-requires
-    line-stated-requires
-    returns
-    is-empty-requires
-    add-i
-    loop-less
-    loop-again
-    returns-2
-    returns-3)
+    (tie.spec follow-steps-requires enum-known-f enum-told ends-empty-requires returns returns-2 returns-3)

@@ -1,5 +1,5 @@
--- `covered::same_step` meets its contract. Invariant: what is left of the bytes decides. Assumes nothing.
-use mathlib.Core.Path.{_≡_, refl, sym, ap, _∙_}
+-- `covered::drops` meets its contract. Invariant: what is left of the bytes decides. Assumes nothing.
+use mathlib.Core.Path.{_≡_, sym, ap, _∙_}
 use mathlib.Core.Bool.{_&&_}
 use Prim.Native.Nat.{ℕ, _+_, _-_, _*_, _≤_}
 use native.Mathlib.Omega.{arith}
@@ -13,15 +13,19 @@ use Rattle.rules_types.specs.Limits as limit
 use Rattle.rules_types.specs.Layout as layout
 use Rattle.rules.specs.Lists.{same}
 use Rattle.rules.specs.Bytes.{fromUnsigned}
+use Rattle.rules.specs.Elimination.{drops}
 use Rattle.theory_lists.specs.Scan.{same-next, same-end}
-use Rattle.steps.specs.Places.{stepAt, HasStep, length-stepAt, byte-stepAt, field-stepAt}
-use Rattle.placing.specs.Same.{behind, same-by-field}
-use Rattle.placing.proofs.covered.same_step.Statement.{statement}
-use Rattle.placing.proofs.covered.same_step.Tie as tie
+use Rattle.lines.specs.Line.{meaning}
+use Rattle.steps.specs.Lines.{lineAt}
+use Rattle.steps.specs.Decoding.{decoded}
+use Rattle.steps.specs.Places.{stepAt, HasStep, length-stepAt, byte-stepAt}
+use Rattle.placing.specs.Same.{behind, drops-bytes, drops-by-field}
+use Rattle.placing.proofs.covered.drops.Statement.{statement}
+use Rattle.placing.proofs.covered.drops.Tie as tie
 
 abbrev Inv-loop : tie.InvT-loop
 Inv-loop proof i bytes at k₀ k = (layout.stepRelation ≤ k) × (k ≤ limit.stepBytes)
-    × (same eqb (behind (stepAt proof i)) (behind bytes) ≡ same eqb (drop k (stepAt proof i)) (drop k bytes))
+    × (drops (meaning (lineAt proof i)) (meaning (decoded bytes)) ≡ same eqb (drop k (stepAt proof i)) (drop k bytes))
 
 abbrev μ-loop : tie.MeasureT-loop
 μ-loop proof i bytes at k₀ k = limit.stepBytes - k
@@ -37,11 +41,8 @@ returns c =
     let own = c .before in
     let held = own .before in
     let s = held .before .before .before in
-    let p = s .args .proof .now in
-    let i = s .args .i in
-    sym (same-by-field layout.stepBound (stepAt p i) (s .args .bytes .now) (omega arith)
-    (λ e. c .if1 .taken (ap (ofZ w64) (held .bound-at .ensures
-    ∙ ap fromUnsigned (sym (field-stepAt p i (s .pre .0) layout.stepBound 4 (omega arith)) ∙ e) ∙ sym (own .bound-at2 .ensures)))))
+    sym (drops-by-field _ _ _ (s .pre .1 .1 .0) (s .pre .1 .1 .1) (s .pre .0) layout.stepBound (omega arith) (omega arith)
+    (λ e. c .if1 .taken (ap (ofZ w64) (held .bound-at .ensures ∙ ap fromUnsigned e ∙ sym (own .bound-at2 .ensures)))))
 
 positive-at-requires : tie.Need-positive-at-requires Inv-loop μ-loop
 positive-at-requires c κs = search needs
@@ -54,18 +55,17 @@ returns-2 c =
     let own = c .before in
     let held = own .before in
     let s = held .before .before .before .before .before .before in
-    let p = s .args .proof .now in
-    let i = s .args .i in
-    sym (same-by-field layout.stepPositive (stepAt p i) (s .args .bytes .now) (omega arith)
-    (λ e. c .if2 .taken (held .positive-at .ensures
-    ∙ sym (field-stepAt p i (s .pre .0) layout.stepPositive 4 (omega arith)) ∙ e ∙ sym (own .positive-at2 .ensures))))
+    sym (drops-by-field _ _ _ (s .pre .1 .1 .0) (s .pre .1 .1 .1) (s .pre .0) layout.stepPositive (omega arith) (omega arith)
+    (λ e. c .if2 .taken (held .positive-at .ensures ∙ e ∙ sym (own .positive-at2 .ensures))))
 
 mul-at : tie.Need-mul-at Inv-loop μ-loop
 mul-at c = search needs
 
 loop-holds : tie.Need-loop-holds Inv-loop μ-loop
 unfolding behind
-loop-holds c = (omega arith, omega arith, refl)
+loop-holds c =
+    let s = c .before .before .before .before .before .before .before .before in
+    (omega arith, omega arith, drops-bytes _ _ _ (s .pre .1 .1 .0) (s .pre .1 .1 .1))
 
 add-if3 : tie.Need-add-if3 Inv-loop μ-loop
 add-if3 c = search needs
@@ -86,7 +86,8 @@ next : (c : tie.In-loop Inv-loop μ-loop) →
     let s = start (c .before) in
     let a = stepAt (s .args .proof .now) (s .args .i) in
     let b = s .args .bytes .now in
-    same eqb (behind a) (behind b) ≡ eqb (getD (s .args .proof .now) (limit.stepBytes * s .args .i + l .k) 0) (getD b (l .k) 0)
+    drops (meaning (lineAt (s .args .proof .now) (s .args .i))) (meaning (decoded b))
+    ≡ eqb (getD (s .args .proof .now) (limit.stepBytes * s .args .i + l .k) 0) (getD b (l .k) 0)
     && same eqb (drop (l .k + 1) a) (drop (l .k + 1) b)
 next c =
     let l = c .before .loop in
@@ -121,8 +122,8 @@ returns-4 c =
     let i = s .args .i in
     sym (l .inv .2 ∙ same-end eqb (stepAt p i) (s .args .bytes .now) (l .k) (omega (arith, length-stepAt p i (s .pre .0))) (omega arith))
 
-pub same-step-spec : {M : Type 1} → statement M
-same-step-spec =
+pub drops-spec : {M : Type 1} → statement M
+drops-spec =
     tie.close
     (tie.spec
     Inv-loop
