@@ -11,8 +11,9 @@ use lib.ListN.{length, take, drop, length-append}
 use Rattle.rules_types.specs.declared.answers.Checked.{Checked}
 use Rattle.rules_types.specs.declared.answers.Checked.the-variants.{Fails}
 use Rattle.rules_types.specs.declared.limits.Limits.{Limits}
+use Rattle.rules_types.specs.declared.terms.Terms.{Terms}
 use Rattle.rules_types.specs.Limits as limit
-use Rattle.rules.specs.Problem.{Problem, Clause}
+use Rattle.rules.specs.Problem.{Problem, inEdition, Clause}
 use Rattle.rules.specs.Meaning.{Assignment, clauseHolds}
 use Rattle.rules.specs.Lines.{Line, isEmpty}
 use Rattle.rules.specs.Steps.{Step}
@@ -156,20 +157,26 @@ module _ (parts : List Step) (known : All Writable parts) where
                 rw j (then (a .0) (a .1) .1 (a .2) ∙ ap Fails (q (a .0))),
           )
 
--- ---- the calls, for a problem read without fault
-module _ (input : List ℕ) (p : Problem) (e : read input ≡ sound p) where
+-- ---- the calls, for a problem read without fault, in its edition
+module _ (terms : Terms) (input : List ℕ) (q : Problem) (e : read input ≡ sound q) where
+  abbrev limits : Limits
+  limits = terms .limits
+
+  abbrev p : Problem
+  p = inEdition (terms .edition) q
+
   pub model-fails : (bytes : List ℕ) (χ : Assignment) → limit.modelBytes ≤ length bytes
       → StatesModel bytes (p .booleans) (p .rationals) χ
-      → (k : ℕ) → modelChecked input bytes ≡ Fails k ↔ ClauseFails χ (p .clauses) k
+      → (k : ℕ) → modelChecked terms input bytes ≡ Fails k ↔ ClauseFails χ (p .clauses) k
   model-fails bytes χ h s k =
-      let q : 0 + k ≡ k = omega arith in rw (model-checks input bytes p e h χ s) (rw q at (clauses-fail χ (p .clauses) 0 k))
+      let z : 0 + k ≡ k = omega arith in rw (model-checks terms input bytes q e h χ s) (rw z at (clauses-fail χ (p .clauses) 0 k))
 
-  pub proof-fails : (limits : Limits) → limits .steps ≤ limit.mostSteps → (bytes : List ℕ) → AllBytes bytes
+  pub proof-fails : limits .steps ≤ limit.mostSteps → (bytes : List ℕ) → AllBytes bytes
       → wholeSteps limits (length bytes) ≡ true
-      → (k : ℕ) → proofChecked limits input bytes ≡ Fails k ↔ LineFails (loadableOf p) (length bytes / limit.stepBytes) [] false bytes k
+      → (k : ℕ) → proofChecked terms input bytes ≡ Fails k ↔ LineFails (loadableOf p) (length bytes / limit.stepBytes) [] false bytes k
   unfolding proofChecked checkProof
-  proof-fails limits few bytes b h k =
-      let q : 0 + k ≡ k = omega arith in
+  proof-fails few bytes b h k =
+      let z : 0 + k ≡ k = omega arith in
       let room = whole-few limits few (length bytes) (of-true (wholeSteps limits (length bytes)) h) in
-      rw (e, proofChecked, h) (rw q at (steps-fail (loadableOf p) (parts-writable p (read-well-formed input p e))
+      rw (e, proofChecked, h) (rw z at (steps-fail (loadableOf p) (parts-writable p (read-well-formed input q e))
       (length bytes / limit.stepBytes) [] false bytes k b tt (omega arith)))

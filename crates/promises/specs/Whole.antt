@@ -14,8 +14,9 @@ use Rattle.rules_types.specs.declared.answers.Refusal.the-variants.{ProofLength
 use Rattle.rules_types.specs.declared.answers.Checked.{Checked}
 use Rattle.rules_types.specs.declared.answers.Checked.the-variants.{Accepted, Fails, Refused}
 use Rattle.rules_types.specs.declared.limits.Limits.{Limits}
+use Rattle.rules_types.specs.declared.terms.Terms.{Terms}
 use Rattle.rules_types.specs.Limits as limit
-use Rattle.rules.specs.Problem.{Problem}
+use Rattle.rules.specs.Problem.{Problem, inEdition}
 use Rattle.rules.specs.Lines.{Line, isEmpty}
 use Rattle.rules.specs.Steps.{Step}
 use Rattle.rules.specs.Elimination.{loadableOf}
@@ -72,27 +73,33 @@ steps-no-refusal parts (suc k) earlier ends bytes f place e =
     by none r e = let z : _≡_ {A = ℕ} 0 1 = cc in omega arith
     by (some l) r e = r l e
 
--- ---- the call, for a problem read without fault
-module _ (input : List ℕ) (p : Problem) (e : read input ≡ sound p) (limits : Limits) (bytes : List ℕ) where
+-- ---- the call, for a problem read without fault, in its edition
+module _ (terms : Terms) (input : List ℕ) (q : Problem) (e : read input ≡ sound q) (bytes : List ℕ) where
+  abbrev limits : Limits
+  limits = terms .limits
+
+  abbrev p : Problem
+  p = inEdition (terms .edition) q
+
   abbrev whole : Bool
   whole = wholeSteps limits (length bytes)
 
   module _ (are : AllBytes bytes) (few : limits .steps ≤ limit.mostSteps) where
-    pub accepted-lines : proofChecked limits input bytes ≡ Accepted
+    pub accepted-lines : proofChecked terms input bytes ≡ Accepted
         ↔ ((k : ℕ) × WholeLines limits (length bytes) k × Refutes (loadableOf p) k bytes)
     accepted-lines =
-        let x = proof-exactly input p e limits few bytes are in (
+        let x = proof-exactly terms input q e few bytes are in (
           λ a. let h = x .0 a in (length bytes / limit.stepBytes, whole-lines limits (length bytes) (h .0), h .1),
           λ h. x .1 (lines-whole limits (length bytes) (h .0) (h .1), rw (lines-are limits (length bytes) (h .0) (h .1)) (h .2)),
         )
 
-    pub failing-line : (k : ℕ) → WholeLines limits (length bytes) k → (m : ℕ) → proofChecked limits input bytes ≡ Fails m
+    pub failing-line : (k : ℕ) → WholeLines limits (length bytes) k → (m : ℕ) → proofChecked terms input bytes ≡ Fails m
         ↔ LineFails (loadableOf p) k [] false bytes m
     failing-line k h m =
         rw (lines-are limits (length bytes) k h)
-        at (proof-fails input p e limits few bytes are (is-true whole (lines-whole limits (length bytes) k h)) m)
+        at (proof-fails terms input q e few bytes are (is-true whole (lines-whole limits (length bytes) k h)) m)
 
-  pub refused-length : (place : ℕ) → proofChecked limits input bytes ≡ Refused ProofLength place
+  pub refused-length : (place : ℕ) → proofChecked terms input bytes ≡ Refused ProofLength place
       ↔ ((place ≡ length bytes) × ((k : ℕ) → WholeLines limits (length bytes) k → ⊥))
   unfolding proofChecked checkProof
   refused-length place =
@@ -107,6 +114,6 @@ module _ (input : List ℕ) (p : Problem) (e : read input ≡ sound p) (limits :
           (let b : Refused ProofLength (length bytes) ≡ Refused ProofLength place = rw (e, proofChecked, is-false whole t) at a in cc),
           λ k h. clash whole (lines-whole limits (length bytes) k h) t,
         ),
-        λ h. proof-length-refused input p e limits bytes (is-false whole t) ∙ ap (Refused ProofLength) (sym (h .0)),
+        λ h. proof-length-refused terms input q e bytes (is-false whole t) ∙ ap (Refused ProofLength) (sym (h .0)),
       ))
       (split whole)
