@@ -150,7 +150,8 @@ module _ (terms : Terms) (input : List ℕ) (q : Problem) (e : read input ≡ so
 
   pub model-exactly : (bytes : List ℕ) → modelChecked terms input bytes ≡ Accepted ↔ WritesAssignment p bytes
   model-exactly bytes = (
-    λ a. let c = model-checked-satisfies terms input bytes a in read-assignment bytes c (same-problem (read input) (c .problem) q (c .reads) e),
+    λ a. let c = model-checked-satisfies terms input bytes a in
+        read-assignment bytes c (same-problem (read input) (c .problem) q (c .reads) e),
     λ h. satisfying-model-checked terms input bytes q e (h .size) (h .assignment) (h .stated) (h .satisfies),
   )
 

@@ -48,7 +48,8 @@ pub record ChecksModel (terms : Terms) (input bytes : List ℕ) (says : Checked)
   pub accepted : (p : Problem) → read input ≡ sound p → (says ≡ Accepted) ↔ WritesAssignment (inEdition (terms .edition) p) bytes
   -- "the first clause that fails"
   pub fails : (p : Problem) → read input ≡ sound p → (χ : Assignment) → limit.modelBytes ≤ length bytes
-      → StatesModel bytes (p .booleans) (p .rationals) χ → (n : ℕ) → (says ≡ Fails n) ↔ ClauseFails χ (inEdition (terms .edition) p .clauses) n
+      → StatesModel bytes (p .booleans) (p .rationals) χ → (n : ℕ) → (says ≡ Fails n)
+      ↔ ClauseFails χ (inEdition (terms .edition) p .clauses) n
 
 pub checks-proof : (terms : Terms) → terms .limits .steps ≤ limit.mostSteps → (input proof : List ℕ) → AllBytes proof
     → ChecksProof terms input proof (proofChecked terms input proof)

@@ -32,8 +32,8 @@ pub record Demand1 (terms : Terms) (input lentProof lentModel : List ℕ) (ours 
   -- verdict,": the lines, zeros, and what lay beyond; the value rule's model after "agrees", zeros otherwise, and what lay beyond
   pub proof : FullSize (terms .limits) lentProof lentModel → (p : Problem) → read input ≡ sound p → terms .limits .steps ≤ limit.mostSteps
       → (v : Verdict) → Comes v (ours .solved .answer) → HoldsLines (terms .limits) (inEdition (terms .edition) p) (ours .proof) lentProof
-  pub satisfiable : FullSize (terms .limits) lentProof lentModel → (p : Problem) → read input ≡ sound p → Comes Satisfiable (ours .solved .answer)
-      → OurModel (inEdition (terms .edition) p) ours lentModel
+  pub satisfiable : FullSize (terms .limits) lentProof lentModel → (p : Problem) → read input ≡ sound p
+      → Comes Satisfiable (ours .solved .answer) → OurModel (inEdition (terms .edition) p) ours lentModel
   pub others : FullSize (terms .limits) lentProof lentModel → (p : Problem) → read input ≡ sound p → (v : Verdict)
       → Comes v (ours .solved .answer) → (v ≡ Satisfiable → ⊥)
       → ours .model ≡ replicate limit.modelBytes 0 ++ drop limit.modelBytes lentModel
@@ -44,8 +44,10 @@ pub record Demand1 (terms : Terms) (input lentProof lentModel : List ℕ) (ours 
   pub faultyInput : FullSize (terms .limits) lentProof lentModel → (f : Refusal) (place : ℕ) → read input ≡ faulty f place
       → ours ≡ untouched f place lentProof lentModel
   -- "a zeroed book and the old sheet after a refused course."
-  pub refusedElimination : FullSize (terms .limits) lentProof lentModel → (p : Problem) → read input ≡ sound p → LimitMet (ours .solved .answer)
-      → (ours .proof ≡ replicate (limit.proofBytes (terms .limits)) 0 ++ drop (limit.proofBytes (terms .limits)) lentProof) × (ours .model ≡ lentModel)
+  pub refusedElimination : FullSize (terms .limits) lentProof lentModel → (p : Problem) → read input ≡ sound p
+      → LimitMet (ours .solved .answer)
+      → (ours .proof ≡ replicate (limit.proofBytes (terms .limits)) 0 ++ drop (limit.proofBytes (terms .limits)) lentProof)
+      × (ours .model ≡ lentModel)
   -- "and names the first fault in 01's order.": which problem the bytes are, or which fault is the first, is said of the bytes alone; the
   -- checks too name it, before they look at proof or model
   pub reads : AllBytes input → (p : Problem) → (read input ≡ sound p) ↔ IsProblem input p

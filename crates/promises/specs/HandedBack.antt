@@ -99,7 +99,8 @@ module _ (terms : Terms) (input proof model : List ℕ) (ours : Solving) (d : De
     unfolding elimination
     few-lines v c =
         let r = verdict-read v c in
-        rw (third (r .problem) (r .reads) (r .full) .lines) (limited-held limits order (loadableOf (inEdition (terms .edition) (r .problem))))
+        rw (third (r .problem) (r .reads) (r .full) .lines)
+        (limited-held limits order (loadableOf (inEdition (terms .edition) (r .problem))))
 
     model-of : (n : ℕ) → part ≡ OfModel n → modelChecked terms input (take n (ours .model)) ≡ Accepted
     model-of n = by-part h (λ e. e ≡ OfModel n → modelChecked terms input (take n (ours .model)) ≡ Accepted)

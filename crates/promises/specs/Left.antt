@@ -42,7 +42,8 @@ module _ (terms : Terms) (input proof′ model : List ℕ) where
         (lines-held limits few p (read-well-formed input q e) proof′ v)
 
     pub satisfiable : Comes Satisfiable (ours .solved .answer) → OurModel p ours model
-    satisfiable = by (λ s. Comes Satisfiable (s .solved .answer) → OurModel p s model) (our-model limits p (read-well-formed input q e) proof′ model)
+    satisfiable = by (λ s. Comes Satisfiable (s .solved .answer) → OurModel p s model)
+        (our-model limits p (read-well-formed input q e) proof′ model)
 
     pub others : (v : Verdict) → Comes v (ours .solved .answer) → (v ≡ Satisfiable → ⊥)
         → ours .model ≡ replicate limit.modelBytes 0 ++ drop limit.modelBytes model

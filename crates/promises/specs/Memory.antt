@@ -134,8 +134,10 @@ sizes-kept terms input proof model =
     (kept-faulted (terms .limits) proof model refusal.ShortModel 0))
     (λ u. by (record { proofSize = z; modelSize = nltb→le (length model) limit.modelBytes u }) (read input) refl) (split S)) (split B)
   where
-    by : FullSize (terms .limits) proof model → (r : Reading) → read input ≡ r → SameLengths (terms .limits) proof model (lent terms input proof model)
+    by : FullSize (terms .limits) proof model → (r : Reading) → read input ≡ r
+        → SameLengths (terms .limits) proof model (lent terms input proof model)
     by full (faulty f place) e =
-        rw (lent-fault terms input proof model (full .proofSize) (full .modelSize) f place e) (kept-faulted (terms .limits) proof model f place)
+        rw (lent-fault terms input proof model (full .proofSize) (full .modelSize) f place e)
+        (kept-faulted (terms .limits) proof model f place)
     by full (sound p) e = rw (lent-sound terms input proof model (full .proofSize) (full .modelSize) p e)
         (kept-elimination terms proof model full input p e)

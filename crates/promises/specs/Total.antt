@@ -32,7 +32,8 @@ use Rattle.promises.specs.Left as left
 
 pub record Total (terms : Terms) (input proof model : List ℕ) (answer : Answer) : Type 0 where
   -- for a problem read without fault and full-size buffers
-  pub comes : (p : Problem) → read input ≡ sound p → FullSize (terms .limits) proof model → ((v : Verdict) × Comes v answer) ⊎ LimitMet answer
+  pub comes : (p : Problem) → read input ≡ sound p → FullSize (terms .limits) proof model
+      → ((v : Verdict) × Comes v answer) ⊎ LimitMet answer
   -- for all others
   pub refuses : ((p : Problem) → read input ≡ sound p → FullSize (terms .limits) proof model → ⊥)
       → (f : Refusal) × IsRefused f answer × (1 ≤ refusalNumber f) × (refusalNumber f ≤ 13)

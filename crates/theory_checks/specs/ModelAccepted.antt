@@ -20,8 +20,8 @@ use Rattle.theory_layout.specs.WrittenModels.{written-model}
 
 module _ (terms : Terms) (q : List ℕ) (p : Problem) (e : read q ≡ sound p) where
   -- whatever stands behind the model's 64 bytes
-  pub model-accepted : (χ : Assignment) (rest : List ℕ) → Fitting (p .booleans) (p .rationals) χ → Satisfies χ (inEdition (terms .edition) p)
-      → modelChecked terms q (encodeModel (p .booleans) (p .rationals) χ ++ rest) ≡ Accepted
+  pub model-accepted : (χ : Assignment) (rest : List ℕ) → Fitting (p .booleans) (p .rationals) χ
+      → Satisfies χ (inEdition (terms .edition) p) → modelChecked terms q (encodeModel (p .booleans) (p .rationals) χ ++ rest) ≡ Accepted
   model-accepted χ rest f s =
       let m = written-model (p .booleans) (p .rationals) χ f rest in
       satisfying-model-checked terms q (encodeModel (p .booleans) (p .rationals) χ ++ rest) p e (m .room) χ (m .states) s

@@ -84,8 +84,8 @@ model-checked-satisfies terms input bytes a = by (read input) refl
 
 -- ---- and back
 -- the assignment that is read agrees with every one that the bytes state
-module _ (terms : Terms) (input bytes : List ℕ) (p : Problem) (e : read input ≡ sound p) (size : limit.modelBytes ≤ length bytes) (χ : Assignment)
-    (s : StatesModel bytes (p .booleans) (p .rationals) χ) where
+module _ (terms : Terms) (input bytes : List ℕ) (p : Problem) (e : read input ≡ sound p) (size : limit.modelBytes ≤ length bytes)
+    (χ : Assignment) (s : StatesModel bytes (p .booleans) (p .rationals) χ) where
   abbrev b : ℕ
   b = p .booleans
 
