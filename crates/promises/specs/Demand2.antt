@@ -43,6 +43,7 @@ use Rattle.promises.specs.HandedBack.{HandedBack, handed-after}
 use Rattle.promises.specs.Demand1.{demand1}
 use Rattle.promises.specs.Demand3.{demand3}
 
+-- for Q, the problem that was read, in its edition: `p`
 pub record Demand2 (edition : ℕ) (input : List ℕ) (p : Problem) : Type 0 where
   -- "Our book is the course of the published Davis-Putnam and Fourier-Motzkin rules as 01 sets it out: each line is the clause or
   -- resolvent it names,": a part, the one that it names, or the resolvent of two earlier lines of its round; no two are equal,

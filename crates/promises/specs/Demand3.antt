@@ -35,6 +35,7 @@ use Rattle.promises.specs.Reported.{solve-is, reported-lines, reported-p
 use Rattle.promises.specs.First.{overflow-first, out-of-steps-first}
 use Rattle.promises.specs.Evidence.{our-model, our-proof}
 
+-- for Q, the problem that was read, in its edition: `p`
 pub record Demand3 (terms : Terms) (input : List ℕ) (p : Problem) (lentProof lentModel : List ℕ) (ours : Solving) : Type 0 where
   -- "Suppose Q's course, to its first empty line or its end, needs at most 1,024 lines and no amount in a tidied result beyond
   -- 1,000,000,000 in size. Then "cannot agree" comes exactly when no choice of marks and rational figures satisfies Q."

@@ -22,7 +22,7 @@ fn faulted(f: Refusal, place: usize) -> Solved
     }
 }
 
-// With every number of lines up to 65,536.
+// On all terms: as many lines as a parent's two bytes can number.
 pub fn solve_within(input: &[u8], proof: &mut [u8], model: &mut [u8], terms: Terms) -> Solved
     requires { ⌜ terms .limits .steps ≤ mostSteps ⌝ }
     ensures { λ s. ⌜ s ≡ solve terms (now (input .entry)) (now (proof .entry)) (now (model .entry)) .solved ⌝ }
