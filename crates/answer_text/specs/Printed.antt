@@ -15,7 +15,7 @@ use Rattle.rules_types.specs.declared.limits.Limits.{Limits}
 use Rattle.rules_types.specs.Limits as limit
 use Rattle.rules_types.specs.Terms.{standard}
 use Rattle.rules_types.specs.Answers.{verdictNumber}
-use Rattle.rules.specs.Problem.{Problem}
+use Rattle.rules.specs.Problem.{Problem, inEdition}
 use Rattle.rules.specs.Steps.{Step, encodeProof}
 use Rattle.rules.specs.Elimination.{State, running, ended, empty, overflow, outOfSteps, order, limited, loadableOf, elimination}
 use Rattle.rules.specs.Needs.{stepsOf}
@@ -29,7 +29,7 @@ use Rattle.theory_resolution.specs.Formed.{Formed}
 use Rattle.theory_bytes.specs.Steps.{proof-length, take-proof}
 use Rattle.theory_layout.specs.Steps.{Writable}
 use Rattle.theory_splitting.specs.Lent.{lent-full}
-use Rattle.theory_splitting.specs.Reading.{read-well-formed}
+use Rattle.theory_splitting.specs.Reading.{posed-well-formed}
 use Rattle.theory_splitting.specs.WellFormed.{WellFormed}
 use Rattle.theory_elimination.specs.WithinLimits.{limited-held}
 use Rattle.theory_checks.specs.Writable.{elimination-writable}
@@ -80,9 +80,11 @@ outcome-printable q = by (read q) refl
   where
     by : (r : Reading) → read q ≡ r → PrintableOutcome (outcome standard q)
     by (faulty f place) e = rw (e, outcome) tt
-    by (sound p) e =
-        rw (e, outcome) (concluded-printable p (read-well-formed q p e) (elimination (limited limit.standard) p)
-        (limited-held limit.standard order (loadableOf p)) (numbered p (read-well-formed q p e) limit.standard (omega arith)))
+    by (sound asked) e =
+        let p = inEdition (standard .edition) asked in
+        let w = posed-well-formed (standard .edition) q asked e in
+        rw (e, outcome) (concluded-printable p w (elimination (limited limit.standard) p)
+        (limited-held limit.standard order (loadableOf p)) (numbered p w limit.standard (omega arith)))
 
 -- ---- what is handed back
 module _ (n : ℕ) (proof model : List ℕ) (l : length proof ≡ limit.proofBytes limit.standard) (m : length model ≡ limit.modelBytes)

@@ -30,7 +30,7 @@ use Rattle.theory_checks.specs.ProofChecked.{refused-not, same-problem}
 use Rattle.theory_checks.specs.ModelChecked.{CheckedModel, model-checked-satisfies, satisfying-model-checked}
 use Rattle.theory_lists.specs.All.{All, all-append}
 use Rattle.theory_splitting.specs.WellFormed.{WellFormed}
-use Rattle.theory_splitting.specs.Reading.{read-well-formed}
+use Rattle.theory_splitting.specs.Reading.{posed-well-formed}
 use Rattle.theory_bytes.specs.Bytes.{AllBytes}
 use Rattle.theory_bytes.specs.Lines.{Encodable}
 use Rattle.theory_layout.specs.Offsets.{FirstBadField}
@@ -132,7 +132,7 @@ module _ (terms : Terms) (input : List ℕ) (q : Problem) (e : read input ≡ so
   proof-exactly few bytes b =
       let whole = wholeSteps limits (length bytes) in
       ⊎-elim
-      (λ t. let x = accepted-exactly p (read-well-formed input q e) bytes b (whole-few limits few (length bytes) t) in
+      (λ t. let x = accepted-exactly p (posed-well-formed (terms .edition) input q e) bytes b (whole-few limits few (length bytes) t) in
       (λ a. (t, x .0 (rw (e, proofChecked, is-true whole t) at a)), λ h. rw (e, proofChecked, is-true whole t) (x .1 (h .1))))
       (λ t. (
         λ a. absurd (refused-not ProofLength (length bytes) (rw (e, proofChecked, is-false whole t) at a)),
@@ -170,7 +170,7 @@ module _ (terms : Terms) (input : List ℕ) (q : Problem) (e : read input ≡ so
       → modelChecked terms input bytes ≡ Refused BadModel place ↔ FirstBadField bytes (p .booleans) (p .rationals) place
   unfolding modelChecked
   model-field-refused bytes h place =
-      let w = read-well-formed input q e in
+      let w = posed-well-formed (terms .edition) input q e in
       let x = refused-exactly bytes (p .booleans) (p .rationals) h (w .booleans) (w .rationals) place in (
         λ a. x .0 (by (model (p .booleans) (p .rationals) bytes 0) refl
             (rw (e, modelChecked, le-ltb (length bytes) limit.modelBytes h) at a)),

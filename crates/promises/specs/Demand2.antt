@@ -27,7 +27,7 @@ use Rattle.theory_resolution.specs.Result.{IsResolvent, resolve-is}
 use Rattle.theory_splitting.specs.WellFormed.{splitsIn}
 use Rattle.theory_splitting.specs.SplitsInto.{SplitsInto, clause-splits}
 use Rattle.theory_splitting.specs.Count.{splits-number}
-use Rattle.theory_splitting.specs.Reading.{read-well-formed}
+use Rattle.theory_splitting.specs.Reading.{posed-well-formed}
 use Rattle.theory_elimination.specs.Sound.{Sound}
 use Rattle.theory_elimination.specs.Origins.{Each, Justified, Fresh}
 use Rattle.theory_elimination.specs.InOrder.{InOrder, round-in-order}
@@ -76,10 +76,10 @@ demand2 edition input q e = let p = inEdition edition q in record {
   lines = elimination-lines p;
   parts = every-part p;
   splits = splits-number;
-  pieces = clause-splits p (read-well-formed input q e);
+  pieces = clause-splits p (posed-well-formed edition input q e);
   resolvents = resolve-is;
   distinct = elimination-distinct p;
-  normalized = λ stops. elimination-normalized p stops (read-well-formed input q e);
+  normalized = λ stops. elimination-normalized p stops (posed-well-formed edition input q e);
   exactly = elimination-is p;
   only = elimination-only p;
   inOrder = round-in-order order;

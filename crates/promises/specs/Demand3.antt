@@ -25,7 +25,7 @@ use Rattle.rules.specs.Calls.{sound, read, Solving, solve, proofChecked}
 use Rattle.theory_vectors.specs.Amounts.{SmallAmounts, overflows-no}
 use Rattle.theory_elimination.specs.Events.{events}
 use Rattle.promises.specs.Decided.{NoAssignment}
-use Rattle.theory_splitting.specs.Reading.{read-well-formed}
+use Rattle.theory_splitting.specs.Reading.{posed-well-formed}
 use Rattle.theory_checks.specs.ProofChecked.{proof-checked-refutes}
 use Rattle.promises.specs.Words.{SomeAssignment, modelOf, GivesModel, OurModel, HoldsLines, Comes, IsRefused, LimitMet, firstStop}
 use Rattle.promises.specs.Words.{FullSize}
@@ -71,7 +71,7 @@ pub demand3 : (terms : Terms) → terms .limits .steps ≤ limit.mostSteps → (
 demand3 terms few input q e proof model full =
     let limits = terms .limits in
     let p = inEdition (terms .edition) q in
-    let w = read-well-formed input q e in
+    let w = posed-well-formed (terms .edition) input q e in
     subst (Demand3 terms input p proof model) (sym (solve-is terms input q e proof model full))
     (record {
       unsatisfiable = unsatisfiable-exactly limits p w;

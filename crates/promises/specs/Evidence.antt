@@ -21,7 +21,7 @@ use Rattle.rules.specs.Calls.{sound, read, concluded, said, proofAfter, modelAf
 use Rattle.theory_lists.specs.All.{All, all-map}
 use Rattle.theory_resolution.specs.Formed.{Formed}
 use Rattle.theory_splitting.specs.WellFormed.{WellFormed}
-use Rattle.theory_splitting.specs.Reading.{read-well-formed}
+use Rattle.theory_splitting.specs.Reading.{posed-well-formed}
 use Rattle.theory_elimination.specs.Sound.{Sound, elimination-sound}
 use Rattle.theory_bytes.specs.Steps.{take-proof}
 use Rattle.theory_checks.specs.EliminationAccepted.{elimination-accepted}
@@ -89,7 +89,7 @@ module _ (terms : Terms) (input : List ℕ) (q : Problem) (e : read input ≡ so
     unfolding elimination stepsOf
     formed steps n c =
         all-map (λ s. Sound (s .line)) (λ s. Formed (s .line)) steps (λ s h. h .formed) (subst (λ (s : State). All (λ x. Sound (x .line))
-        (stepsOf s)) c (elimination-sound p (read-well-formed input q e) (limited limits) order))
+        (stepsOf s)) c (elimination-sound p (posed-well-formed (terms .edition) input q e) (limited limits) order))
 
     pub our-proof : Comes Unsatisfiable (answerOf (concluded p (elimination (limited limits) p)))
         → proofChecked terms input (take (limit.stepBytes * answerValue (answerOf (concluded p (elimination (limited limits) p))))

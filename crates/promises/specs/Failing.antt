@@ -22,7 +22,7 @@ use Rattle.rules.specs.Checker.{statedLine, checkSteps, checkProof, checkClause
 use Rattle.rules.specs.Calls.{sound, read, wholeSteps, proofChecked, modelChecked}
 use Rattle.theory_lists.specs.All.{All, all-append}
 use Rattle.theory_lists.specs.Tests.{of-true}
-use Rattle.theory_splitting.specs.Reading.{read-well-formed}
+use Rattle.theory_splitting.specs.Reading.{posed-well-formed}
 use Rattle.theory_bytes.specs.Bytes.{AllBytes}
 use Rattle.theory_bytes.specs.Lines.{Encodable}
 use Rattle.theory_layout.specs.Offsets.{StatesModel}
@@ -178,5 +178,5 @@ module _ (terms : Terms) (input : List ℕ) (q : Problem) (e : read input ≡ so
   proof-fails few bytes b h k =
       let z : 0 + k ≡ k = omega arith in
       let room = whole-few limits few (length bytes) (of-true (wholeSteps limits (length bytes)) h) in
-      rw (e, proofChecked, h) (rw z at (steps-fail (loadableOf p) (parts-writable p (read-well-formed input q e))
+      rw (e, proofChecked, h) (rw z at (steps-fail (loadableOf p) (parts-writable p (posed-well-formed (terms .edition) input q e))
       (length bytes / limit.stepBytes) [] false bytes k b tt (omega arith)))

@@ -24,7 +24,7 @@ use Rattle.rules.specs.Elimination.{order, loadableOf, elimination}
 use Rattle.rules.specs.Calls.{Reading, faulty, sound, read, Solving, proofChecked, modelChecked}
 use Rattle.theory_lists.specs.Tests.{split}
 use Rattle.theory_layout.specs.WrittenModels.{front-states}
-use Rattle.theory_splitting.specs.Reading.{read-well-formed}
+use Rattle.theory_splitting.specs.Reading.{posed-well-formed}
 use Rattle.theory_checks.specs.ModelChecked.{satisfying-model-checked}
 use Rattle.theory_elimination.specs.WithinLimits.{limited-held}
 use Rattle.promises.specs.Words.{walkOf, Comes, FullSize}
@@ -77,7 +77,7 @@ module _ (terms : Terms) (input proof model : List ℕ) (ours : Solving) (d : De
         let r = verdict-read Satisfiable c in
         let p = inEdition (terms .edition) (r .problem) in
         let s = d .satisfiable (r .full) (r .problem) (r .reads) c in
-        let w = read-well-formed input (r .problem) (r .reads) in
+        let w = posed-well-formed (terms .edition) input (r .problem) (r .reads) in
         let size : length (take limit.modelBytes (ours .model)) ≡ limit.modelBytes =
         length-take-le limit.modelBytes (ours .model) (s .written .room) in
         satisfying-model-checked terms input (take limit.modelBytes (ours .model)) (r .problem) (r .reads) (omega (arith, size))

@@ -14,7 +14,7 @@ use Rattle.rules_types.specs.Limits as limit
 use Rattle.rules.specs.Problem.{Problem, inEdition}
 use Rattle.rules.specs.Elimination.{limited, elimination}
 use Rattle.rules.specs.Calls.{faulty, sound, Outcome, faulted, read, concluded, said, proofAfter, modelAfter, Solving, solve, lent}
-use Rattle.theory_splitting.specs.Reading.{read-well-formed}
+use Rattle.theory_splitting.specs.Reading.{posed-well-formed}
 use Rattle.theory_splitting.specs.Lent.{lent-short-proof, lent-short-model, lent-fault}
 use Rattle.promises.specs.Words.{Comes, LimitMet, FullSize, HoldsLines, OurModel}
 use Rattle.promises.specs.Reported.{left, solve-is, lines-held}
@@ -39,11 +39,11 @@ module _ (terms : Terms) (input proof′ model : List ℕ) where
     pub proof : limits .steps ≤ limit.mostSteps → (v : Verdict) → Comes v (ours .solved .answer)
         → HoldsLines limits p (ours .proof) proof′
     proof few v = by (λ s. Comes v (s .solved .answer) → HoldsLines limits p (s .proof) proof′)
-        (lines-held limits few p (read-well-formed input q e) proof′ v)
+        (lines-held limits few p (posed-well-formed (terms .edition) input q e) proof′ v)
 
     pub satisfiable : Comes Satisfiable (ours .solved .answer) → OurModel p ours model
     satisfiable = by (λ s. Comes Satisfiable (s .solved .answer) → OurModel p s model)
-        (our-model limits p (read-well-formed input q e) proof′ model)
+        (our-model limits p (posed-well-formed (terms .edition) input q e) proof′ model)
 
     pub others : (v : Verdict) → Comes v (ours .solved .answer) → (v ≡ Satisfiable → ⊥)
         → ours .model ≡ replicate limit.modelBytes 0 ++ drop limit.modelBytes model

@@ -24,7 +24,7 @@ use Rattle.rules.specs.Calls.{modelAfter, solve}
 use Rattle.theory_lists.specs.Tests.{split}
 use Rattle.theory_lists.specs.All.{All, all-map}
 use Rattle.theory_resolution.specs.Formed.{Formed}
-use Rattle.theory_splitting.specs.Reading.{read-well-formed}
+use Rattle.theory_splitting.specs.Reading.{posed-well-formed}
 use Rattle.theory_splitting.specs.Lent.{lent-short-proof, lent-short-model, lent-fault, lent-sound}
 use Rattle.theory_elimination.specs.WithinLimits.{limited-held}
 use Rattle.theory_elimination.specs.Sound.{Sound, elimination-sound}
@@ -99,7 +99,7 @@ module _ (terms : Terms) (proof model : List ℕ) (full : FullSize (terms .limit
     kept-finished steps n c f h none m = kept-decided Unwritten steps n noModel f h refl
     kept-finished steps n c f h (some bytes) m =
         kept-decided Satisfiable steps n bytes f h (written-accepted terms input q e (walk order (map (λ s. s .line) steps)) bytes [] m
-        (running-satisfies p (read-well-formed input q e) (limited limits) steps n c) .0)
+        (running-satisfies p (posed-well-formed (terms .edition) input q e) (limited limits) steps n c) .0)
 
     kept-concluded : (s : State) → elimination (limited limits) p ≡ s → All (λ x. Formed (x .line)) (stepsOf s)
         → length (stepsOf s) ≤ limits .steps → SameLengths limits proof model (concluded p s)
@@ -114,7 +114,7 @@ module _ (terms : Terms) (proof model : List ℕ) (full : FullSize (terms .limit
     kept-elimination =
         kept-concluded (elimination (limited limits) p) refl
         (all-map (λ s. Sound (s .line)) (λ s. Formed (s .line)) (stepsOf (elimination (limited limits) p)) (λ s h. h .formed)
-        (elimination-sound p (read-well-formed input q e) (limited limits) order))
+        (elimination-sound p (posed-well-formed (terms .edition) input q e) (limited limits) order))
         (limited-held limits order (loadableOf p))
 
 kept-faulted : (limits : Limits) (proof model : List ℕ) (f : Refusal) (place : ℕ) → SameLengths limits proof model (faulted f place)

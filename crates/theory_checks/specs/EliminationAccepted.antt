@@ -20,7 +20,7 @@ use Rattle.theory_lists.specs.Dropped.{dropped-is}
 use Rattle.theory_vectors.specs.Amounts.{overflows-no}
 use Rattle.theory_resolution.specs.Formed.{Formed, resolve-formed}
 use Rattle.theory_splitting.specs.WellFormed.{WellFormed}
-use Rattle.theory_splitting.specs.Reading.{read-well-formed}
+use Rattle.theory_splitting.specs.Reading.{posed-well-formed}
 use Rattle.theory_splitting.specs.PartsForm.{LineForm}
 use Rattle.theory_splitting.specs.SplitProblem.{loadable-formed}
 use Rattle.theory_elimination.specs.Closed.{line-at, elimination-closed-unstopped}
@@ -87,6 +87,6 @@ pub elimination-accepted : (terms : Terms) → terms .limits .steps ≤ limit.mo
     → proofChecked terms q (encodeProof steps) ≡ Accepted
 elimination-accepted terms few q p e steps n f =
     let posed = inEdition (terms .edition) p in
-    let w = read-well-formed q p e in
+    let w = posed-well-formed (terms .edition) q p e in
     proof-accepted terms q p e steps (elimination-refutation (terms .limits) posed w few steps n f)
     (held (terms .limits) posed w few steps n f)

@@ -21,7 +21,7 @@ use Rattle.rules.specs.Meaning.{Assignment, clauseHolds, Satisfies}
 use Rattle.rules.specs.Model.{model}
 use Rattle.rules.specs.Checker.{checkClauses}
 use Rattle.rules.specs.Calls.{Reading, faulty, sound, read, modelChecked}
-use Rattle.theory_splitting.specs.Reading.{read-well-formed}
+use Rattle.theory_splitting.specs.Reading.{read-well-formed, posed-well-formed}
 use Rattle.theory_layout.specs.Offsets.{StatesModel}
 use Rattle.theory_layout.specs.Models.{Stated, got-states, states-got}
 use Rattle.theory_layout.specs.WrittenModels.{same-booleans, same-numerators, same-denominators}
@@ -112,7 +112,8 @@ module _ (terms : Terms) (input bytes : List ℕ) (p : Problem) (e : read input 
         modelChecked,
         is-false (ltb (length bytes) limit.modelBytes) (no-ltb {a = length bytes} {b = limit.modelBytes} size),
         was-read .is,
-      ) (checks-agree b r (was-read .assignment) χ read-agrees 0 (p .clauses) (read-well-formed input p e .clauses))
+      ) (checks-agree b r (was-read .assignment) χ read-agrees 0 (inEdition (terms .edition) p .clauses)
+      (posed-well-formed (terms .edition) input p e .clauses))
 
   pub satisfying-model-checked : Satisfies χ (inEdition (terms .edition) p) → modelChecked terms input bytes ≡ checked.Accepted
   satisfying-model-checked h = model-checks ∙ accepted-clauses χ 0 (inEdition (terms .edition) p .clauses) .1 (h .clauses)

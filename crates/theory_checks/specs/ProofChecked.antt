@@ -15,7 +15,7 @@ use Rattle.rules.specs.Problem.{Problem, inEdition}
 use Rattle.rules.specs.Meaning.{Assignment, Satisfies}
 use Rattle.rules.specs.Checker.{checkProof}
 use Rattle.rules.specs.Calls.{Reading, faulty, sound, read, wholeSteps, proofChecked}
-use Rattle.theory_splitting.specs.Reading.{read-well-formed}
+use Rattle.theory_splitting.specs.Reading.{posed-well-formed}
 use Rattle.theory_checks.specs.Refutation.{accepted-proof-refutes}
 
 -- the problem that was read, and that its check accepts the proof
@@ -49,4 +49,5 @@ pub proof-checked-refutes : (terms : Terms) (input proof : List ℕ) → proofCh
     → Satisfies χ (inEdition (terms .edition) p) → ⊥
 proof-checked-refutes terms input proof a p e =
     let c = checked-proof terms input proof a in
-    accepted-proof-refutes p (read-well-formed input p e) proof (rw (same-problem (read input) p (c .problem) e (c .reads)) (c .accepted))
+    accepted-proof-refutes (inEdition (terms .edition) p) (posed-well-formed (terms .edition) input p e) proof
+    (rw (same-problem (read input) p (c .problem) e (c .reads)) (c .accepted))
