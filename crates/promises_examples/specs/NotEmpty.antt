@@ -11,7 +11,7 @@ use lib.ListN.{length, replicate}
 use Rattle.rules_types.specs.declared.limits.Limits.{Limits}
 use Rattle.rules_types.specs.declared.terms.Terms.{Terms}
 use Rattle.rules_types.specs.Limits as limit
-use Rattle.rules.specs.Problem.{Problem}
+use Rattle.rules.specs.Problem.{Problem, inEdition}
 use Rattle.rules.specs.Elimination.{overflow, outOfSteps, order, limited, loadableOf}
 use Rattle.rules.specs.Needs.{needs, Fits}
 use Rattle.rules.specs.Calls.{sound, read, solve}
@@ -38,7 +38,8 @@ lentModel = replicate limit.modelBytes 7
 
 module _ (n : ℕ) (input : List ℕ) where
   abbrev Delivers : Type 0
-  Delivers = Demand3 (termsOf n) input (problemFrom input) (lentProof n) lentModel (solve (termsOf n) input (lentProof n) lentModel)
+  Delivers = Demand3 (termsOf n) input (inEdition 1 (problemFrom input)) (lentProof n) lentModel
+      (solve (termsOf n) input (lentProof n) lentModel)
 
   delivers : n ≤ limit.mostSteps → read input ≡ sound (problemFrom input) → FullSize (ofSteps n) (lentProof n) lentModel → Delivers
   delivers few e full = demand3 (termsOf n) few input (problemFrom input) e (lentProof n) lentModel full
