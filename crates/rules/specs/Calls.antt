@@ -70,9 +70,7 @@ unfoldable pub outcome : Terms → List ℕ → Outcome
 outcome terms input =
     elim (read input) [
       | faulty f place ↦ faulted f place
-      | sound p ↦
-          let q = inEdition (terms .edition) p in
-          concluded q (elimination (limited (terms .limits)) q)
+      | sound p ↦ let posed = inEdition (terms .edition) p in concluded posed (elimination (limited (terms .limits)) posed)
     ]
 
 -- ---- solving
