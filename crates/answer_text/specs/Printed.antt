@@ -13,8 +13,9 @@ use Rattle.rules_types.specs.declared.answers.Verdict.the-variants.{Satisfiable
 use Rattle.rules_types.specs.declared.answers.Solved.{Solved}
 use Rattle.rules_types.specs.declared.limits.Limits.{Limits}
 use Rattle.rules_types.specs.Limits as limit
+use Rattle.rules_types.specs.Terms.{standard}
 use Rattle.rules_types.specs.Answers.{verdictNumber}
-use Rattle.rules.specs.Problem.{Problem}
+use Rattle.rules.specs.Problem.{Problem, inEdition}
 use Rattle.rules.specs.Steps.{Step, encodeProof}
 use Rattle.rules.specs.Elimination.{State, running, ended, empty, overflow, outOfSteps, orderOf, limited, loadableOf, elimination}
 use Rattle.rules.specs.Needs.{stepsOf}
@@ -28,7 +29,7 @@ use Rattle.theory_resolution.specs.Formed.{Formed}
 use Rattle.theory_bytes.specs.Steps.{proof-length, take-proof}
 use Rattle.theory_layout.specs.Steps.{Writable}
 use Rattle.theory_splitting.specs.Lent.{lent-full}
-use Rattle.theory_splitting.specs.Reading.{read-well-formed}
+use Rattle.theory_splitting.specs.Reading.{posed-well-formed}
 use Rattle.theory_splitting.specs.WellFormed.{WellFormed}
 use Rattle.theory_elimination.specs.WithinLimits.{limited-held}
 use Rattle.theory_checks.specs.Writable.{elimination-writable}
@@ -73,15 +74,17 @@ numbered p w limits h =
     all-map Writable Numbered (stepsOf (elimination (limited limits) p))
     (λ s k. record { formed = k .line .formed; first = k .first; second = k .second }) (elimination-writable p w limits h)
 
-outcome-printable : (q : List ℕ) → PrintableOutcome (outcome limit.standard q)
+outcome-printable : (q : List ℕ) → PrintableOutcome (outcome standard q)
 unfolding outcome elimination
 outcome-printable q = by (read q) refl
   where
-    by : (r : Reading) → read q ≡ r → PrintableOutcome (outcome limit.standard q)
+    by : (r : Reading) → read q ≡ r → PrintableOutcome (outcome standard q)
     by (faulty f place) e = rw (e, outcome) tt
-    by (sound p) e =
-        rw (e, outcome) (concluded-printable p (read-well-formed q p e) (elimination (limited limit.standard) p)
-        (limited-held limit.standard (orderOf p) (loadableOf p)) (numbered p (read-well-formed q p e) limit.standard (omega arith)))
+    by (sound asked) e =
+        let p = inEdition (standard .edition) asked in
+        let w = posed-well-formed (standard .edition) q asked e in
+        rw (e, outcome) (concluded-printable p w (elimination (limited limit.standard) p)
+        (limited-held limit.standard (orderOf p) (loadableOf p)) (numbered p w limit.standard (omega arith)))
 
 -- ---- what is handed back
 module _ (n : ℕ) (proof model : List ℕ) (l : length proof ≡ limit.proofBytes limit.standard) (m : length model ≡ limit.modelBytes)
@@ -143,29 +146,29 @@ module _ (proof model : List ℕ) where
 
   -- solving with buffers of full size
   module _ (q : List ℕ) (l : length proof ≡ limit.proofBytes limit.standard) (m : length model ≡ limit.modelBytes) where
-    lent-whole : lent limit.standard q proof model ≡ outcome limit.standard q
-    lent-whole = lent-full limit.standard q proof model (omega arith) (omega arith)
+    lent-whole : lent standard q proof model ≡ outcome standard q
+    lent-whole = lent-full standard q proof model (omega arith) (omega arith)
 
-    printed-is : printedOf (outcome limit.standard q) ≡ printed limit.standard q
+    printed-is : printedOf (outcome standard q) ≡ printed standard q
     unfolding printed
-    printed-is = by (outcome limit.standard q) refl
+    printed-is = by (outcome standard q) refl
       where
-        by : (o : Outcome) → outcome limit.standard q ≡ o → printedOf (outcome limit.standard q) ≡ printed limit.standard q
+        by : (o : Outcome) → outcome standard q ≡ o → printedOf (outcome standard q) ≡ printed standard q
         by (faulted f place) e = rw (e, printed)
         by (stopped f steps pairs) e = rw (e, printed)
         by (decided Satisfiable steps pairs bytes) e = rw (e, printed)
         by (decided Unsatisfiable steps pairs bytes) e = rw (e, printed)
         by (decided Unwritten steps pairs bytes) e = rw (e, printed)
 
-    pub solved-told : (s : Solved) (after filled : List ℕ) → s ≡ solve limit.standard q proof model .solved
-        → after ≡ solve limit.standard q proof model .proof
-        → filled ≡ solve limit.standard q proof model .model
+    pub solved-told : (s : Solved) (after filled : List ℕ) → s ≡ solve standard q proof model .solved
+        → after ≡ solve standard q proof model .proof
+        → filled ≡ solve standard q proof model .model
         → length after ≡ limit.proofBytes limit.standard
         → length filled ≡ limit.modelBytes
-        → TextOf (printed limit.standard q) s after filled
+        → TextOf (printed standard q) s after filled
     unfolding solve
     solved-told s after filled e f g lp lm =
-        let o = outcome limit.standard q in
+        let o = outcome standard q in
         let e′ : s ≡ said o = e ∙ ap said lent-whole in
         let f′ : after ≡ proofAfter limit.standard o proof = f ∙ ap (λ o. proofAfter limit.standard o proof) lent-whole in
         let g′ : filled ≡ modelAfter o model = g ∙ ap (λ o. modelAfter o model) lent-whole in

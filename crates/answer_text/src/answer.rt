@@ -9,11 +9,13 @@ use rules_types::answers::Answer;
 use rules_types::answers::Solved;
 use rules_types::answers::Verdict;
 use rules_types::limits::Limits;
-use solving::solve::solve;
+use rules_types::terms::Terms;
+use solving::solve::solve_within;
 ghost use mathlib.Core.Path.{_≡_};
 ghost use Prim.Native.Nat.{_*_, _≤_};
 ghost use lib.ListN.{length, take};
-ghost use Rattle.rules_types.specs.Limits.{stepBytes, steps, standard};
+ghost use Rattle.rules_types.specs.Limits.{stepBytes, steps};
+ghost use Rattle.rules_types.specs.Terms.{standard};
 ghost use Rattle.rules.specs.Print.{printed};
 ghost use Rattle.io.specs.Counts.{Counts};
 ghost use Rattle.printing.specs.Appended.{Appended};
@@ -79,6 +81,6 @@ pub fn answer_text(input: &[u8], out: &mut [u8; TEXT_BYTES]) -> usize
 {
     let mut proof = [0u8; Limits::STEPS as usize * Limits::STEP_BYTES];
     let mut model = [0u8; Limits::MODEL_BYTES];
-    let solved = solve(input, &mut proof, &mut model);
+    let solved = solve_within(input, &mut proof, &mut model, Terms::standard());
     put_solved(out, solved, &proof, &model)
 }

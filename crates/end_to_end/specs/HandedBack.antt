@@ -3,8 +3,7 @@
 use mathlib.Core.Path.{_≡_, refl, sym, ap, _∙_, subst}
 use mathlib.Core.Logic.{_⊎_, ⊎-elim, inl, inr}
 use mathlib.Core.List.{List}
-use Prim.Native.Nat.{ℕ, _*_}
-use native.Mathlib.Omega.{arith}
+use Prim.Native.Nat.{ℕ, _*_, _≤_}
 use lib.ListN.{take}
 use Rattle.rules_types.specs.declared.answers.Verdict.the-variants.{Satisfiable, Unsatisfiable}
 use Rattle.rules_types.specs.declared.answers.Answer.{Answer}
@@ -12,8 +11,8 @@ use Rattle.rules_types.specs.declared.answers.Answer.the-variants.{Decided, Ref
 use Rattle.rules_types.specs.declared.answers.Checked.the-variants.{Accepted}
 use Rattle.rules_types.specs.declared.answers.Evidence.{Evidence}
 use Rattle.rules_types.specs.declared.answers.Evidence.the-variants.{OfProof, OfModel}
+use Rattle.rules_types.specs.declared.terms.Terms.{Terms}
 use Rattle.rules_types.specs.Limits as limit
-use Rattle.rules_types.specs.Limits.{standard}
 use Rattle.rules_types.specs.Answers.{verdictNumber, answerNumber, answerValue}
 use Rattle.rules.specs.Calls.{Solving, proofChecked, modelChecked}
 use Rattle.theory_layout.specs.Fields.{take-bytes}
@@ -28,15 +27,15 @@ use Rattle.jemuling.specs.Promised.{Delivered, BookChecked, SheetChecked, PartH
 
 -- "Handing back gives the caller the sheet's 64 bytes after "agrees" and the used lines of the book after "cannot agree"", and demand 2:
 -- the check accepts "every non-empty part our solver hands back"
-pub record Handed (input : List ℕ) (told : SolvedTold) (proof model : List ℕ) (t : Told) : Type 0 where
+pub record Handed (terms : Terms) (input : List ℕ) (told : SolvedTold) (proof model : List ℕ) (t : Told) : Type 0 where
   pub afterSatisfiable : told .number ≡ verdictNumber Satisfiable → (t .number ≡ 70) × (t .value ≡ limit.modelBytes)
   pub afterUnsatisfiable : told .number ≡ verdictNumber Unsatisfiable → (t .number ≡ 69) × (t .value ≡ limit.stepBytes * told .value)
-  pub ofModel : t .number ≡ 70 → (check : Told) → SheetChecked input (take (t .value) model) check → check .number ≡ 67
+  pub ofModel : t .number ≡ 70 → (check : Told) → SheetChecked terms input (take (t .value) model) check → check .number ≡ 67
   pub ofProof : t .number ≡ 69
-      → (t .value ≡ 0) ⊎ ((check : Told) → BookChecked input (take (t .value) proof) check → check .number ≡ 67)
+      → (t .value ≡ 0) ⊎ ((check : Told) → BookChecked terms input (take (t .value) proof) check → check .number ≡ 67)
 
-module _ {input lentProof lentModel : List ℕ} {told : SolvedTold} {proof model : List ℕ}
-    (d : Delivered input lentProof lentModel told proof model) where
+module _ {terms : Terms} (few : terms .limits .steps ≤ limit.mostSteps) {input lentProof lentModel : List ℕ} {told : SolvedTold}
+    {proof model : List ℕ} (d : Delivered terms input lentProof lentModel told proof model) where
   abbrev ours : Solving
   ours = d .ours
 
@@ -45,36 +44,36 @@ module _ {input lentProof lentModel : List ℕ} {told : SolvedTold} {proof model
   number-is (Decided v n) e = d .tells .verdict v .1 (subst (Comes v) e refl)
   number-is (Refused f n) e = d .tells .refusal f .1 (subst (IsRefused f) e refl)
 
-  module _ {t : Told} (h : PartHanded (told .number) (told .value) proof model t) where
-    back : HandedBack standard input ours (h .part)
+  module _ {t : Told} (h : PartHanded (terms .limits) (told .number) (told .value) proof model t) where
+    back : HandedBack terms input ours (h .part)
     back =
-        handed-after standard input lentProof lentModel ours (d .first) (d .third) (h .part)
-        (subst (λ (n : ℕ). Hands standard n (answerValue (ours .solved .answer)) (ours .proof) (ours .model) (h .part))
+        handed-after terms input lentProof lentModel ours (d .first) (d .third) (h .part)
+        (subst (λ (n : ℕ). Hands (terms .limits) n (answerValue (ours .solved .answer)) (ours .proof) (ours .model) (h .part))
         (number-is (ours .solved .answer) refl)
-        (subst (λ (n : ℕ). Hands standard (told .number) n (ours .proof) (ours .model) (h .part)) (d .tells .value)
-        (subst (λ (s : List ℕ). Hands standard (told .number) (told .value) s (ours .model) (h .part)) (d .leavesProof)
-        (subst (λ (s : List ℕ). Hands standard (told .number) (told .value) proof s (h .part)) (d .leavesModel) (h .hands)))))
+        (subst (λ (n : ℕ). Hands (terms .limits) (told .number) n (ours .proof) (ours .model) (h .part)) (d .tells .value)
+        (subst (λ (s : List ℕ). Hands (terms .limits) (told .number) (told .value) s (ours .model) (h .part)) (d .leavesProof)
+        (subst (λ (s : List ℕ). Hands (terms .limits) (told .number) (told .value) proof s (h .part)) (d .leavesModel) (h .hands)))))
 
-    model-checked : (n : ℕ) → h .part ≡ OfModel n → (check : Told) → SheetChecked input (take n model) check → check .number ≡ 67
+    model-checked : (n : ℕ) → h .part ≡ OfModel n → (check : Told) → SheetChecked terms input (take n model) check → check .number ≡ 67
     model-checked n e check k =
-        let a = subst (λ (s : List ℕ). modelChecked input (take n s) ≡ Accepted) (sym (d .leavesModel)) (back .ofModel n e) in
-        let c : CheckedModel input (take n model) = model-checked-satisfies input (take n model) a in
+        let a = subst (λ (s : List ℕ). modelChecked terms input (take n s) ≡ Accepted) (sym (d .leavesModel)) (back .ofModel n e) in
+        let c : CheckedModel terms input (take n model) = model-checked-satisfies terms input (take n model) a in
         k .tells .accepted .1 (k .checks .accepted (c .problem) (c .reads) .1
-        (d .second (c .problem) (c .reads) .model (take n model) .0 a))
+        (d .second (c .problem) (c .reads) .model (terms .limits) (take n model) .0 a))
 
     proof-checked : (n : ℕ) → h .part ≡ OfProof n
-        → (n ≡ 0) ⊎ ((check : Told) → BookChecked input (take n proof) check → check .number ≡ 67)
+        → (n ≡ 0) ⊎ ((check : Told) → BookChecked terms input (take n proof) check → check .number ≡ 67)
     proof-checked n e = ⊎-elim (λ z. inl z) (λ b. inr (accepted b)) (back .ofProof n e)
       where
-        accepted : proofChecked standard input (take n (ours .proof)) ≡ Accepted → (check : Told) → BookChecked input (take n proof) check
-            → check .number ≡ 67
+        accepted : proofChecked terms input (take n (ours .proof)) ≡ Accepted → (check : Told)
+            → BookChecked terms input (take n proof) check → check .number ≡ 67
         accepted b check k =
-            let a = subst (λ (s : List ℕ). proofChecked standard input (take n s) ≡ Accepted) (sym (d .leavesProof)) b in
-            let c : CheckedProof input (take n proof) = checked-proof standard input (take n proof) a in
+            let a = subst (λ (s : List ℕ). proofChecked terms input (take n s) ≡ Accepted) (sym (d .leavesProof)) b in
+            let c : CheckedProof terms input (take n proof) = checked-proof terms input (take n proof) a in
             k .tells .accepted .1 (k .checks .accepted (c .problem) (c .reads) .1
-            (d .second (c .problem) (c .reads) .proof standard (omega arith) (take n proof) (take-bytes n proof (d .bytesLeft .0)) .0 a))
+            (d .second (c .problem) (c .reads) .proof (terms .limits) few (take n proof) (take-bytes n proof (d .bytesLeft .0)) .0 a))
 
-    pub handed : Handed input told proof model t
+    pub handed : Handed terms input told proof model t
     handed =
         record {
           afterSatisfiable = λ e. h .tells .ofModel limit.modelBytes .1 (back .afterSatisfiable (d .tells .verdict Satisfiable .0 e));

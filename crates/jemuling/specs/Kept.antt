@@ -1,12 +1,13 @@
 -- The calls keep what they promise: from the equations with document 01's definitions.
 use mathlib.Core.Path.{_≡_, refl, sym, subst}
 use mathlib.Core.List.{List}
-use Prim.Native.Nat.{ℕ}
-use native.Mathlib.Omega.{arith}
+use Prim.Native.Nat.{ℕ, _≤_}
 use Rattle.rules_types.specs.declared.answers.Solved.{Solved}
 use Rattle.rules_types.specs.declared.answers.Checked.{Checked}
 use Rattle.rules_types.specs.declared.answers.Evidence.{Evidence}
-use Rattle.rules_types.specs.Limits.{standard}
+use Rattle.rules_types.specs.declared.limits.Limits.{Limits}
+use Rattle.rules_types.specs.declared.terms.Terms.{Terms}
+use Rattle.rules_types.specs.Limits as limit
 use Rattle.rules_types.specs.Answers.{answerNumber, checkedNumber, checkedValue, evidenceNumber, evidenceLength}
 use Rattle.rules.specs.Calls.{solve, proofChecked, modelChecked, evidence}
 use Rattle.theory_bytes.specs.Bytes.{AllBytes}
@@ -41,12 +42,13 @@ unfolding evidenceTold
 part-tells e = record { ofProof = of-proof-exactly e; ofModel = of-model-exactly e }
 
 -- ---- the calls
-pub delivered : (input lentProof lentModel : List ℕ) (told : SolvedTold) (proof model : List ℕ) → AllBytes input → AllBytes proof
-    → AllBytes model → told ≡ solvedTold (solve standard input lentProof lentModel .solved)
-    → proof ≡ solve standard input lentProof lentModel .proof
-    → model ≡ solve standard input lentProof lentModel .model → Delivered input lentProof lentModel told proof model
-delivered input lentProof lentModel told proof model are lines sheet t b s =
-    let ours = solve standard input lentProof lentModel in
+pub delivered : (terms : Terms) → terms .limits .steps ≤ limit.mostSteps → (input lentProof lentModel : List ℕ) (told : SolvedTold)
+    (proof model : List ℕ) → AllBytes input → AllBytes proof → AllBytes model
+    → told ≡ solvedTold (solve terms input lentProof lentModel .solved)
+    → proof ≡ solve terms input lentProof lentModel .proof
+    → model ≡ solve terms input lentProof lentModel .model → Delivered terms input lentProof lentModel told proof model
+delivered terms few input lentProof lentModel told proof model are lines sheet t b s =
+    let ours = solve terms input lentProof lentModel in
     record {
       bytes = are;
       bytesLeft = (lines, sheet);
@@ -54,39 +56,40 @@ delivered input lentProof lentModel told proof model are lines sheet t b s =
       tells = subst (λ (x : SolvedTold). TellsSolved x (ours .solved)) (sym t) (solved-tells (ours .solved));
       leavesProof = b;
       leavesModel = s;
-      first = demand1 standard input lentProof lentModel;
-      second = demand2 input;
-      third = λ p e full. demand3 standard (omega arith) input p e lentProof lentModel full;
+      first = demand1 terms input lentProof lentModel;
+      second = demand2 (terms .edition) input;
+      third = λ p e full. demand3 terms few input p e lentProof lentModel full;
     }
 
-pub book-checked : (input proof : List ℕ) (told : Told) → AllBytes input → AllBytes proof
-    → told ≡ checkedTold (proofChecked standard input proof) → BookChecked input proof told
-book-checked input proof told are lines t =
-    let says = proofChecked standard input proof in
+pub book-checked : (terms : Terms) → terms .limits .steps ≤ limit.mostSteps → (input proof : List ℕ) (told : Told)
+    → AllBytes input → AllBytes proof
+    → told ≡ checkedTold (proofChecked terms input proof) → BookChecked terms input proof told
+book-checked terms few input proof told are lines t =
+    let says = proofChecked terms input proof in
     record {
       bytes = are;
       says = says;
       tells = subst (λ (x : Told). TellsChecked x says) (sym t) (checked-tells says);
-      checks = checks-proof standard (omega arith) input proof lines;
+      checks = checks-proof terms few input proof lines;
     }
 
-pub sheet-checked : (input model : List ℕ) (told : Told) → AllBytes input
-    → told ≡ checkedTold (modelChecked input model) → SheetChecked input model told
-sheet-checked input model told are t =
-    let says = modelChecked input model in
+pub sheet-checked : (terms : Terms) (input model : List ℕ) (told : Told) → AllBytes input
+    → told ≡ checkedTold (modelChecked terms input model) → SheetChecked terms input model told
+sheet-checked terms input model told are t =
+    let says = modelChecked terms input model in
     record {
       bytes = are;
       says = says;
       tells = subst (λ (x : Told). TellsChecked x says) (sym t) (checked-tells says);
-      checks = checks-model input model;
+      checks = checks-model terms input model;
     }
 
-pub part-handed : (number lines : ℕ) (proof model : List ℕ) (told : Told)
-    → told ≡ evidenceTold (evidence standard number lines proof model) → PartHanded number lines proof model told
-part-handed number lines proof model told t =
-    let part = evidence standard number lines proof model in
+pub part-handed : (limits : Limits) (number lines : ℕ) (proof model : List ℕ) (told : Told)
+    → told ≡ evidenceTold (evidence limits number lines proof model) → PartHanded limits number lines proof model told
+part-handed limits number lines proof model told t =
+    let part = evidence limits number lines proof model in
     record {
       part = part;
       tells = subst (λ (x : Told). TellsPart x part) (sym t) (part-tells part);
-      hands = hands standard number lines proof model;
+      hands = hands limits number lines proof model;
     }

@@ -11,9 +11,10 @@ use Rattle.rules_types.specs.declared.answers.Checked.{Checked}
 use Rattle.rules_types.specs.declared.answers.Checked.the-variants.{Accepted, Fails, Refused}
 use Rattle.rules_types.specs.declared.answers.Evidence.{Evidence}
 use Rattle.rules_types.specs.declared.answers.Evidence.the-variants.{OfProof, OfModel}
-use Rattle.rules_types.specs.Limits.{standard}
+use Rattle.rules_types.specs.declared.limits.Limits.{Limits}
+use Rattle.rules_types.specs.declared.terms.Terms.{Terms}
 use Rattle.rules_types.specs.Answers.{refusalNumber, verdictNumber, answerValue}
-use Rattle.rules.specs.Problem.{Problem}
+use Rattle.rules.specs.Problem.{Problem, inEdition}
 use Rattle.rules.specs.Calls.{sound, read, Solving}
 use Rattle.theory_bytes.specs.Bytes.{AllBytes}
 use Rattle.promises.specs.Words.{Comes, IsRefused, FullSize}
@@ -43,34 +44,34 @@ pub record TellsPart (told : Told) (part : Evidence) : Type 0 where
 
 -- ---- the calls; a lent slice holds bytes, so what the demands say of bytes holds of it
 -- `jemuling_solve`: `lentProof` and `lentModel` are the buffers before it, `proof` and `model` what it left in them
-pub record Delivered (input lentProof lentModel : List ℕ) (told : SolvedTold) (proof model : List ℕ) : Type 0 where
+pub record Delivered (terms : Terms) (input lentProof lentModel : List ℕ) (told : SolvedTold) (proof model : List ℕ) : Type 0 where
   pub bytes : AllBytes input
   pub bytesLeft : AllBytes proof × AllBytes model
   pub ours : Solving
   pub tells : TellsSolved told (ours .solved)
   pub leavesProof : proof ≡ ours .proof
   pub leavesModel : model ≡ ours .model
-  pub first : Demand1 standard input lentProof lentModel ours
-  pub second : (p : Problem) → read input ≡ sound p → Demand2 input p
-  pub third : (p : Problem) → read input ≡ sound p → FullSize standard lentProof lentModel
-      → Demand3 standard input p lentProof lentModel ours
+  pub first : Demand1 terms input lentProof lentModel ours
+  pub second : (p : Problem) → read input ≡ sound p → Demand2 (terms .edition) input (inEdition (terms .edition) p)
+  pub third : (p : Problem) → read input ≡ sound p → FullSize (terms .limits) lentProof lentModel
+      → Demand3 terms input (inEdition (terms .edition) p) lentProof lentModel ours
 
 -- `jemuling_check_book`
-pub record BookChecked (input proof : List ℕ) (told : Told) : Type 0 where
+pub record BookChecked (terms : Terms) (input proof : List ℕ) (told : Told) : Type 0 where
   pub bytes : AllBytes input
   pub says : Checked
   pub tells : TellsChecked told says
-  pub checks : ChecksProof standard input proof says
+  pub checks : ChecksProof terms input proof says
 
 -- `jemuling_check_sheet`
-pub record SheetChecked (input model : List ℕ) (told : Told) : Type 0 where
+pub record SheetChecked (terms : Terms) (input model : List ℕ) (told : Told) : Type 0 where
   pub bytes : AllBytes input
   pub says : Checked
   pub tells : TellsChecked told says
-  pub checks : ChecksModel input model says
+  pub checks : ChecksModel terms input model says
 
 -- `jemuling_hand_back`, from a number and lines as the caller names them
-pub record PartHanded (number lines : ℕ) (proof model : List ℕ) (told : Told) : Type 0 where
+pub record PartHanded (limits : Limits) (number lines : ℕ) (proof model : List ℕ) (told : Told) : Type 0 where
   pub part : Evidence
   pub tells : TellsPart told part
-  pub hands : Hands standard number lines proof model part
+  pub hands : Hands limits number lines proof model part

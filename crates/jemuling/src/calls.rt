@@ -7,11 +7,12 @@ use crate::told::checked_told;
 use crate::told::evidence_told;
 use crate::told::solved_told;
 use model_check::check::check_model;
-use proof_check::check::check_standard;
+use proof_check::check::check_proof;
 use rules_types::limits::Limits;
-use solving::solve::solve;
+use rules_types::terms::Terms;
+use solving::solve::solve_within;
 ghost use mathlib.Core.Path.{_≡_};
-ghost use Rattle.rules_types.specs.Limits.{standard};
+ghost use Rattle.rules_types.specs.Terms.{standard};
 ghost use Rattle.rules.specs.Calls.{solve, proofChecked, modelChecked, evidence};
 ghost use Rattle.jemuling.specs.Told.{solvedTold, checkedTold, evidenceTold};
 ghost use Rattle.jemuling.specs.Promised.{Delivered, BookChecked, SheetChecked, PartHanded};
@@ -22,34 +23,35 @@ pub extern "C" fn jemuling_solve(input: &[u8], proof: &mut [u8], model: &mut [u8
     ensures { λ t. ⌜ t ≡ solvedTold (solve standard (now (input .entry)) (now (proof .entry)) (now (model .entry)) .solved) ⌝ }
     ensures { λ _. ⌜ now (proof .exit) ≡ solve standard (now (input .entry)) (now (proof .entry)) (now (model .entry)) .proof ⌝ }
     ensures { λ _. ⌜ now (model .exit) ≡ solve standard (now (input .entry)) (now (proof .entry)) (now (model .entry)) .model ⌝ }
-    ensures { λ t. ⌜ Delivered (now (input .entry)) (now (proof .entry)) (now (model .entry)) t (now (proof .exit)) (now (model .exit)) ⌝ }
+    ensures { λ t. ⌜ Delivered standard (now (input .entry)) (now (proof .entry)) (now (model .entry)) t
+        (now (proof .exit)) (now (model .exit)) ⌝ }
 {
-    solved_told(solve(input, proof, model))
+    solved_told(solve_within(input, proof, model, Terms::standard()))
 }
 
 // Whether a proof refutes a problem.
 #[no_mangle]
 pub extern "C" fn jemuling_check_book(input: &[u8], proof: &[u8]) -> Told
     ensures { λ t. ⌜ t ≡ checkedTold (proofChecked standard (now (input .entry)) (now (proof .entry))) ⌝ }
-    ensures { λ t. ⌜ BookChecked (now (input .entry)) (now (proof .entry)) t ⌝ }
+    ensures { λ t. ⌜ BookChecked standard (now (input .entry)) (now (proof .entry)) t ⌝ }
 {
-    checked_told(check_standard(input, proof))
+    checked_told(check_proof(input, proof, Terms::standard()))
 }
 
 // Whether a model satisfies a problem.
 #[no_mangle]
 pub extern "C" fn jemuling_check_sheet(input: &[u8], model: &[u8]) -> Told
-    ensures { λ t. ⌜ t ≡ checkedTold (modelChecked (now (input .entry)) (now (model .entry))) ⌝ }
-    ensures { λ t. ⌜ SheetChecked (now (input .entry)) (now (model .entry)) t ⌝ }
+    ensures { λ t. ⌜ t ≡ checkedTold (modelChecked standard (now (input .entry)) (now (model .entry))) ⌝ }
+    ensures { λ t. ⌜ SheetChecked standard (now (input .entry)) (now (model .entry)) t ⌝ }
 {
-    checked_told(check_model(input, model))
+    checked_told(check_model(input, model, Terms::standard()))
 }
 
 // Which part of proof or model is handed back, from a verdict's number and lines.
 #[no_mangle]
 pub extern "C" fn jemuling_hand_back(number: u64, lines: usize, proof: &[u8], model: &[u8]) -> Told
-    ensures { λ t. ⌜ t ≡ evidenceTold (evidence standard number lines (now (proof .entry)) (now (model .entry))) ⌝ }
-    ensures { λ t. ⌜ PartHanded number lines (now (proof .entry)) (now (model .entry)) t ⌝ }
+    ensures { λ t. ⌜ t ≡ evidenceTold (evidence (standard .limits) number lines (now (proof .entry)) (now (model .entry))) ⌝ }
+    ensures { λ t. ⌜ PartHanded (standard .limits) number lines (now (proof .entry)) (now (model .entry)) t ⌝ }
 {
     evidence_told(evidence(Limits::standard(), number, lines, proof, model))
 }

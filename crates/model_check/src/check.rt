@@ -8,14 +8,15 @@ use rules_types::answers::Checked;
 use rules_types::answers::Refusal;
 use rules_types::layout::FIRST_CLAUSE;
 use rules_types::limits::Limits;
+use rules_types::terms::Terms;
 ghost use mathlib.Core.Path.{_≡_};
 ghost use Rattle.rules.specs.Calls.{modelChecked};
 ghost use Rattle.problem_read.specs.Readable.{Readable};
 
 // Of a problem that was read without fault.
-fn check_readable(input: &[u8], bytes: &[u8], sizes: Sizes) -> Checked
+fn check_readable(input: &[u8], bytes: &[u8], sizes: Sizes, terms: Terms) -> Checked
     requires { ⌜ Readable (now input) sizes ⌝ }
-    ensures { λ c. ⌜ c ≡ modelChecked (now (input .entry)) (now (bytes .entry)) ⌝ }
+    ensures { λ c. ⌜ c ≡ modelChecked terms (now (input .entry)) (now (bytes .entry)) ⌝ }
 {
     if bytes.len() < Limits::MODEL_BYTES {
         return Checked::Refused(Refusal::ShortModel, 0);
@@ -28,12 +29,12 @@ fn check_readable(input: &[u8], bytes: &[u8], sizes: Sizes) -> Checked
     check_clauses(input, FIRST_CLAUSE, sizes.rationals, sizes.clauses, model)
 }
 
-pub fn check_model(input: &[u8], bytes: &[u8]) -> Checked
-    ensures { λ c. ⌜ c ≡ modelChecked (now (input .entry)) (now (bytes .entry)) ⌝ }
+pub fn check_model(input: &[u8], bytes: &[u8], terms: Terms) -> Checked
+    ensures { λ c. ⌜ c ≡ modelChecked terms (now (input .entry)) (now (bytes .entry)) ⌝ }
 {
     let scan = read(input);
     match scan {
         Scan::Fault(f, place) => Checked::Refused(f, place),
-        Scan::Sound(sizes) => check_readable(input, bytes, sizes),
+        Scan::Sound(sizes) => check_readable(input, bytes, sizes, terms),
     }
 }

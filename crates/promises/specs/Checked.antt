@@ -14,8 +14,9 @@ use Rattle.rules_types.specs.declared.answers.Refusal.the-variants.{ShortModel,
 use Rattle.rules_types.specs.declared.answers.Checked.{Checked}
 use Rattle.rules_types.specs.declared.answers.Checked.the-variants.{Accepted, Fails, Refused}
 use Rattle.rules_types.specs.declared.limits.Limits.{Limits}
+use Rattle.rules_types.specs.declared.terms.Terms.{Terms}
 use Rattle.rules_types.specs.Limits as limit
-use Rattle.rules.specs.Problem.{Clause, Problem, Read, fault, got}
+use Rattle.rules.specs.Problem.{Clause, Problem, inEdition, Read, fault, got}
 use Rattle.rules.specs.Meaning.{Assignment, clauseHolds}
 use Rattle.rules.specs.Elimination.{loadableOf}
 use Rattle.rules.specs.Model.{model}
@@ -25,7 +26,7 @@ use Rattle.theory_lists.specs.Tests.{split, is-true, is-false, clash}
 use Rattle.theory_checks.specs.ProofChecked.{refused-not, same-problem}
 use Rattle.theory_checks.specs.ModelChecked.{CheckedModel, model-checked-satisfies, satisfying-model-checked}
 use Rattle.theory_splitting.specs.WellFormed.{WellFormed}
-use Rattle.theory_splitting.specs.Reading.{read-well-formed}
+use Rattle.theory_splitting.specs.Reading.{posed-well-formed}
 use Rattle.theory_bytes.specs.Bytes.{AllBytes}
 use Rattle.theory_layout.specs.Offsets.{FirstBadField}
 use Rattle.theory_layout.specs.Models.{refused-exactly}
@@ -68,53 +69,60 @@ never-refused χ k (c ∷ cs) f place e = by (clauseHolds χ c) (never-refused �
     by true r e = r e
     by false r e = let z : _≡_ {A = ℕ} 0 1 = cc in omega arith
 
--- ---- the calls, for a problem read without fault
-module _ (input : List ℕ) (p : Problem) (e : read input ≡ sound p) where
-  pub proof-exactly : (limits : Limits) → limits .steps ≤ limit.mostSteps → (bytes : List ℕ) → AllBytes bytes
-      → proofChecked limits input bytes ≡ Accepted
+-- ---- the calls, for a problem read without fault, in its edition
+module _ (terms : Terms) (input : List ℕ) (q : Problem) (e : read input ≡ sound q) where
+  abbrev limits : Limits
+  limits = terms .limits
+
+  abbrev p : Problem
+  p = inEdition (terms .edition) q
+
+  pub proof-exactly : limits .steps ≤ limit.mostSteps → (bytes : List ℕ) → AllBytes bytes
+      → proofChecked terms input bytes ≡ Accepted
       ↔ (T (wholeSteps limits (length bytes)) × Refutes (loadableOf p) (length bytes / limit.stepBytes) bytes)
   unfolding proofChecked
-  proof-exactly limits few bytes b =
+  proof-exactly few bytes b =
       let whole = wholeSteps limits (length bytes) in
       ⊎-elim
-      (λ t. let x = accepted-exactly p (read-well-formed input p e) bytes b (whole-few limits few (length bytes) t) in
+      (λ t. let x = accepted-exactly p (posed-well-formed (terms .edition) input q e) bytes b (whole-few limits few (length bytes) t) in
       (λ a. (t, x .0 (rw (e, proofChecked, is-true whole t) at a)), λ h. rw (e, proofChecked, is-true whole t) (x .1 (h .1))))
       (λ t. (
         λ a. absurd (refused-not ProofLength (length bytes) (rw (e, proofChecked, is-false whole t) at a)),
         λ h. clash whole (h .0) t,
       )) (split whole)
 
-  read-assignment : (bytes : List ℕ) (c : CheckedModel input bytes) → c .problem ≡ p → WritesAssignment p bytes
-  read-assignment bytes c q =
+  read-assignment : (bytes : List ℕ) (c : CheckedModel terms input bytes) → c .problem ≡ q → WritesAssignment p bytes
+  read-assignment bytes c same =
       record {
         size = c .size;
         assignment = c .assignment;
-        stated = rw q at (c .states);
-        satisfies = rw q at (c .satisfies);
+        stated = rw same at (c .states);
+        satisfies = rw same at (c .satisfies);
       }
 
-  pub model-exactly : (bytes : List ℕ) → modelChecked input bytes ≡ Accepted ↔ WritesAssignment p bytes
+  pub model-exactly : (bytes : List ℕ) → modelChecked terms input bytes ≡ Accepted ↔ WritesAssignment p bytes
   model-exactly bytes = (
-    λ a. let c = model-checked-satisfies input bytes a in read-assignment bytes c (same-problem (read input) (c .problem) p (c .reads) e),
-    λ h. satisfying-model-checked input bytes p e (h .size) (h .assignment) (h .stated) (h .satisfies),
+    λ a. let c = model-checked-satisfies terms input bytes a in
+        read-assignment bytes c (same-problem (read input) (c .problem) q (c .reads) e),
+    λ h. satisfying-model-checked terms input bytes q e (h .size) (h .assignment) (h .stated) (h .satisfies),
   )
 
   -- what a check refuses itself: a proof by its length; a model too short, else by the first field that is refused
-  pub proof-length-refused : (limits : Limits) (bytes : List ℕ) → wholeSteps limits (length bytes) ≡ false
-      → proofChecked limits input bytes ≡ Refused ProofLength (length bytes)
+  pub proof-length-refused : (bytes : List ℕ) → wholeSteps limits (length bytes) ≡ false
+      → proofChecked terms input bytes ≡ Refused ProofLength (length bytes)
   unfolding proofChecked
-  proof-length-refused limits bytes h = rw (e, proofChecked, h)
+  proof-length-refused bytes h = rw (e, proofChecked, h)
 
-  pub model-short-refused : (bytes : List ℕ) → length bytes < limit.modelBytes → modelChecked input bytes ≡ Refused ShortModel 0
+  pub model-short-refused : (bytes : List ℕ) → length bytes < limit.modelBytes → modelChecked terms input bytes ≡ Refused ShortModel 0
   unfolding modelChecked
   model-short-refused bytes h = rw (e, modelChecked, lt-ltb (length bytes) limit.modelBytes h)
 
   -- 17, and which field: the first that is not as it must be
   pub model-field-refused : (bytes : List ℕ) → limit.modelBytes ≤ length bytes → (place : ℕ)
-      → modelChecked input bytes ≡ Refused BadModel place ↔ FirstBadField bytes (p .booleans) (p .rationals) place
+      → modelChecked terms input bytes ≡ Refused BadModel place ↔ FirstBadField bytes (p .booleans) (p .rationals) place
   unfolding modelChecked
   model-field-refused bytes h place =
-      let w = read-well-formed input p e in
+      let w = posed-well-formed (terms .edition) input q e in
       let x = refused-exactly bytes (p .booleans) (p .rationals) h (w .booleans) (w .rationals) place in (
         λ a. x .0 (by (model (p .booleans) (p .rationals) bytes 0) refl
             (rw (e, modelChecked, le-ltb (length bytes) limit.modelBytes h) at a)),
@@ -130,10 +138,10 @@ module _ (input : List ℕ) (p : Problem) (e : read input ≡ sound p) where
 
 -- ---- and for one with a fault
 module _ (input : List ℕ) (f : Refusal) (place : ℕ) (e : read input ≡ faulty f place) where
-  pub proof-refused : (limits : Limits) (bytes : List ℕ) → proofChecked limits input bytes ≡ Refused f place
+  pub proof-refused : (terms : Terms) (bytes : List ℕ) → proofChecked terms input bytes ≡ Refused f place
   unfolding proofChecked
-  proof-refused limits bytes = rw (e, proofChecked)
+  proof-refused terms bytes = rw (e, proofChecked)
 
-  pub model-refused : (bytes : List ℕ) → modelChecked input bytes ≡ Refused f place
+  pub model-refused : (terms : Terms) (bytes : List ℕ) → modelChecked terms input bytes ≡ Refused f place
   unfolding modelChecked
-  model-refused bytes = rw (e, modelChecked)
+  model-refused terms bytes = rw (e, modelChecked)

@@ -8,9 +8,9 @@ use Rattle.rules_types.specs.declared.answers.Refusal.{Refusal}
 use Rattle.rules_types.specs.declared.answers.Refusal.the-variants.{ShortModel, ProofLength, BadModel}
 use Rattle.rules_types.specs.declared.answers.Checked.{Checked}
 use Rattle.rules_types.specs.declared.answers.Checked.the-variants.{Accepted, Fails, Refused}
-use Rattle.rules_types.specs.declared.limits.Limits.{Limits}
+use Rattle.rules_types.specs.declared.terms.Terms.{Terms}
 use Rattle.rules_types.specs.Limits as limit
-use Rattle.rules.specs.Problem.{Problem}
+use Rattle.rules.specs.Problem.{Problem, inEdition}
 use Rattle.rules.specs.Meaning.{Assignment}
 use Rattle.rules.specs.Elimination.{loadableOf}
 use Rattle.rules.specs.Calls.{faulty, sound, read, proofChecked, modelChecked}
@@ -24,48 +24,49 @@ use Rattle.promises.specs.Failing.{ClauseFails, LineFails, model-fails}
 use Rattle.promises.specs.Whole.{accepted-lines, failing-line, refused-length}
 
 -- "The check tests question faults (3 to 13), then 16"
-pub record ChecksProof (limits : Limits) (input proof : List ℕ) (says : Checked) : Type 0 where
+pub record ChecksProof (terms : Terms) (input proof : List ℕ) (says : Checked) : Type 0 where
   pub faultyInput : (f : Refusal) (place : ℕ) → read input ≡ faulty f place → says ≡ Refused f place
   pub proofLength : (p : Problem) → read input ≡ sound p → (place : ℕ) → (says ≡ Refused ProofLength place)
-      ↔ ((place ≡ length proof) × ((k : ℕ) → WholeLines limits (length proof) k → ⊥))
+      ↔ ((place ≡ length proof) × ((k : ℕ) → WholeLines (terms .limits) (length proof) k → ⊥))
   -- "The check accepts a book exactly if its lines follow and the last is empty"
   pub accepted : (p : Problem) → read input ≡ sound p → (says ≡ Accepted)
-      ↔ ((k : ℕ) × WholeLines limits (length proof) k × Refutes (loadableOf p) k proof)
+      ↔ ((k : ℕ) × WholeLines (terms .limits) (length proof) k × Refutes (loadableOf (inEdition (terms .edition) p)) k proof)
   -- "the first failing line, the line count if only the empty end is missing"
-  pub fails : (p : Problem) → read input ≡ sound p → (k : ℕ) → WholeLines limits (length proof) k → (n : ℕ) → (says ≡ Fails n)
-      ↔ LineFails (loadableOf p) k proof n
+  pub fails : (p : Problem) → read input ≡ sound p → (k : ℕ) → WholeLines (terms .limits) (length proof) k → (n : ℕ) → (says ≡ Fails n)
+      ↔ LineFails (loadableOf (inEdition (terms .edition) p)) k proof n
   -- "whenever the check accepts a book for Q ... no choice satisfies Q, whoever wrote the book"
-  pub refutes : (p : Problem) → read input ≡ sound p → says ≡ Accepted → NoAssignment p
+  pub refutes : (p : Problem) → read input ≡ sound p → says ≡ Accepted → NoAssignment (inEdition (terms .edition) p)
 
 -- "question faults (3 to 13), then ... 2 and 17"
-pub record ChecksModel (input bytes : List ℕ) (says : Checked) : Type 0 where
+pub record ChecksModel (terms : Terms) (input bytes : List ℕ) (says : Checked) : Type 0 where
   pub faultyInput : (f : Refusal) (place : ℕ) → read input ≡ faulty f place → says ≡ Refused f place
   pub short : (p : Problem) → read input ≡ sound p → length bytes < limit.modelBytes → says ≡ Refused ShortModel 0
   pub field : (p : Problem) → read input ≡ sound p → limit.modelBytes ≤ length bytes → (place : ℕ) → (says ≡ Refused BadModel place)
       ↔ FirstBadField bytes (p .booleans) (p .rationals) place
   -- "a sheet exactly if every clause holds": the assignment on it satisfies Q
-  pub accepted : (p : Problem) → read input ≡ sound p → (says ≡ Accepted) ↔ WritesAssignment p bytes
+  pub accepted : (p : Problem) → read input ≡ sound p → (says ≡ Accepted) ↔ WritesAssignment (inEdition (terms .edition) p) bytes
   -- "the first clause that fails"
   pub fails : (p : Problem) → read input ≡ sound p → (χ : Assignment) → limit.modelBytes ≤ length bytes
-      → StatesModel bytes (p .booleans) (p .rationals) χ → (n : ℕ) → (says ≡ Fails n) ↔ ClauseFails χ (p .clauses) n
+      → StatesModel bytes (p .booleans) (p .rationals) χ → (n : ℕ) → (says ≡ Fails n)
+      ↔ ClauseFails χ (inEdition (terms .edition) p .clauses) n
 
-pub checks-proof : (limits : Limits) → limits .steps ≤ limit.mostSteps → (input proof : List ℕ) → AllBytes proof
-    → ChecksProof limits input proof (proofChecked limits input proof)
-checks-proof limits few input proof are =
+pub checks-proof : (terms : Terms) → terms .limits .steps ≤ limit.mostSteps → (input proof : List ℕ) → AllBytes proof
+    → ChecksProof terms input proof (proofChecked terms input proof)
+checks-proof terms few input proof are =
     record {
-      faultyInput = λ f place e. proof-refused input f place e limits proof;
-      proofLength = λ p e. refused-length input p e limits proof;
-      accepted = λ p e. accepted-lines input p e limits proof are few;
-      fails = λ p e. failing-line input p e limits proof are few;
-      refutes = λ p e a. proof-checked-refutes limits input proof a p e;
+      faultyInput = λ f place e. proof-refused input f place e terms proof;
+      proofLength = λ p e. refused-length terms input p e proof;
+      accepted = λ p e. accepted-lines terms input p e proof are few;
+      fails = λ p e. failing-line terms input p e proof are few;
+      refutes = λ p e a. proof-checked-refutes terms input proof a p e;
     }
 
-pub checks-model : (input bytes : List ℕ) → ChecksModel input bytes (modelChecked input bytes)
-checks-model input bytes =
+pub checks-model : (terms : Terms) (input bytes : List ℕ) → ChecksModel terms input bytes (modelChecked terms input bytes)
+checks-model terms input bytes =
     record {
-      faultyInput = λ f place e. model-refused input f place e bytes;
-      short = λ p e. model-short-refused input p e bytes;
-      field = λ p e. model-field-refused input p e bytes;
-      accepted = λ p e. model-exactly input p e bytes;
-      fails = λ p e. model-fails input p e bytes;
+      faultyInput = λ f place e. model-refused input f place e terms bytes;
+      short = λ p e. model-short-refused terms input p e bytes;
+      field = λ p e. model-field-refused terms input p e bytes;
+      accepted = λ p e. model-exactly terms input p e bytes;
+      fails = λ p e. model-fails terms input p e bytes;
     }

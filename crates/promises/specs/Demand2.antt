@@ -8,9 +8,10 @@ use lib.Dec.{T}
 use lib.ListN.{length, getElem?, take}
 use Rattle.rules_types.specs.declared.answers.Checked.the-variants.{Accepted}
 use Rattle.rules_types.specs.declared.limits.Limits.{Limits}
+use Rattle.rules_types.specs.declared.terms.Terms.{Terms}
 use Rattle.rules_types.specs.Limits as limit
 use Rattle.rules_types.specs.Answers.{answerNumber, answerValue}
-use Rattle.rules.specs.Problem.{Clause, Problem}
+use Rattle.rules.specs.Problem.{Clause, Problem, inEdition}
 use Rattle.rules.specs.Lines.{Line, Variable}
 use Rattle.rules.specs.Split.{partsOf, splitsOf}
 use Rattle.rules.specs.Resolve.{resolve}
@@ -26,7 +27,7 @@ use Rattle.theory_resolution.specs.Result.{IsResolvent, resolve-is}
 use Rattle.theory_splitting.specs.WellFormed.{splitsIn}
 use Rattle.theory_splitting.specs.SplitsInto.{SplitsInto, clause-splits}
 use Rattle.theory_splitting.specs.Count.{splits-number}
-use Rattle.theory_splitting.specs.Reading.{read-well-formed}
+use Rattle.theory_splitting.specs.Reading.{posed-well-formed}
 use Rattle.theory_elimination.specs.Sound.{Sound}
 use Rattle.theory_elimination.specs.Origins.{Each, Justified, Fresh, Distinct}
 use Rattle.theory_elimination.specs.InOrder.{InOrder, round-in-order}
@@ -42,7 +43,8 @@ use Rattle.promises.specs.HandedBack.{HandedBack, handed-after}
 use Rattle.promises.specs.Demand1.{demand1}
 use Rattle.promises.specs.Demand3.{demand3}
 
-pub record Demand2 (input : List ℕ) (p : Problem) : Type 0 where
+-- for Q, the problem that was read, in its edition: `p`
+pub record Demand2 (edition : ℕ) (input : List ℕ) (p : Problem) : Type 0 where
   -- "Our book is the course of the published Davis-Putnam and Fourier-Motzkin rules as 01 sets it out: each line is the clause or
   -- resolvent it names,": a part, the one that it names, or the resolvent of two earlier lines of its round; no earlier line
   -- drops one, no two are equal, and all are normalized: no Boolean variable in both signs, no constant constraint, no common divisor
@@ -66,36 +68,38 @@ pub record Demand2 (input : List ℕ) (p : Problem) : Type 0 where
   pub loaded : (stops : Stops) → AllLoaded stops (loadableOf p) (elimination stops p)
   -- "The check accepts a book exactly if its lines follow and the last is empty, a sheet exactly if every clause holds,"
   pub proof : (limits : Limits) → limits .steps ≤ limit.mostSteps → (bytes : List ℕ) → AllBytes bytes
-      → proofChecked limits input bytes ≡ Accepted ↔ ((k : ℕ) × WholeLines limits (length bytes) k × Refutes (loadableOf p) k bytes)
-  pub model : (bytes : List ℕ) → modelChecked input bytes ≡ Accepted ↔ WritesAssignment p bytes
+      → proofChecked (record { limits = limits; edition = edition }) input bytes ≡ Accepted
+      ↔ ((k : ℕ) × WholeLines limits (length bytes) k × Refutes (loadableOf p) k bytes)
+  pub model : (limits : Limits) (bytes : List ℕ) → modelChecked (record { limits = limits; edition = edition }) input bytes ≡ Accepted
+      ↔ WritesAssignment p bytes
 
-pub demand2 : (input : List ℕ) (p : Problem) → read input ≡ sound p → Demand2 input p
-demand2 input p e = record {
+pub demand2 : (edition : ℕ) (input : List ℕ) (q : Problem) → read input ≡ sound q → Demand2 edition input (inEdition edition q)
+demand2 edition input q e = let p = inEdition edition q in record {
   lines = elimination-lines p;
   parts = every-part p;
   splits = splits-number;
-  pieces = clause-splits p (read-well-formed input p e);
+  pieces = clause-splits p (posed-well-formed edition input q e);
   resolvents = resolve-is;
   undropped = elimination-undropped p;
   distinct = elimination-distinct p;
-  normalized = λ stops. elimination-normalized p stops (read-well-formed input p e);
+  normalized = λ stops. elimination-normalized p stops (posed-well-formed edition input q e);
   exactly = elimination-is p;
   only = elimination-only p;
   inOrder = round-in-order (orderOf p);
   dropping = drops-exactly;
   covering = covered-exactly;
   loaded = elimination-parts p;
-  proof = λ limits few bytes b. accepted-lines input p e limits bytes b few;
-  model = model-exactly input p e;
+  proof = λ limits few bytes b. accepted-lines (record { limits = limits; edition = edition }) input q e bytes b few;
+  model = λ limits. model-exactly (record { limits = limits; edition = edition }) input q e;
 }
 
 -- "so every non-empty part our solver hands back.": with its own answer, and what it left in the buffers
-pub handed-back : (limits : Limits) → limits .steps ≤ limit.mostSteps → (input proof model : List ℕ)
-    → let ours = solve limits input proof model in
-    HandedBack limits input ours
-    (evidence limits (answerNumber (ours .solved .answer)) (answerValue (ours .solved .answer)) (ours .proof) (ours .model))
-handed-back limits few input proof model =
-    let ours = solve limits input proof model in
-    handed-after limits input proof model ours (demand1 limits input proof model)
-    (λ p e full. demand3 limits few input p e proof model full) _
-    (hands limits (answerNumber (ours .solved .answer)) (answerValue (ours .solved .answer)) (ours .proof) (ours .model))
+pub handed-back : (terms : Terms) → terms .limits .steps ≤ limit.mostSteps → (input proof model : List ℕ)
+    → let ours = solve terms input proof model in
+    HandedBack terms input ours
+    (evidence (terms .limits) (answerNumber (ours .solved .answer)) (answerValue (ours .solved .answer)) (ours .proof) (ours .model))
+handed-back terms few input proof model =
+    let ours = solve terms input proof model in
+    handed-after terms input proof model ours (demand1 terms input proof model)
+    (λ p e full. demand3 terms few input p e proof model full) _
+    (hands (terms .limits) (answerNumber (ours .solved .answer)) (answerValue (ours .solved .answer)) (ours .proof) (ours .model))

@@ -7,7 +7,7 @@ use Prim.Native.Nat.{ℕ, _-_, _≤_, _<_, _∣_}
 use native.Mathlib.Nat.{eq-zero-or-pos}
 use native.Mathlib.Omega.{arith}
 use lib.IntN.{pos}
-use Rattle.rules.specs.Problem.{Problem}
+use Rattle.rules.specs.Problem.{Problem, inEdition}
 use Rattle.rules.specs.Meaning.{Assignment}
 use Rattle.rules.specs.Lines.{coefficient}
 use Rattle.rules.specs.Steps.{Step}
@@ -17,7 +17,7 @@ use Rattle.rules.specs.Values.{walk}
 use Rattle.rules.specs.Calls.{sound, read}
 use Rattle.theory_lists.specs.All.{all-map, all-mapped}
 use Rattle.theory_splitting.specs.WellFormed.{WellFormed}
-use Rattle.theory_splitting.specs.Reading.{read-well-formed}
+use Rattle.theory_splitting.specs.Reading.{posed-well-formed}
 use Rattle.theory_saturation.specs.Unbounded.{walk-zero}
 use Rattle.theory_saturation.specs.Order.{problem-ordered}
 use Rattle.theory_saturation.specs.Least.{Over, over-zero, walk-least}
@@ -56,6 +56,7 @@ module _ (p : Problem) (w : WellFormed p) where
   assignment-least m h = walk-least (orderOf p) (problem-ordered p .once) (lines steps) m
       (λ f. ⊎-elim (λ z. over-zero χ m f (absent f (omega arith))) (λ z. h f (omega arith)) (eq-zero-or-pos (r - f)))
 
-pub least-denominator : (input : List ℕ) {p : Problem} → read input ≡ sound p → LeastOf (p .rationals) (walkOf p .assignment)
+pub least-denominator : (edition : ℕ) (input : List ℕ) {p : Problem} → read input ≡ sound p → let posed = inEdition edition p in
+    LeastOf (posed .rationals) (walkOf posed .assignment)
 unfolding walkOf
-least-denominator input {p} e = assignment-least p (read-well-formed input p e)
+least-denominator edition input {p} e = assignment-least (inEdition edition p) (posed-well-formed edition input p e)

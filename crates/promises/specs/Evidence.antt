@@ -9,9 +9,10 @@ use lib.Seq.{drop-at}
 use Rattle.rules_types.specs.declared.answers.Verdict.the-variants.{Satisfiable, Unsatisfiable}
 use Rattle.rules_types.specs.declared.answers.Checked.the-variants.{Accepted}
 use Rattle.rules_types.specs.declared.limits.Limits.{Limits}
+use Rattle.rules_types.specs.declared.terms.Terms.{Terms}
 use Rattle.rules_types.specs.Limits as limit
 use Rattle.rules_types.specs.Answers.{answerValue}
-use Rattle.rules.specs.Problem.{Problem}
+use Rattle.rules.specs.Problem.{Problem, inEdition}
 use Rattle.rules.specs.Steps.{Step, encodeProof}
 use Rattle.rules.specs.Elimination.{limited, State, running, ended, empty, overflow, outOfSteps, orderOf, elimination}
 use Rattle.rules.specs.Needs.{stepsOf}
@@ -19,7 +20,8 @@ use Rattle.rules.specs.Values.{walk}
 use Rattle.rules.specs.Calls.{sound, read, concluded, said, proofAfter, modelAfter, proofChecked}
 use Rattle.theory_lists.specs.All.{All, all-map}
 use Rattle.theory_resolution.specs.Formed.{Formed}
-use Rattle.theory_splitting.specs.Reading.{read-well-formed}
+use Rattle.theory_splitting.specs.WellFormed.{WellFormed}
+use Rattle.theory_splitting.specs.Reading.{posed-well-formed}
 use Rattle.theory_elimination.specs.Sound.{Sound, elimination-sound}
 use Rattle.theory_bytes.specs.Steps.{take-proof}
 use Rattle.theory_checks.specs.EliminationAccepted.{elimination-accepted}
@@ -32,15 +34,14 @@ use Rattle.promises.specs.Outcomes.{finished, walkModel, concluded-runni
 use Rattle.promises.specs.Outcomes.{unstopped-fits}
 use Rattle.promises.specs.Reported.{left, reported-lines, proof-holds}
 
-module _ (limits : Limits) (input : List ℕ) (p : Problem) (e : read input ≡ sound p) where
-  -- ---- the model
+-- ---- the model
+module _ (limits : Limits) (p : Problem) (w : WellFormed p) where
   model-by : (proof model : List ℕ) (steps : List Step) (n : ℕ) → elimination (limited limits) p ≡ running steps n → (o : Option (List ℕ))
       → walkModel p steps ≡ o → Comes Satisfiable (answerOf (finished steps n o))
       → OurModel p (left limits (finished steps n o) proof model) model
   unfolding said modelAfter
   model-by proof model steps n c none q h = absurd (let z : _≡_ {A = ℕ} 0 1 = cc in omega arith)
   model-by proof model steps n c (some bytes) q h =
-      let w = read-well-formed input p e in
       let walked = walk (orderOf p) (map (λ s. s .line) steps) in
       let fit = unstopped-fits limits p steps n c in
       let s = running-satisfies p w (limited limits) steps n c in
@@ -68,7 +69,14 @@ module _ (limits : Limits) (input : List ℕ) (p : Problem) (e : read input ≡ 
       by (ended overflow steps n) c h = absurd h
       by (ended outOfSteps steps n) c h = absurd h
 
-  -- ---- the proof
+-- ---- the proof, of a problem read without fault, in its edition
+module _ (terms : Terms) (input : List ℕ) (q : Problem) (e : read input ≡ sound q) where
+  abbrev limits : Limits
+  limits = terms .limits
+
+  abbrev p : Problem
+  p = inEdition (terms .edition) q
+
   module _ (few : limits .steps ≤ limit.mostSteps) (proof : List ℕ) where
     used : (steps : List Step) → All (λ s. Formed (s .line)) steps → take (limit.stepBytes * length steps) (encodeProof steps ++ replicate
         (limit.proofBytes limits - limit.stepBytes * length steps) 0 ++ drop (limit.proofBytes limits) proof) ≡ encodeProof steps
@@ -81,10 +89,10 @@ module _ (limits : Limits) (input : List ℕ) (p : Problem) (e : read input ≡ 
     unfolding elimination stepsOf
     formed steps n c =
         all-map (λ s. Sound (s .line)) (λ s. Formed (s .line)) steps (λ s h. h .formed) (subst (λ (s : State). All (λ x. Sound (x .line))
-        (stepsOf s)) c (elimination-sound p (read-well-formed input p e) (limited limits) (orderOf p)))
+        (stepsOf s)) c (elimination-sound p (posed-well-formed (terms .edition) input q e) (limited limits) (orderOf p)))
 
     pub our-proof : Comes Unsatisfiable (answerOf (concluded p (elimination (limited limits) p)))
-        → proofChecked limits input (take (limit.stepBytes * answerValue (answerOf (concluded p (elimination (limited limits) p))))
+        → proofChecked terms input (take (limit.stepBytes * answerValue (answerOf (concluded p (elimination (limited limits) p))))
         (proofAfter limits (concluded p (elimination (limited limits) p)) proof)) ≡ Accepted
     unfolding stepsOf concluded said
     our-proof h = rw (
@@ -93,9 +101,9 @@ module _ (limits : Limits) (input : List ℕ) (p : Problem) (e : read input ≡ 
     ) (by (elimination (limited limits) p) refl h)
       where
         by : (s : State) → elimination (limited limits) p ≡ s → Comes Unsatisfiable (answerOf (concluded p s))
-            → proofChecked limits input (take (limit.stepBytes * length (stepsOf s)) (encodeProof (stepsOf s) ++ replicate
+            → proofChecked terms input (take (limit.stepBytes * length (stepsOf s)) (encodeProof (stepsOf s) ++ replicate
             (limit.proofBytes limits - limit.stepBytes * length (stepsOf s)) 0 ++ drop (limit.proofBytes limits) proof)) ≡ Accepted
         by (running steps n) c h = absurd (finished-unsatisfiable steps n (walkModel p steps) (rw (concluded-running p steps n) at h))
-        by (ended empty steps n) c h = rw (used steps (formed steps n c)) (elimination-accepted limits input p e few steps n c)
+        by (ended empty steps n) c h = rw (used steps (formed steps n c)) (elimination-accepted terms few input q e steps n c)
         by (ended overflow steps n) c h = absurd h
         by (ended outOfSteps steps n) c h = absurd h

@@ -10,8 +10,9 @@ use lib.ListN.{length}
 use Rattle.rules_types.specs.declared.answers.Checked.{Checked}
 use Rattle.rules_types.specs.declared.answers.Checked.the-variants.{Fails}
 use Rattle.rules_types.specs.declared.limits.Limits.{Limits}
+use Rattle.rules_types.specs.declared.terms.Terms.{Terms}
 use Rattle.rules_types.specs.Limits as limit
-use Rattle.rules.specs.Problem.{Problem, Clause}
+use Rattle.rules.specs.Problem.{Problem, inEdition, Clause}
 use Rattle.rules.specs.Meaning.{Assignment, clauseHolds}
 use Rattle.rules.specs.Lines.{Line}
 use Rattle.rules.specs.Steps.{Step}
@@ -20,7 +21,7 @@ use Rattle.rules.specs.Checker.{followed, followedLines, withEmptyEnd, checkPro
 use Rattle.rules.specs.Calls.{sound, read, wholeSteps, proofChecked, modelChecked}
 use Rattle.theory_lists.specs.All.{All}
 use Rattle.theory_lists.specs.Tests.{of-true}
-use Rattle.theory_splitting.specs.Reading.{read-well-formed}
+use Rattle.theory_splitting.specs.Reading.{posed-well-formed}
 use Rattle.theory_bytes.specs.Bytes.{AllBytes}
 use Rattle.theory_layout.specs.Offsets.{StatesModel}
 use Rattle.theory_layout.specs.Steps.{Writable}
@@ -97,18 +98,24 @@ lines-fail parts known k bytes b few n =
           (m .1 .lines, all (m .1 .lines) .1 (f .count, f .follow), m .1 .last, m .0 ∙ sym (f .count))) h),
     )
 
--- ---- the calls, for a problem read without fault
-module _ (input : List ℕ) (p : Problem) (e : read input ≡ sound p) where
+-- ---- the calls, for a problem read without fault, in its edition
+module _ (terms : Terms) (input : List ℕ) (q : Problem) (e : read input ≡ sound q) where
+  abbrev limits : Limits
+  limits = terms .limits
+
+  abbrev p : Problem
+  p = inEdition (terms .edition) q
+
   pub model-fails : (bytes : List ℕ) (χ : Assignment) → limit.modelBytes ≤ length bytes
       → StatesModel bytes (p .booleans) (p .rationals) χ
-      → (k : ℕ) → modelChecked input bytes ≡ Fails k ↔ ClauseFails χ (p .clauses) k
+      → (k : ℕ) → modelChecked terms input bytes ≡ Fails k ↔ ClauseFails χ (p .clauses) k
   model-fails bytes χ h s k =
-      let q : 0 + k ≡ k = omega arith in rw (model-checks input bytes p e h χ s) (rw q at (clauses-fail χ (p .clauses) 0 k))
+      let z : 0 + k ≡ k = omega arith in rw (model-checks terms input bytes q e h χ s) (rw z at (clauses-fail χ (p .clauses) 0 k))
 
-  pub proof-fails : (limits : Limits) → limits .steps ≤ limit.mostSteps → (bytes : List ℕ) → AllBytes bytes
+  pub proof-fails : limits .steps ≤ limit.mostSteps → (bytes : List ℕ) → AllBytes bytes
       → wholeSteps limits (length bytes) ≡ true
-      → (k : ℕ) → proofChecked limits input bytes ≡ Fails k ↔ LineFails (loadableOf p) (length bytes / limit.stepBytes) bytes k
+      → (k : ℕ) → proofChecked terms input bytes ≡ Fails k ↔ LineFails (loadableOf p) (length bytes / limit.stepBytes) bytes k
   unfolding proofChecked checkProof followedLines
-  proof-fails limits few bytes b h k =
-      rw (e, proofChecked, h) (lines-fail (loadableOf p) (parts-writable p (read-well-formed input p e))
+  proof-fails few bytes b h k =
+      rw (e, proofChecked, h) (lines-fail (loadableOf p) (parts-writable p (posed-well-formed (terms .edition) input q e))
       (length bytes / limit.stepBytes) bytes b (whole-few limits few (length bytes) (of-true (wholeSteps limits (length bytes)) h)) k)

@@ -12,8 +12,9 @@ use Rattle.rules_types.specs.declared.answers.Refusal.the-variants as refusal
 use Rattle.rules_types.specs.declared.answers.Verdict.{Verdict}
 use Rattle.rules_types.specs.declared.answers.Verdict.the-variants.{Satisfiable, Unsatisfiable, Unwritten}
 use Rattle.rules_types.specs.declared.limits.Limits.{Limits}
+use Rattle.rules_types.specs.declared.terms.Terms.{Terms}
 use Rattle.rules_types.specs.Limits as limit
-use Rattle.rules.specs.Problem.{Problem}
+use Rattle.rules.specs.Problem.{Problem, inEdition}
 use Rattle.rules.specs.Steps.{Step}
 use Rattle.rules.specs.Elimination.{limited, State, running, ended, empty, overflow, outOfSteps, orderOf, loadableOf, elimination}
 use Rattle.rules.specs.Needs.{stepsOf}
@@ -23,7 +24,7 @@ use Rattle.rules.specs.Calls.{modelAfter, solve}
 use Rattle.theory_lists.specs.Tests.{split}
 use Rattle.theory_lists.specs.All.{All, all-map}
 use Rattle.theory_resolution.specs.Formed.{Formed}
-use Rattle.theory_splitting.specs.Reading.{read-well-formed}
+use Rattle.theory_splitting.specs.Reading.{posed-well-formed}
 use Rattle.theory_splitting.specs.Lent.{lent-short-proof, lent-short-model, lent-fault, lent-sound}
 use Rattle.theory_elimination.specs.WithinLimits.{limited-held}
 use Rattle.theory_elimination.specs.Sound.{Sound, elimination-sound}
@@ -72,7 +73,10 @@ module _ (limits : Limits) (p : Problem) (proof model : List ℕ) where
 abbrev SameLengths : Limits → List ℕ → List ℕ → Outcome → Type 0
 SameLengths limits proof model o = (length (proofAfter limits o proof) ≡ length proof) × (length (modelAfter o model) ≡ length model)
 
-module _ (limits : Limits) (proof model : List ℕ) (full : FullSize limits proof model) where
+module _ (terms : Terms) (proof model : List ℕ) (full : FullSize (terms .limits) proof model) where
+  abbrev limits : Limits
+  limits = terms .limits
+
   kept-stopped : (f : Refusal) (steps n : ℕ) → SameLengths limits proof model (stopped f steps n)
   unfolding proofAfter modelAfter
   kept-stopped f steps n = (simp (length-append, length-replicate, length-drop) (omega (arith, full .proofSize)), refl)
@@ -85,14 +89,17 @@ module _ (limits : Limits) (proof model : List ℕ) (full : FullSize limits proo
     simp (length-append, length-drop) (omega (arith, full .modelSize)),
   )
 
-  module _ (input : List ℕ) (p : Problem) (e : read input ≡ sound p) where
+  module _ (input : List ℕ) (q : Problem) (e : read input ≡ sound q) where
+    abbrev p : Problem
+    p = inEdition (terms .edition) q
+
     kept-finished : (steps : List Step) (n : ℕ) → elimination (limited limits) p ≡ running steps n → All (λ s. Formed (s .line)) steps
         → length steps ≤ limits .steps → (o : Option (List ℕ)) → walkModel p steps ≡ o → SameLengths limits proof model (finished steps n o)
     unfolding noModel
-    kept-finished steps n c f h none q = kept-decided Unwritten steps n noModel f h refl
-    kept-finished steps n c f h (some bytes) q =
-        kept-decided Satisfiable steps n bytes f h (written-accepted input p e (walk (orderOf p) (map (λ s. s .line) steps)) bytes [] q
-        (running-satisfies p (read-well-formed input p e) (limited limits) steps n c) .0)
+    kept-finished steps n c f h none m = kept-decided Unwritten steps n noModel f h refl
+    kept-finished steps n c f h (some bytes) m =
+        kept-decided Satisfiable steps n bytes f h (written-accepted terms input q e (walk (orderOf p) (map (λ s. s .line) steps)) bytes [] m
+        (running-satisfies p (posed-well-formed (terms .edition) input q e) (limited limits) steps n c) .0)
 
     kept-concluded : (s : State) → elimination (limited limits) p ≡ s → All (λ x. Formed (x .line)) (stepsOf s)
         → length (stepsOf s) ≤ limits .steps → SameLengths limits proof model (concluded p s)
@@ -107,28 +114,30 @@ module _ (limits : Limits) (proof model : List ℕ) (full : FullSize limits proo
     kept-elimination =
         kept-concluded (elimination (limited limits) p) refl
         (all-map (λ s. Sound (s .line)) (λ s. Formed (s .line)) (stepsOf (elimination (limited limits) p)) (λ s h. h .formed)
-        (elimination-sound p (read-well-formed input p e) (limited limits) (orderOf p)))
+        (elimination-sound p (posed-well-formed (terms .edition) input q e) (limited limits) (orderOf p)))
         (limited-held limits (orderOf p) (loadableOf p))
 
 kept-faulted : (limits : Limits) (proof model : List ℕ) (f : Refusal) (place : ℕ) → SameLengths limits proof model (faulted f place)
 unfolding proofAfter modelAfter
 kept-faulted limits proof model f place = (refl, refl)
 
-pub sizes-kept : (limits : Limits) (input proof model : List ℕ) → (length (solve limits input proof model .proof) ≡ length proof)
-    × (length (solve limits input proof model .model) ≡ length model)
+pub sizes-kept : (terms : Terms) (input proof model : List ℕ) → (length (solve terms input proof model .proof) ≡ length proof)
+    × (length (solve terms input proof model .model) ≡ length model)
 unfolding solve
-sizes-kept limits input proof model =
-    let B = ltb (length proof) (limit.proofBytes limits) in
+sizes-kept terms input proof model =
+    let B = ltb (length proof) (limit.proofBytes (terms .limits)) in
     let S = ltb (length model) limit.modelBytes in
-    ⊎-elim (λ t. rw (lent-short-proof limits input proof model (ltb→lt (length proof) (limit.proofBytes limits) t))
-    (kept-faulted limits proof model refusal.ShortProof 0))
-    (λ t. let z = nltb→le (length proof) (limit.proofBytes limits) t in
-    ⊎-elim (λ u. rw (lent-short-model limits input proof model z (ltb→lt (length model) limit.modelBytes u))
-    (kept-faulted limits proof model refusal.ShortModel 0))
+    ⊎-elim (λ t. rw (lent-short-proof terms input proof model (ltb→lt (length proof) (limit.proofBytes (terms .limits)) t))
+    (kept-faulted (terms .limits) proof model refusal.ShortProof 0))
+    (λ t. let z = nltb→le (length proof) (limit.proofBytes (terms .limits)) t in
+    ⊎-elim (λ u. rw (lent-short-model terms input proof model z (ltb→lt (length model) limit.modelBytes u))
+    (kept-faulted (terms .limits) proof model refusal.ShortModel 0))
     (λ u. by (record { proofSize = z; modelSize = nltb→le (length model) limit.modelBytes u }) (read input) refl) (split S)) (split B)
   where
-    by : FullSize limits proof model → (r : Reading) → read input ≡ r → SameLengths limits proof model (lent limits input proof model)
+    by : FullSize (terms .limits) proof model → (r : Reading) → read input ≡ r
+        → SameLengths (terms .limits) proof model (lent terms input proof model)
     by full (faulty f place) e =
-        rw (lent-fault limits input proof model (full .proofSize) (full .modelSize) f place e) (kept-faulted limits proof model f place)
-    by full (sound p) e = rw (lent-sound limits input proof model (full .proofSize) (full .modelSize) p e)
-        (kept-elimination limits proof model full input p e)
+        rw (lent-fault terms input proof model (full .proofSize) (full .modelSize) f place e)
+        (kept-faulted (terms .limits) proof model f place)
+    by full (sound p) e = rw (lent-sound terms input proof model (full .proofSize) (full .modelSize) p e)
+        (kept-elimination terms proof model full input p e)

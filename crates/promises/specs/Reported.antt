@@ -8,9 +8,10 @@ use lib.ListN.{length, replicate, drop, length-append, length-replicate}
 use lib.Seq.{drop-at}
 use Rattle.rules_types.specs.declared.answers.Verdict.{Verdict}
 use Rattle.rules_types.specs.declared.limits.Limits.{Limits}
+use Rattle.rules_types.specs.declared.terms.Terms.{Terms}
 use Rattle.rules_types.specs.Limits as limit
 use Rattle.rules_types.specs.Answers.{answerValue}
-use Rattle.rules.specs.Problem.{Problem}
+use Rattle.rules.specs.Problem.{Problem, inEdition}
 use Rattle.rules.specs.Steps.{Step, encodeProof}
 use Rattle.rules.specs.Elimination.{limited, unlimited, State, running, ended, empty, overflow, outOfSteps, orderOf, loadableOf, elimination}
 use Rattle.rules.specs.Needs.{stepsOf, pairsOf}
@@ -39,11 +40,12 @@ use Rattle.promises.specs.Outcomes.{finished, walkModel, concluded-runni
 abbrev pub left : Limits → Outcome → List ℕ → List ℕ → Solving
 left limits o proof model = record { solved = said o; proof = proofAfter limits o proof; model = modelAfter o model }
 
-pub solve-is : (limits : Limits) (input : List ℕ) (p : Problem) → read input ≡ sound p → (proof model : List ℕ)
-    → FullSize limits proof model → solve limits input proof model ≡ left limits (concluded p (elimination (limited limits) p)) proof model
+pub solve-is : (terms : Terms) (input : List ℕ) (p : Problem) → read input ≡ sound p → (proof model : List ℕ)
+    → FullSize (terms .limits) proof model → let posed = inEdition (terms .edition) p in
+    solve terms input proof model ≡ left (terms .limits) (concluded posed (elimination (limited (terms .limits)) posed)) proof model
 unfolding solve
-solve-is limits input p e proof model full =
-    ap (λ (o : Outcome). left limits o proof model) (lent-sound limits input proof model (full .proofSize) (full .modelSize) p e)
+solve-is terms input p e proof model full =
+    ap (λ (o : Outcome). left (terms .limits) o proof model) (lent-sound terms input proof model (full .proofSize) (full .modelSize) p e)
 
 -- ---- lines and pairs
 finished-lines : (steps : List Step) (n : ℕ) (o : Option (List ℕ)) → answerValue (answerOf (finished steps n o)) ≡ length steps

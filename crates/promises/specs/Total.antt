@@ -14,9 +14,10 @@ use Rattle.rules_types.specs.declared.answers.Verdict.the-variants.{Satisfiable
 use Rattle.rules_types.specs.declared.answers.Answer.{Answer}
 use Rattle.rules_types.specs.declared.answers.Answer.the-variants.{Refused}
 use Rattle.rules_types.specs.declared.limits.Limits.{Limits}
+use Rattle.rules_types.specs.declared.terms.Terms.{Terms}
 use Rattle.rules_types.specs.Limits as limit
 use Rattle.rules_types.specs.Answers.{refusalNumber}
-use Rattle.rules.specs.Problem.{Problem}
+use Rattle.rules.specs.Problem.{Problem, inEdition}
 use Rattle.rules.specs.Steps.{Step}
 use Rattle.rules.specs.Elimination.{State, running, ended, empty, overflow, outOfSteps, limited, elimination}
 use Rattle.rules.specs.Calls.{Reading, faulty, sound, read, Solving, concluded, said, solve}
@@ -29,11 +30,12 @@ use Rattle.promises.specs.Outcomes.{answerOf, finished, walkModel, concl
 use Rattle.promises.specs.Reported.{solve-is}
 use Rattle.promises.specs.Left as left
 
-pub record Total (limits : Limits) (input proof model : List ℕ) (answer : Answer) : Type 0 where
+pub record Total (terms : Terms) (input proof model : List ℕ) (answer : Answer) : Type 0 where
   -- for a problem read without fault and full-size buffers
-  pub comes : (p : Problem) → read input ≡ sound p → FullSize limits proof model → ((v : Verdict) × Comes v answer) ⊎ LimitMet answer
+  pub comes : (p : Problem) → read input ≡ sound p → FullSize (terms .limits) proof model
+      → ((v : Verdict) × Comes v answer) ⊎ LimitMet answer
   -- for all others
-  pub refuses : ((p : Problem) → read input ≡ sound p → FullSize limits proof model → ⊥)
+  pub refuses : ((p : Problem) → read input ≡ sound p → FullSize (terms .limits) proof model → ⊥)
       → (f : Refusal) × IsRefused f answer × (1 ≤ refusalNumber f) × (refusalNumber f ≤ 13)
 
 abbrev Ends : Answer → Type 0
@@ -51,9 +53,12 @@ concluded-ends p (ended empty steps n) = inl (Unsatisfiable, refl)
 concluded-ends p (ended overflow steps n) = inr (inl refl)
 concluded-ends p (ended outOfSteps steps n) = inr (inr refl)
 
-module _ (limits : Limits) (input proof model : List ℕ) (are : AllBytes input) where
+module _ (terms : Terms) (input proof model : List ℕ) (are : AllBytes input) where
+  abbrev limits : Limits
+  limits = terms .limits
+
   abbrev answer : Answer
-  answer = solve limits input proof model .solved .answer
+  answer = solve terms input proof model .solved .answer
 
   abbrev OneOfThirteen : Answer → Type 0
   OneOfThirteen a = (f : Refusal) × IsRefused f a × (1 ≤ refusalNumber f) × (refusalNumber f ≤ 13)
@@ -64,28 +69,28 @@ module _ (limits : Limits) (input proof model : List ℕ) (are : AllBytes input)
   others : ((p : Problem) → read input ≡ sound p → FullSize limits proof model → ⊥) → OneOfThirteen answer
   unfolding refusalNumber
   others never =
-      ⊎-elim (λ t. refused ShortProof 0 (of (left.short-proof limits input proof model (ltb→lt (length proof) (limit.proofBytes limits) t)))
+      ⊎-elim (λ t. refused ShortProof 0 (of (left.short-proof terms input proof model (ltb→lt (length proof) (limit.proofBytes limits) t)))
       (omega arith) (omega arith))
       (λ t. let z = nltb→le (length proof) (limit.proofBytes limits) t in
-      ⊎-elim (λ u. refused ShortModel 0 (of (left.short-model limits input proof model z (ltb→lt (length model) limit.modelBytes u)))
+      ⊎-elim (λ u. refused ShortModel 0 (of (left.short-model terms input proof model z (ltb→lt (length model) limit.modelBytes u)))
       (omega arith) (omega arith))
       (λ u. by (record { proofSize = z; modelSize = nltb→le (length model) limit.modelBytes u }) (read input) refl)
       (split (ltb (length model) limit.modelBytes)))
       (split (ltb (length proof) (limit.proofBytes limits)))
     where
-      of : {s : Solving} → solve limits input proof model ≡ s → answer ≡ s .solved .answer
+      of : {s : Solving} → solve terms input proof model ≡ s → answer ≡ s .solved .answer
       of e = ap (λ (s : Solving). s .solved .answer) e
 
       by : FullSize limits proof model → (r : Reading) → read input ≡ r → OneOfThirteen answer
       by full (faulty f place) e =
           let n = fault-named input f place (names-first input are f place .0 e) in
-          refused f place (of (left.faulty-input limits input proof model full f place e)) (omega (arith, n .least)) (n .most)
+          refused f place (of (left.faulty-input terms input proof model full f place e)) (omega (arith, n .least)) (n .most)
       by full (sound p) e = absurd (never p e full)
 
-  pub total : Total limits input proof model answer
+  pub total : Total terms input proof model answer
   total =
       record {
-        comes = λ p e full. subst (λ (s : Solving). Ends (s .solved .answer)) (sym (solve-is limits input p e proof model full))
-            (concluded-ends p (elimination (limited limits) p));
+        comes = λ p e full. subst (λ (s : Solving). Ends (s .solved .answer)) (sym (solve-is terms input p e proof model full))
+            (let posed = inEdition (terms .edition) p in concluded-ends posed (elimination (limited limits) posed));
         refuses = others;
       }

@@ -11,8 +11,9 @@ use mir.Facts.{and-yes, yes-and, yes-leb, yes-eqb}
 use Rattle.rules_types.specs.declared.answers.Refusal.the-variants.{ProofLength}
 use Rattle.rules_types.specs.declared.answers.Checked.the-variants.{Accepted, Fails, Refused}
 use Rattle.rules_types.specs.declared.limits.Limits.{Limits}
+use Rattle.rules_types.specs.declared.terms.Terms.{Terms}
 use Rattle.rules_types.specs.Limits as limit
-use Rattle.rules.specs.Problem.{Problem}
+use Rattle.rules.specs.Problem.{Problem, inEdition}
 use Rattle.rules.specs.Elimination.{loadableOf}
 use Rattle.rules.specs.Checker.{followedLines, checkProof}
 use Rattle.rules.specs.Calls.{sound, read, wholeSteps, proofChecked}
@@ -49,27 +50,33 @@ module _ (limits : Limits) (n : ℕ) where
   lines-are : (k : ℕ) → WholeLines limits n k → n / limit.stepBytes ≡ k
   lines-are k h = let c = h .count in omega arith
 
--- ---- the call, for a problem read without fault
-module _ (input : List ℕ) (p : Problem) (e : read input ≡ sound p) (limits : Limits) (bytes : List ℕ) where
+-- ---- the call, for a problem read without fault, in its edition
+module _ (terms : Terms) (input : List ℕ) (q : Problem) (e : read input ≡ sound q) (bytes : List ℕ) where
+  abbrev limits : Limits
+  limits = terms .limits
+
+  abbrev p : Problem
+  p = inEdition (terms .edition) q
+
   abbrev whole : Bool
   whole = wholeSteps limits (length bytes)
 
   module _ (are : AllBytes bytes) (few : limits .steps ≤ limit.mostSteps) where
-    pub accepted-lines : proofChecked limits input bytes ≡ Accepted
+    pub accepted-lines : proofChecked terms input bytes ≡ Accepted
         ↔ ((k : ℕ) × WholeLines limits (length bytes) k × Refutes (loadableOf p) k bytes)
     accepted-lines =
-        let x = proof-exactly input p e limits few bytes are in (
+        let x = proof-exactly terms input q e few bytes are in (
           λ a. let h = x .0 a in (length bytes / limit.stepBytes, whole-lines limits (length bytes) (h .0), h .1),
           λ h. x .1 (lines-whole limits (length bytes) (h .0) (h .1), rw (lines-are limits (length bytes) (h .0) (h .1)) (h .2)),
         )
 
-    pub failing-line : (k : ℕ) → WholeLines limits (length bytes) k → (m : ℕ) → proofChecked limits input bytes ≡ Fails m
+    pub failing-line : (k : ℕ) → WholeLines limits (length bytes) k → (m : ℕ) → proofChecked terms input bytes ≡ Fails m
         ↔ LineFails (loadableOf p) k bytes m
     failing-line k h m =
         rw (lines-are limits (length bytes) k h)
-        at (proof-fails input p e limits few bytes are (is-true whole (lines-whole limits (length bytes) k h)) m)
+        at (proof-fails terms input q e few bytes are (is-true whole (lines-whole limits (length bytes) k h)) m)
 
-  pub refused-length : (place : ℕ) → proofChecked limits input bytes ≡ Refused ProofLength place
+  pub refused-length : (place : ℕ) → proofChecked terms input bytes ≡ Refused ProofLength place
       ↔ ((place ≡ length bytes) × ((k : ℕ) → WholeLines limits (length bytes) k → ⊥))
   unfolding proofChecked checkProof
   refused-length place =
@@ -83,6 +90,6 @@ module _ (input : List ℕ) (p : Problem) (e : read input ≡ sound p) (limits :
           (let b : Refused ProofLength (length bytes) ≡ Refused ProofLength place = rw (e, proofChecked, is-false whole t) at a in cc),
           λ k h. clash whole (lines-whole limits (length bytes) k h) t,
         ),
-        λ h. proof-length-refused input p e limits bytes (is-false whole t) ∙ ap (Refused ProofLength) (sym (h .0)),
+        λ h. proof-length-refused terms input q e bytes (is-false whole t) ∙ ap (Refused ProofLength) (sym (h .0)),
       ))
       (split whole)

@@ -9,8 +9,9 @@ use native.Mathlib.Omega.{arith}
 use lib.IntN.{pos, negsuc}
 use lib.ListN.{length, replicate}
 use Rattle.rules_types.specs.declared.limits.Limits.{Limits}
+use Rattle.rules_types.specs.declared.terms.Terms.{Terms}
 use Rattle.rules_types.specs.Limits as limit
-use Rattle.rules.specs.Problem.{Problem}
+use Rattle.rules.specs.Problem.{Problem, inEdition}
 use Rattle.rules.specs.Elimination.{overflow, outOfSteps, orderOf, limited, loadableOf}
 use Rattle.rules.specs.Needs.{needs, Fits}
 use Rattle.rules.specs.Calls.{sound, read, solve}
@@ -26,6 +27,9 @@ use Rattle.promises_examples.specs.Read.{problemFrom}
 abbrev ofSteps : ℕ → Limits
 ofSteps n = record { steps = n }
 
+abbrev termsOf : ℕ → Terms
+termsOf n = record { limits = ofSteps n; edition = 1 }
+
 abbrev lentProof : ℕ → List ℕ
 lentProof n = replicate (limit.proofBytes (ofSteps n)) 7
 
@@ -34,10 +38,11 @@ lentModel = replicate limit.modelBytes 7
 
 module _ (n : ℕ) (input : List ℕ) where
   abbrev Delivers : Type 0
-  Delivers = Demand3 (ofSteps n) input (problemFrom input) (lentProof n) lentModel (solve (ofSteps n) input (lentProof n) lentModel)
+  Delivers = Demand3 (termsOf n) input (inEdition 1 (problemFrom input)) (lentProof n) lentModel
+      (solve (termsOf n) input (lentProof n) lentModel)
 
   delivers : n ≤ limit.mostSteps → read input ≡ sound (problemFrom input) → FullSize (ofSteps n) (lentProof n) lentModel → Delivers
-  delivers few e full = demand3 (ofSteps n) few input (problemFrom input) e (lentProof n) lentModel full
+  delivers few e full = demand3 (termsOf n) few input (problemFrom input) e (lentProof n) lentModel full
 
 full-five : FullSize (ofSteps 5) (lentProof 5) lentModel
 full-five = record { proofSize = omega arith; modelSize = omega arith }

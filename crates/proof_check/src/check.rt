@@ -7,8 +7,8 @@ use problem_scan::cursor::Sizes;
 use rules_types::answers::Checked;
 use rules_types::answers::Refusal;
 use rules_types::limits::Limits;
+use rules_types::terms::Terms;
 ghost use mathlib.Core.Path.{_≡_};
-ghost use Rattle.rules_types.specs.Limits.{standard};
 ghost use Rattle.rules.specs.Checker.{checkProof};
 ghost use Rattle.rules.specs.Calls.{wholeSteps, proofChecked};
 ghost use Rattle.problem_read.specs.Parsed.{problemAt};
@@ -38,24 +38,17 @@ fn check_readable(input: &[u8], sizes: Sizes, proof: &[u8]) -> Checked
     check_steps(input, sizes, &places, &variables, proof)
 }
 
-pub fn check_proof(input: &[u8], proof: &[u8], limits: Limits) -> Checked
-    ensures { λ c. ⌜ c ≡ proofChecked limits (now (input .entry)) (now (proof .entry)) ⌝ }
+pub fn check_proof(input: &[u8], proof: &[u8], terms: Terms) -> Checked
+    ensures { λ c. ⌜ c ≡ proofChecked terms (now (input .entry)) (now (proof .entry)) ⌝ }
 {
     let s = read(input);
     match s {
         Scan::Fault(f, place) => Checked::Refused(f, place),
         Scan::Sound(sizes) => {
-            if !whole_steps(limits, proof.len()) {
+            if !whole_steps(terms.limits, proof.len()) {
                 return Checked::Refused(Refusal::ProofLength, proof.len());
             }
             check_readable(input, sizes, proof)
         }
     }
-}
-
-// With the limits of a caller who lends the whole proof.
-pub fn check_standard(input: &[u8], proof: &[u8]) -> Checked
-    ensures { λ c. ⌜ c ≡ proofChecked standard (now (input .entry)) (now (proof .entry)) ⌝ }
-{
-    check_proof(input, proof, Limits::standard())
 }

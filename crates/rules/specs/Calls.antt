@@ -16,9 +16,10 @@ use Rattle.rules_types.specs.declared.answers.Checked.the-variants as checked
 use Rattle.rules_types.specs.declared.answers.Evidence.{Evidence}
 use Rattle.rules_types.specs.declared.answers.Evidence.the-variants.{OfProof, OfModel}
 use Rattle.rules_types.specs.declared.limits.Limits.{Limits}
+use Rattle.rules_types.specs.declared.terms.Terms.{Terms}
 use Rattle.rules_types.specs.Limits as limit
 use Rattle.rules_types.specs.Answers.{verdictNumber}
-use Rattle.rules.specs.Problem.{Problem, Read, fault, got, problem}
+use Rattle.rules.specs.Problem.{Problem, inEdition, Read, fault, got, problem}
 use Rattle.rules.specs.Split.{overSplit}
 use Rattle.rules.specs.Steps.{Step, encodeProof}
 use Rattle.rules.specs.Elimination.{State, running, ended, empty, overflow, outOfSteps, orderOf, limited, elimination}
@@ -65,16 +66,20 @@ concluded p (running steps pairs) =
       | some bytes ↦ decided Satisfiable steps pairs bytes
     ]
 
-unfoldable pub outcome : Limits → List ℕ → Outcome
-outcome limits input = elim (read input) [ faulty f place ↦ faulted f place | sound p ↦ concluded p (elimination (limited limits) p) ]
+unfoldable pub outcome : Terms → List ℕ → Outcome
+outcome terms input =
+    elim (read input) [
+      | faulty f place ↦ faulted f place
+      | sound p ↦ let posed = inEdition (terms .edition) p in concluded posed (elimination (limited (terms .limits)) posed)
+    ]
 
 -- ---- solving
 -- 1 and 2, before the problem is looked at
-unfoldable pub lent : Limits → List ℕ → List ℕ → List ℕ → Outcome
-lent limits input proof model =
-    elim (ltb (length proof) (limit.proofBytes limits)) [
+unfoldable pub lent : Terms → List ℕ → List ℕ → List ℕ → Outcome
+lent terms input proof model =
+    elim (ltb (length proof) (limit.proofBytes (terms .limits))) [
       | true ↦ faulted refusal.ShortProof 0
-      | false ↦ elim (ltb (length model) limit.modelBytes) [ true ↦ faulted refusal.ShortModel 0 | false ↦ outcome limits input ]
+      | false ↦ elim (ltb (length model) limit.modelBytes) [ true ↦ faulted refusal.ShortModel 0 | false ↦ outcome terms input ]
     ]
 
 -- what it says: "1 to 13 report no pairs"
@@ -102,36 +107,36 @@ pub record Solving : Type 0 where
   pub proof : List ℕ
   pub model : List ℕ
 
-unfoldable pub solve : Limits → List ℕ → List ℕ → List ℕ → Solving
-solve limits input proof model =
-    let o = lent limits input proof model in
-    record { solved = said o; proof = proofAfter limits o proof; model = modelAfter o model }
+unfoldable pub solve : Terms → List ℕ → List ℕ → List ℕ → Solving
+solve terms input proof model =
+    let o = lent terms input proof model in
+    record { solved = said o; proof = proofAfter (terms .limits) o proof; model = modelAfter o model }
 
 -- ---- the checks, which write nothing
 -- "question faults (3 to 13), then 16": "length not 64 to 65,536 by 64s; length"
 unfoldable pub wholeSteps : Limits → ℕ → Bool
 wholeSteps limits n = leb limit.stepBytes n && leb n (limit.proofBytes limits) && eqb (n % limit.stepBytes) 0
 
-unfoldable pub proofChecked : Limits → List ℕ → List ℕ → Checked
-proofChecked limits input proof =
+unfoldable pub proofChecked : Terms → List ℕ → List ℕ → Checked
+proofChecked terms input proof =
     elim (read input) [
       | faulty f place ↦ checked.Refused f place
-      | sound p ↦ elim (wholeSteps limits (length proof)) [
-        | true ↦ checkProof p proof
+      | sound p ↦ elim (wholeSteps (terms .limits) (length proof)) [
+        | true ↦ checkProof (inEdition (terms .edition) p) proof
         | false ↦ checked.Refused refusal.ProofLength (length proof)
       ]
     ]
 
 -- "question faults (3 to 13), then ... 2 and 17"
-unfoldable pub modelChecked : List ℕ → List ℕ → Checked
-modelChecked input bytes =
+unfoldable pub modelChecked : Terms → List ℕ → List ℕ → Checked
+modelChecked terms input bytes =
     elim (read input) [
       | faulty f place ↦ checked.Refused f place
       | sound p ↦ elim (ltb (length bytes) limit.modelBytes) [
         | true ↦ checked.Refused refusal.ShortModel 0
         | false ↦ elim (model (p .booleans) (p .rationals) bytes 0) [
           | fault f place ↦ checked.Refused f place
-          | got χ rest place ↦ checkClauses χ 0 (p .clauses)
+          | got χ rest place ↦ checkClauses χ 0 (inEdition (terms .edition) p .clauses)
         ]
       ]
     ]

@@ -9,7 +9,7 @@ use Rattle.rules_types.specs.declared.answers.Answer.the-variants.{Decided}
 use Rattle.rules_types.specs.declared.answers.Solved.{Solved}
 use Rattle.rules_types.specs.Answers.{refusalNumber, verdictNumber, answerNumber, answerValue, checkedNumber, checkedValue, evidenceNumber}
 use Rattle.rules_types.specs.Answers.{evidenceLength}
-use Rattle.rules_types.specs.Limits.{standard}
+use Rattle.rules_types.specs.Terms.{standard}
 use Rattle.rules.specs.Lists.{any, all, filter, concat, same, tabulate, put}
 use Rattle.rules.specs.Arithmetic.{gcdWithin, gcd, gcdAll, lcm, sum, scale, combine, related, isPositive, isNegative, isZero, equal}
 use Rattle.rules.specs.Bytes.{toBytes, fromBytes, fromUnsigned, toUnsigned, amountBytes, fieldAt, padded}

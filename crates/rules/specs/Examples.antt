@@ -8,7 +8,7 @@ use Rattle.rules_types.specs.declared.answers.Refusal.the-variants as refusal
 use Rattle.rules_types.specs.declared.answers.Answer.the-variants.{Refused}
 use Rattle.rules.specs.Lines.{rational, boolean}
 use Rattle.rules.specs.Steps.{loaded, resolved}
-use Rattle.rules_types.specs.Limits.{standard}
+use Rattle.rules_types.specs.Terms.{standard}
 use Rattle.rules.specs.Print.{ascii, printed}
 use Rattle.rules.specs.Write.{atMost, below, clauseOf, alone, problemOf}
 use Rattle.rules.specs.Compute.{definitions, Shown, bare, satisfiable, unsatisfiable, shown}

@@ -9,7 +9,7 @@ use lib.Dec.{ltb}
 use lib.ListN.{length}
 use Rattle.rules_types.specs.declared.answers.Refusal.{Refusal}
 use Rattle.rules_types.specs.declared.answers.Verdict.the-variants.{Satisfiable, Unsatisfiable, Unwritten}
-use Rattle.rules_types.specs.declared.limits.Limits.{Limits}
+use Rattle.rules_types.specs.declared.terms.Terms.{Terms}
 use Rattle.rules_types.specs.Answers.{refusalNumber}
 use Rattle.rules_types.specs.Layout as layout
 use Rattle.rules.specs.Lists.{concat, tabulate}
@@ -63,9 +63,9 @@ printModel bytes =
 unfoldable pub printRefusal : Refusal → ℕ → ℕ → List ℕ
 printRefusal f place pairs = printLine (ascii "refused") (map decimal (refusalNumber f ∷ place ∷ pairs ∷ []))
 
-unfoldable pub printed : Limits → List ℕ → List ℕ
-printed limits input =
-    elim (outcome limits input) [
+unfoldable pub printed : Terms → List ℕ → List ℕ
+printed terms input =
+    elim (outcome terms input) [
       | faulted f place ↦ printRefusal f place 0
       | stopped f steps pairs ↦ printRefusal f steps pairs
       | decided v steps pairs bytes ↦

@@ -34,6 +34,10 @@ pub record Problem : Type 0 where
   pub rationals : ℕ
   pub clauses : List Clause
 
+-- the problem that is posed in an edition: its clauses as written
+abbrev pub inEdition : ℕ → Problem → Problem
+inEdition edition p = p
+
 -- ---- reading
 -- a fault with its place; or a value, the bytes left, and the place of the next one
 pub data Read (A : Type 0) : Type 0 where

@@ -8,7 +8,7 @@ use lib.IntN.{ℤ, pos, negsuc}
 use lib.ListN.{replicate}
 use Rattle.rules_types.specs.declared.answers.Checked.{Checked}
 use Rattle.rules_types.specs.declared.answers.Checked.the-variants.{Fails}
-use Rattle.rules_types.specs.Limits.{standard}
+use Rattle.rules_types.specs.Terms.{standard}
 use Rattle.rules.specs.Lines.{noBooleans, rational}
 use Rattle.rules.specs.Steps.{Origin, loaded, resolved, Step, encodeProof}
 use Rattle.rules.specs.Calls.{proofChecked}

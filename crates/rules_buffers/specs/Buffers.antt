@@ -1,7 +1,7 @@
 -- Whole calls on lent buffers: what they say, and every byte of proof and model afterwards.
 use mathlib.Core.Path.{_≡_, refl}
 use mathlib.Core.List.{List, [], _∷_, _++_}
-use Prim.Native.Nat.{ℕ}
+use Prim.Native.Nat.{ℕ, _+_, _-_}
 use lib.IntN.{pos, negsuc}
 use lib.ListN.{replicate, take}
 use Rattle.rules_types.specs.declared.answers.Refusal.the-variants as refusal
@@ -10,7 +10,8 @@ use Rattle.rules_types.specs.declared.answers.Answer.the-variants.{Decided, Ref
 use Rattle.rules_types.specs.declared.answers.Checked.the-variants as checked
 use Rattle.rules_types.specs.declared.answers.Evidence.the-variants.{OfProof, OfModel}
 use Rattle.rules_types.specs.Answers.{verdictNumber}
-use Rattle.rules_types.specs.Limits.{standard}
+use Rattle.rules_types.specs.Limits as limit
+use Rattle.rules_types.specs.Terms.{standard}
 use Rattle.rules.specs.Calls.{solve, proofChecked, modelChecked, evidence}
 use Rattle.rules.specs.Write.{atMost, below, clauseOf, alone, problemOf}
 use Rattle.rules.specs.Compute.{definitions}
@@ -18,9 +19,12 @@ use Rattle.rules.specs.Compute.{definitions}
 abbrev zeros : ℕ → List ℕ
 zeros n = replicate n 0
 
+abbrev proofBytes : ℕ
+proofBytes = limit.proofBytes limit.standard
+
 -- lent buffers that hold other bytes, and have some to spare
 abbrev lentProof : List ℕ
-lentProof = replicate 65600 171
+lentProof = replicate (proofBytes + 64) 171
 
 abbrev lentModel : List ℕ
 lentModel = replicate 66 205
@@ -54,7 +58,7 @@ sevenLines =
 pub seven-solved : solve standard seven lentProof lentModel
     ≡ record {
       solved = record { answer = Decided Unsatisfiable 5; pairs = 2 };
-      proof = sevenLines ++ zeros 65216 ++ replicate 64 171;
+      proof = sevenLines ++ zeros (proofBytes - 320) ++ replicate 64 171;
       model = zeros 64 ++ replicate 2 205;
     }
 unfolding definitions
@@ -69,7 +73,7 @@ pub seven-without-its-end : proofChecked standard seven (take 256 sevenLines) �
 unfolding definitions
 seven-without-its-end = refl
 
-pub seven-handed-back : evidence standard (verdictNumber Unsatisfiable) 5 lentProof lentModel ≡ OfProof 320
+pub seven-handed-back : evidence limit.standard (verdictNumber Unsatisfiable) 5 lentProof lentModel ≡ OfProof 320
 unfolding definitions
 seven-handed-back = refl
 
@@ -88,17 +92,17 @@ pub half-solved : solve standard half lentProof lentModel
           ++ (0 ∷ 0 ∷ 1 ∷ 0 ∷ 0 ∷ 0 ∷ 2 ∷ 0 ∷ []) ++ zeros 8 ++ (1 ∷ 0 ∷ 0 ∷ 0 ∷ []) ++ zeros 28 ++ (5 ∷ 0 ∷ 0 ∷ 0 ∷ []) ++ zeros 12
           ++ (0 ∷ 0 ∷ 2 ∷ 0 ∷ 0 ∷ 0 ∷ 2 ∷ 0 ∷ []) ++ zeros 8 ++ (255 ∷ 255 ∷ 255 ∷ 255 ∷ []) ++ zeros
           28 ++ (252 ∷ 255 ∷ 255 ∷ 255 ∷ []) ++ zeros 12
-          ++ zeros 65344 ++ replicate 64 171;
+          ++ zeros (proofBytes - 192) ++ replicate 64 171;
       model = halfModel ++ replicate 2 205;
     }
 unfolding definitions
 half-solved = refl
 
-pub half-accepted : modelChecked half halfModel ≡ checked.Accepted
+pub half-accepted : modelChecked standard half halfModel ≡ checked.Accepted
 unfolding definitions
 half-accepted = refl
 
-pub half-handed-back : evidence standard (verdictNumber Satisfiable) 3 lentProof lentModel ≡ OfModel 64
+pub half-handed-back : evidence limit.standard (verdictNumber Satisfiable) 3 lentProof lentModel ≡ OfModel 64
 unfolding definitions
 half-handed-back = refl
 
@@ -111,7 +115,7 @@ ten = problemOf 0 3
 pub ten-solved : solve standard ten lentProof lentModel
     ≡ record {
       solved = record { answer = Refused refusal.Overflow 2; pairs = 1 };
-      proof = zeros 65536 ++ replicate 64 171;
+      proof = zeros proofBytes ++ replicate 64 171;
       model = lentModel;
     }
 unfolding definitions
@@ -123,12 +127,12 @@ pub faulty-solved : solve standard (17 ∷ []) lentProof lentModel
 unfolding definitions
 faulty-solved = refl
 
-pub short-proof-first : solve standard (17 ∷ []) (zeros 65535) []
-    ≡ record { solved = record { answer = Refused refusal.ShortProof 0; pairs = 0 }; proof = zeros 65535; model = [] }
+pub short-proof-first : solve standard (17 ∷ []) (zeros (proofBytes - 1)) []
+    ≡ record { solved = record { answer = Refused refusal.ShortProof 0; pairs = 0 }; proof = zeros (proofBytes - 1); model = [] }
 unfolding definitions
 short-proof-first = refl
 
-pub short-model-next : solve standard (17 ∷ []) (zeros 65536) (zeros 63)
-    ≡ record { solved = record { answer = Refused refusal.ShortModel 0; pairs = 0 }; proof = zeros 65536; model = zeros 63 }
+pub short-model-next : solve standard (17 ∷ []) (zeros proofBytes) (zeros 63)
+    ≡ record { solved = record { answer = Refused refusal.ShortModel 0; pairs = 0 }; proof = zeros proofBytes; model = zeros 63 }
 unfolding definitions
 short-model-next = refl

@@ -1,3 +1,4 @@
 pub mod Limits
+pub mod Terms
 pub mod Layout
 pub mod Answers

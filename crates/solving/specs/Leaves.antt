@@ -6,6 +6,8 @@ use Rattle.rules_types.specs.declared.answers.Refusal.{Refusal}
 use Rattle.rules_types.specs.declared.answers.Answer.the-variants.{Refused}
 use Rattle.rules_types.specs.declared.answers.Solved.{Solved}
 use Rattle.rules_types.specs.declared.limits.Limits.{Limits}
+use Rattle.rules_types.specs.declared.terms.Terms.{Terms}
+use Rattle.rules.specs.Problem.{inEdition}
 use Rattle.rules.specs.Calls.{Outcome, faulted, concluded, said, proofAfter, modelAfter}
 use Rattle.rules.specs.Elimination.{limited, elimination}
 use Rattle.problem_scan.specs.declared.cursor.Sizes.{Sizes}
@@ -16,9 +18,10 @@ abbrev pub Leaves : Limits → Outcome → List ℕ → List ℕ → List ℕ �
 Leaves limits o lentProof lentModel after filled s =
     (s ≡ said o) × ((after ≡ proofAfter limits o lentProof) × (filled ≡ modelAfter o lentModel))
 
--- the outcome of a problem of these sizes
-abbrev pub outcomeAt : Limits → List ℕ → Sizes → Outcome
-outcomeAt limits q sizes = concluded (problemAt q sizes) (elimination (limited limits) (problemAt q sizes))
+-- the outcome of a problem of these sizes, in its edition
+abbrev pub outcomeAt : Terms → List ℕ → Sizes → Outcome
+outcomeAt terms q sizes =
+    let p = inEdition (terms .edition) (problemAt q sizes) in concluded p (elimination (limited (terms .limits)) p)
 
 -- ---- faults 1 to 13
 abbrev pub faultedBy : Refusal → ℕ → Solved

@@ -8,7 +8,7 @@ use problem_scan::cursor::Sizes;
 use rules_types::answers::Refusal;
 use rules_types::answers::Solved;
 use rules_types::answers::Verdict;
-use rules_types::limits::Limits;
+use rules_types::terms::Terms;
 ghost use mathlib.Core.Path.{_≡_};
 ghost use Prim.Native.Nat.{_*_, _≤_};
 ghost use lib.ListN.{length};
@@ -22,16 +22,17 @@ pub fn decide(
     sizes: Sizes,
     proof: &mut [u8],
     model: &mut [u8],
-    limits: Limits,
+    terms: Terms,
 ) -> Solved
     requires { ⌜ Readable (now input) sizes ⌝ }
-    requires { ⌜ stepBytes * limits .steps ≤ length (now proof) ⌝ }
+    requires { ⌜ stepBytes * terms .limits .steps ≤ length (now proof) ⌝ }
     requires { ⌜ modelBytes ≤ length (now model) ⌝ }
-    requires { ⌜ limits .steps ≤ mostSteps ⌝ }
-    ensures { λ s. ⌜ s ≡ said (outcomeAt limits (now (input .entry)) sizes) ⌝ }
-    ensures { λ _. ⌜ now (proof .exit) ≡ proofAfter limits (outcomeAt limits (now (input .entry)) sizes) (now (proof .entry)) ⌝ }
-    ensures { λ _. ⌜ now (model .exit) ≡ modelAfter (outcomeAt limits (now (input .entry)) sizes) (now (model .entry)) ⌝ }
+    requires { ⌜ terms .limits .steps ≤ mostSteps ⌝ }
+    ensures { λ s. ⌜ s ≡ said (outcomeAt terms (now (input .entry)) sizes) ⌝ }
+    ensures { λ _. ⌜ now (proof .exit) ≡ proofAfter (terms .limits) (outcomeAt terms (now (input .entry)) sizes) (now (proof .entry)) ⌝ }
+    ensures { λ _. ⌜ now (model .exit) ≡ modelAfter (outcomeAt terms (now (input .entry)) sizes) (now (model .entry)) ⌝ }
 {
+    let limits = terms.limits;
     let run = eliminate(input, sizes, proof, limits);
     let c = run.end;
     let progress = c.progress;

@@ -6,9 +6,10 @@ use rules_types::answers::Answer;
 use rules_types::answers::Refusal;
 use rules_types::answers::Solved;
 use rules_types::limits::Limits;
+use rules_types::terms::Terms;
 ghost use mathlib.Core.Path.{_≡_};
 ghost use Prim.Native.Nat.{_≤_};
-ghost use Rattle.rules_types.specs.Limits.{mostSteps, standard};
+ghost use Rattle.rules_types.specs.Limits.{mostSteps};
 ghost use Rattle.rules.specs.Calls.{solve};
 ghost use Rattle.solving.specs.Leaves.{faultedBy};
 
@@ -21,14 +22,14 @@ fn faulted(f: Refusal, place: usize) -> Solved
     }
 }
 
-// With every limit of steps up to 65,536.
-pub fn solve_within(input: &[u8], proof: &mut [u8], model: &mut [u8], limits: Limits) -> Solved
-    requires { ⌜ limits .steps ≤ mostSteps ⌝ }
-    ensures { λ s. ⌜ s ≡ solve limits (now (input .entry)) (now (proof .entry)) (now (model .entry)) .solved ⌝ }
-    ensures { λ _. ⌜ now (proof .exit) ≡ solve limits (now (input .entry)) (now (proof .entry)) (now (model .entry)) .proof ⌝ }
-    ensures { λ _. ⌜ now (model .exit) ≡ solve limits (now (input .entry)) (now (proof .entry)) (now (model .entry)) .model ⌝ }
+// On all terms: as many lines as a parent's two bytes can number.
+pub fn solve_within(input: &[u8], proof: &mut [u8], model: &mut [u8], terms: Terms) -> Solved
+    requires { ⌜ terms .limits .steps ≤ mostSteps ⌝ }
+    ensures { λ s. ⌜ s ≡ solve terms (now (input .entry)) (now (proof .entry)) (now (model .entry)) .solved ⌝ }
+    ensures { λ _. ⌜ now (proof .exit) ≡ solve terms (now (input .entry)) (now (proof .entry)) (now (model .entry)) .proof ⌝ }
+    ensures { λ _. ⌜ now (model .exit) ≡ solve terms (now (input .entry)) (now (proof .entry)) (now (model .entry)) .model ⌝ }
 {
-    if proof.len() < limits.proof_bytes() {
+    if proof.len() < terms.limits.proof_bytes() {
         return faulted(Refusal::ShortProof, 0);
     }
     if model.len() < Limits::MODEL_BYTES {
@@ -37,15 +38,6 @@ pub fn solve_within(input: &[u8], proof: &mut [u8], model: &mut [u8], limits: Li
     let s = read(input);
     match s {
         Scan::Fault(f, place) => faulted(f, place),
-        Scan::Sound(sizes) => decide(input, sizes, proof, model, limits),
+        Scan::Sound(sizes) => decide(input, sizes, proof, model, terms),
     }
-}
-
-// With the limits of a caller who lends the whole proof.
-pub fn solve(input: &[u8], proof: &mut [u8], model: &mut [u8]) -> Solved
-    ensures { λ s. ⌜ s ≡ solve standard (now (input .entry)) (now (proof .entry)) (now (model .entry)) .solved ⌝ }
-    ensures { λ _. ⌜ now (proof .exit) ≡ solve standard (now (input .entry)) (now (proof .entry)) (now (model .entry)) .proof ⌝ }
-    ensures { λ _. ⌜ now (model .exit) ≡ solve standard (now (input .entry)) (now (proof .entry)) (now (model .entry)) .model ⌝ }
-{
-    solve_within(input, proof, model, Limits::standard())
 }

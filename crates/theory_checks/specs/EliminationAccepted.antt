@@ -6,9 +6,10 @@ use Prim.Native.Nat.{ℕ, _≤_}
 use native.Mathlib.Omega.{arith}
 use lib.ListN.{length}
 use Rattle.rules_types.specs.declared.limits.Limits.{Limits}
+use Rattle.rules_types.specs.declared.terms.Terms.{Terms}
 use Rattle.rules_types.specs.declared.answers.Checked.the-variants.{Accepted}
 use Rattle.rules_types.specs.Limits as limit
-use Rattle.rules.specs.Problem.{Problem}
+use Rattle.rules.specs.Problem.{Problem, inEdition}
 use Rattle.rules.specs.Lines.{Variable}
 use Rattle.rules.specs.Steps.{Step, encodeProof}
 use Rattle.rules.specs.Elimination.{State, ended, empty, limited, orderOf, eliminate, loadableOf, elimination}
@@ -19,7 +20,7 @@ use Rattle.theory_lists.specs.Dropped.{dropped-is}
 use Rattle.theory_vectors.specs.Amounts.{overflows-no}
 use Rattle.theory_resolution.specs.Formed.{Formed, resolve-formed}
 use Rattle.theory_splitting.specs.WellFormed.{WellFormed}
-use Rattle.theory_splitting.specs.Reading.{read-well-formed}
+use Rattle.theory_splitting.specs.Reading.{posed-well-formed}
 use Rattle.theory_splitting.specs.PartsForm.{LineForm}
 use Rattle.theory_splitting.specs.SplitProblem.{loadable-formed}
 use Rattle.theory_elimination.specs.Closed.{line-at, elimination-closed-unstopped}
@@ -61,7 +62,7 @@ each-pairable o earlier (s ∷ ss) h k = (
 )
 
 -- ---- the proof of an elimination that ends so
-module _ (limits : Limits) (q : List ℕ) (p : Problem) (e : read q ≡ sound p) (few : limits .steps ≤ limit.mostSteps)
+module _ (limits : Limits) (p : Problem) (w : WellFormed p) (few : limits .steps ≤ limit.mostSteps)
     (steps : List Step) (n : ℕ) (f : elimination (limited limits) p ≡ ended empty steps n) where
   held : length steps ≤ limits .steps
   unfolding elimination stepsOf
@@ -70,7 +71,6 @@ module _ (limits : Limits) (q : List ℕ) (p : Problem) (e : read q ≡ sound p)
   pub elimination-refutation : Refutation p steps
   unfolding elimination stepsOf
   elimination-refutation =
-      let w = read-well-formed q p e in
       let parts = loadableOf p in
       record {
         parts = parts-encodable p w;
@@ -83,5 +83,11 @@ module _ (limits : Limits) (q : List ℕ) (p : Problem) (e : read q ≡ sound p)
         last = subst EndsRight f (elimination-ends (limited limits) (orderOf p) parts);
       }
 
-  pub elimination-accepted : proofChecked limits q (encodeProof steps) ≡ Accepted
-  elimination-accepted = proof-accepted p steps elimination-refutation limits q held e
+pub elimination-accepted : (terms : Terms) → terms .limits .steps ≤ limit.mostSteps → (q : List ℕ) (p : Problem) → read q ≡ sound p
+    → (steps : List Step) (n : ℕ) → elimination (limited (terms .limits)) (inEdition (terms .edition) p) ≡ ended empty steps n
+    → proofChecked terms q (encodeProof steps) ≡ Accepted
+elimination-accepted terms few q p e steps n f =
+    let posed = inEdition (terms .edition) p in
+    let w = posed-well-formed (terms .edition) q p e in
+    proof-accepted terms q p e steps (elimination-refutation (terms .limits) posed w few steps n f)
+    (held (terms .limits) posed w few steps n f)

@@ -12,15 +12,16 @@ use mir.Facts.{no-ltb}
 use Rattle.rules_types.specs.declared.answers.Refusal.the-variants as refusal
 use Rattle.rules_types.specs.declared.answers.Checked.{Checked}
 use Rattle.rules_types.specs.declared.answers.Checked.the-variants as checked
+use Rattle.rules_types.specs.declared.terms.Terms.{Terms}
 use Rattle.rules_types.specs.Limits as limit
 use Rattle.theory_lists.specs.Tests.{split, is-true, is-false}
 use Rattle.rules.specs.Lists.{all}
-use Rattle.rules.specs.Problem.{Clause, Problem, Read, fault, got}
+use Rattle.rules.specs.Problem.{Clause, Problem, inEdition, Read, fault, got}
 use Rattle.rules.specs.Meaning.{Assignment, clauseHolds, Satisfies}
 use Rattle.rules.specs.Model.{model}
 use Rattle.rules.specs.Checker.{checkClauses}
 use Rattle.rules.specs.Calls.{Reading, faulty, sound, read, modelChecked}
-use Rattle.theory_splitting.specs.Reading.{read-well-formed}
+use Rattle.theory_splitting.specs.Reading.{read-well-formed, posed-well-formed}
 use Rattle.theory_layout.specs.Offsets.{StatesModel}
 use Rattle.theory_layout.specs.Models.{Stated, got-states, states-got}
 use Rattle.theory_layout.specs.WrittenModels.{same-booleans, same-numerators, same-denominators}
@@ -40,23 +41,24 @@ accepted-clauses χ k (c ∷ cs) = by (clauseHolds χ c) (accepted-clauses χ (s
     by false r = (λ e. let z : _≡_ {A = ℕ} 0 1 = cc in omega arith, λ h. absurd h)
 
 -- ---- the call
-pub record CheckedModel (input bytes : List ℕ) : Type 0 where
+pub record CheckedModel (terms : Terms) (input bytes : List ℕ) : Type 0 where
   pub problem : Problem
   pub reads : read input ≡ sound problem
   pub size : limit.modelBytes ≤ length bytes
   pub assignment : Assignment
   pub states : StatesModel bytes (problem .booleans) (problem .rationals) assignment
-  pub satisfies : Satisfies assignment problem
+  pub satisfies : Satisfies assignment (inEdition (terms .edition) problem)
 
-pub model-checked-satisfies : (input bytes : List ℕ) → modelChecked input bytes ≡ checked.Accepted → CheckedModel input bytes
+pub model-checked-satisfies : (terms : Terms) (input bytes : List ℕ) → modelChecked terms input bytes ≡ checked.Accepted
+    → CheckedModel terms input bytes
 unfolding modelChecked
-model-checked-satisfies input bytes a = by (read input) refl
+model-checked-satisfies terms input bytes a = by (read input) refl
   where
     short : Bool
     short = ltb (length bytes) limit.modelBytes
 
     stated : (p : Problem) → read input ≡ sound p → T (not short) → (m : Read Assignment) → model (p .booleans) (p .rationals) bytes 0 ≡ m
-        → CheckedModel input bytes
+        → CheckedModel terms input bytes
     stated p e t (fault f place) d = absurd (refused-not f place (rw (e, modelChecked, is-false short t, d) at a))
     stated p e t (got χ rest place) d =
         let w = read-well-formed input p e in
@@ -70,11 +72,11 @@ model-checked-satisfies input bytes a = by (read input) refl
           states = s;
           satisfies = record {
             denominator = s .least;
-            clauses = accepted-clauses χ 0 (p .clauses) .0 (rw (e, modelChecked, is-false short t, d) at a);
+            clauses = accepted-clauses χ 0 (inEdition (terms .edition) p .clauses) .0 (rw (e, modelChecked, is-false short t, d) at a);
           };
         }
 
-    by : (r : Reading) → read input ≡ r → CheckedModel input bytes
+    by : (r : Reading) → read input ≡ r → CheckedModel terms input bytes
     by (faulty f place) e = absurd (refused-not f place (rw (e, modelChecked) at a))
     by (sound p) e =
         ⊎-elim (λ t. absurd (refused-not refusal.ShortModel 0 (rw (e, modelChecked, is-true short t) at a)))
@@ -82,8 +84,8 @@ model-checked-satisfies input bytes a = by (read input) refl
 
 -- ---- and back
 -- the assignment that is read agrees with every one that the bytes state
-module _ (input bytes : List ℕ) (p : Problem) (e : read input ≡ sound p) (size : limit.modelBytes ≤ length bytes) (χ : Assignment)
-    (s : StatesModel bytes (p .booleans) (p .rationals) χ) where
+module _ (terms : Terms) (input bytes : List ℕ) (p : Problem) (e : read input ≡ sound p) (size : limit.modelBytes ≤ length bytes)
+    (χ : Assignment) (s : StatesModel bytes (p .booleans) (p .rationals) χ) where
   abbrev b : ℕ
   b = p .booleans
 
@@ -102,7 +104,7 @@ module _ (input bytes : List ℕ) (p : Problem) (e : read input ≡ sound p) (si
       }
 
   -- so the check is of that assignment
-  pub model-checks : modelChecked input bytes ≡ checkClauses χ 0 (p .clauses)
+  pub model-checks : modelChecked terms input bytes ≡ checkClauses χ 0 (inEdition (terms .edition) p .clauses)
   unfolding modelChecked
   model-checks =
       rw (
@@ -110,7 +112,8 @@ module _ (input bytes : List ℕ) (p : Problem) (e : read input ≡ sound p) (si
         modelChecked,
         is-false (ltb (length bytes) limit.modelBytes) (no-ltb {a = length bytes} {b = limit.modelBytes} size),
         was-read .is,
-      ) (checks-agree b r (was-read .assignment) χ read-agrees 0 (p .clauses) (read-well-formed input p e .clauses))
+      ) (checks-agree b r (was-read .assignment) χ read-agrees 0 (inEdition (terms .edition) p .clauses)
+      (posed-well-formed (terms .edition) input p e .clauses))
 
-  pub satisfying-model-checked : Satisfies χ p → modelChecked input bytes ≡ checked.Accepted
-  satisfying-model-checked h = model-checks ∙ accepted-clauses χ 0 (p .clauses) .1 (h .clauses)
+  pub satisfying-model-checked : Satisfies χ (inEdition (terms .edition) p) → modelChecked terms input bytes ≡ checked.Accepted
+  satisfying-model-checked h = model-checks ∙ accepted-clauses χ 0 (inEdition (terms .edition) p .clauses) .1 (h .clauses)

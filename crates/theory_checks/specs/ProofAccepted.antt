@@ -10,9 +10,10 @@ use lib.Dec.{T, eqb, leb}
 use lib.ListN.{length, length-append}
 use mir.Facts.{yes-and, yes-leb, yes-eqb}
 use Rattle.rules_types.specs.declared.limits.Limits.{Limits}
+use Rattle.rules_types.specs.declared.terms.Terms.{Terms}
 use Rattle.rules_types.specs.declared.answers.Checked.the-variants.{Accepted}
 use Rattle.rules_types.specs.Limits as limit
-use Rattle.rules.specs.Problem.{Problem}
+use Rattle.rules.specs.Problem.{Problem, inEdition}
 use Rattle.rules.specs.Lines.{Variable}
 use Rattle.rules.specs.Steps.{Step, resolved, encodeStep, encodeProof}
 use Rattle.rules.specs.Elimination.{orderOf, loadableOf}
@@ -116,7 +117,7 @@ module _ (p : Problem) (steps : List Step) (refutation : Refutation p steps) whe
       let ends = ends-exactly (lines steps) .1 (last-empty steps (refutation .last)) in
       rw (n, follow, withEmptyEnd, is-true (endsEmpty (lines steps)) ends)
 
-  module _ (limits : Limits) (q : List ℕ) (few : length steps ≤ limits .steps) where
+  module _ (limits : Limits) (few : length steps ≤ limits .steps) where
     whole : wholeSteps limits (length (encodeProof steps)) ≡ true
     unfolding wholeSteps
     whole =
@@ -128,6 +129,10 @@ module _ (p : Problem) (steps : List Step) (refutation : Refutation p steps) whe
         (yes-and (leb limit.stepBytes n && leb n (limit.proofBytes limits)) (eqb (n % limit.stepBytes) 0)
         (yes-and (leb limit.stepBytes n) (leb n (limit.proofBytes limits)) (yes-leb a) (yes-leb b)) (yes-eqb c))
 
-    pub proof-accepted : read q ≡ sound p → proofChecked limits q (encodeProof steps) ≡ Accepted
-    unfolding proofChecked
-    proof-accepted e = rw (e, proofChecked, whole) refutation-accepted
+pub proof-accepted : (terms : Terms) (q : List ℕ) (p : Problem) → read q ≡ sound p → (steps : List Step)
+    → Refutation (inEdition (terms .edition) p) steps → length steps ≤ terms .limits .steps
+    → proofChecked terms q (encodeProof steps) ≡ Accepted
+unfolding proofChecked
+proof-accepted terms q p e steps r few =
+    let posed = inEdition (terms .edition) p in
+    rw (e, proofChecked, whole posed steps r (terms .limits) few) (refutation-accepted posed steps r)

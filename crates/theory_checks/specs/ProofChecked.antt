@@ -1,4 +1,4 @@
--- The call that checks a proof: where it says accepted, the problem that was read has no satisfying assignment, whatever the limits.
+-- The call that checks a proof: where it says accepted, the problem that was read has no satisfying assignment, whatever the terms.
 use mathlib.Core.Path.{_≡_, refl}
 use mathlib.Core.Bool.{Bool}
 use mathlib.Core.Logic.{⊎-elim}
@@ -9,32 +9,33 @@ use lib.ListN.{length}
 use Rattle.rules_types.specs.declared.answers.Refusal.{Refusal}
 use Rattle.rules_types.specs.declared.answers.Refusal.the-variants as refusal
 use Rattle.rules_types.specs.declared.answers.Checked.the-variants as checked
-use Rattle.rules_types.specs.declared.limits.Limits.{Limits}
+use Rattle.rules_types.specs.declared.terms.Terms.{Terms}
 use Rattle.theory_lists.specs.Tests.{split, is-true, is-false}
-use Rattle.rules.specs.Problem.{Problem}
+use Rattle.rules.specs.Problem.{Problem, inEdition}
 use Rattle.rules.specs.Meaning.{Assignment, Satisfies}
 use Rattle.rules.specs.Checker.{checkProof}
 use Rattle.rules.specs.Calls.{Reading, faulty, sound, read, wholeSteps, proofChecked}
-use Rattle.theory_splitting.specs.Reading.{read-well-formed}
+use Rattle.theory_splitting.specs.Reading.{posed-well-formed}
 use Rattle.theory_checks.specs.Refutation.{accepted-proof-refutes}
 
 -- the problem that was read, and that its check accepts the proof
-pub record CheckedProof (input proof : List ℕ) : Type 0 where
+pub record CheckedProof (terms : Terms) (input proof : List ℕ) : Type 0 where
   pub problem : Problem
   pub reads : read input ≡ sound problem
-  pub accepted : checkProof problem proof ≡ checked.Accepted
+  pub accepted : checkProof (inEdition (terms .edition) problem) proof ≡ checked.Accepted
 
 pub refused-not : (f : Refusal) (n : ℕ) → checked.Refused f n ≡ checked.Accepted → ⊥
 refused-not f n e = let z : _≡_ {A = ℕ} 0 1 = cc in omega arith
 
-pub checked-proof : (limits : Limits) (input proof : List ℕ) → proofChecked limits input proof ≡ checked.Accepted → CheckedProof input proof
+pub checked-proof : (terms : Terms) (input proof : List ℕ) → proofChecked terms input proof ≡ checked.Accepted
+    → CheckedProof terms input proof
 unfolding proofChecked
-checked-proof limits input proof a = by (read input) refl
+checked-proof terms input proof a = by (read input) refl
   where
     whole : Bool
-    whole = wholeSteps limits (length proof)
+    whole = wholeSteps (terms .limits) (length proof)
 
-    by : (r : Reading) → read input ≡ r → CheckedProof input proof
+    by : (r : Reading) → read input ≡ r → CheckedProof terms input proof
     by (faulty f place) e = absurd (refused-not f place (rw (e, proofChecked) at a))
     by (sound p) e =
         ⊎-elim (λ t. record { problem = p; reads = e; accepted = rw (e, proofChecked, is-true whole t) at a })
@@ -43,9 +44,10 @@ checked-proof limits input proof a = by (read input) refl
 pub same-problem : (r : Reading) (p q : Problem) → r ≡ sound p → r ≡ sound q → p ≡ q
 same-problem r p q e f = cc
 
-pub proof-checked-refutes : (limits : Limits) (input proof : List ℕ) → proofChecked limits input proof ≡ checked.Accepted → (p : Problem)
+pub proof-checked-refutes : (terms : Terms) (input proof : List ℕ) → proofChecked terms input proof ≡ checked.Accepted → (p : Problem)
     → read input ≡ sound p → (χ : Assignment)
-    → Satisfies χ p → ⊥
-proof-checked-refutes limits input proof a p e =
-    let c = checked-proof limits input proof a in
-    accepted-proof-refutes p (read-well-formed input p e) proof (rw (same-problem (read input) p (c .problem) e (c .reads)) (c .accepted))
+    → Satisfies χ (inEdition (terms .edition) p) → ⊥
+proof-checked-refutes terms input proof a p e =
+    let c = checked-proof terms input proof a in
+    accepted-proof-refutes (inEdition (terms .edition) p) (posed-well-formed (terms .edition) input p e) proof
+    (rw (same-problem (read input) p (c .problem) e (c .reads)) (c .accepted))

@@ -15,7 +15,7 @@ use Rattle.rules_types.specs.Limits as limit
 use Rattle.theory_lists.specs.Tests.{split, is-true, is-false}
 use Rattle.theory_lists.specs.All.{All, all-append, getD-replicate-same}
 use Rattle.rules.specs.Bytes.{fromUnsigned}
-use Rattle.rules.specs.Problem.{Clause, Problem, Read, fault, got, amount, literal, constraint, clause, end, problem}
+use Rattle.rules.specs.Problem.{Clause, Problem, inEdition, Read, fault, got, amount, literal, constraint, clause, end, problem}
 use Rattle.rules.specs.Split.{splitsOf, overSplit}
 use Rattle.rules.specs.Calls.{Reading, faulty, sound, withinSplits, read}
 use Rattle.theory_vectors.specs.Amounts.{Small, range-small, zeros-small}
@@ -127,3 +127,7 @@ read-is-formed q = let L = ltb limit.problemBytes (length q) in
 
 pub read-well-formed : (q : List ℕ) (p : Problem) → read q ≡ sound p → WellFormed p
 read-well-formed q p e = subst (SoundIs WellFormed) e (read-is-formed q)
+
+-- in its edition too
+pub posed-well-formed : (edition : ℕ) (q : List ℕ) (p : Problem) → read q ≡ sound p → WellFormed (inEdition edition p)
+posed-well-formed edition q p e = read-well-formed q p e

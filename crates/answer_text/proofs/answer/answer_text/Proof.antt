@@ -5,33 +5,38 @@ use native.Mathlib.Omega.{arith}
 use borrow.Author.Needs.{needs}
 use lib.ListN.{replicate, length-replicate}
 use lib.Seq.{length-take-le}
-use Rattle.rules_types.specs.Limits.{modelBytes, proofBytes, standard}
+use Rattle.rules_types.specs.Limits as limit
+use Rattle.rules_types.specs.Limits.{modelBytes, proofBytes}
+use Rattle.rules_types.specs.Terms.{standard}
 use Rattle.rules.specs.Print.{printed}
 use Rattle.printing.specs.Appended.{taken, within}
 use Rattle.answer_text.specs.Printed.{TextOf, solved-told}
 use Rattle.answer_text.proofs.answer.answer_text.Statement.{statement}
 use Rattle.answer_text.proofs.answer.answer_text.Tie as tie
 
-told : (b : tie.After-solve)
-    → TextOf (printed standard (b .before .before .before .before .args .input .now)) (b .solve .result) (b .solve .last .1 .0)
-    (b .solve .last .1 .1 .0)
+told : (b : tie.After-solve-within) → let w = b .solve-within in
+    TextOf (printed standard (b .before .before .before .before .before .args .input .now)) (w .result) (w .last .1 .0) (w .last .1 .1 .0)
 told b =
-    let s = b .before .before .before .before in
-    let e = b .solve .ensures in
-    let k = b .solve .kept in
-    let proof = length-replicate {A = ℕ} (proofBytes standard) 0 in
+    let s = b .before .before .before .before .before in
+    let w = b .solve-within in
+    let e = rw (b .before .standard .ensures) at (w .ensures) in
+    let k = w .kept in
+    let proof = length-replicate {A = ℕ} (proofBytes limit.standard) 0 in
     let model = length-replicate {A = ℕ} modelBytes 0 in
-    solved-told (replicate (proofBytes standard) 0) (replicate modelBytes 0) (s .args .input .now) proof model (b .solve .result)
-    (b .solve .last .1 .0) (b .solve .last .1 .1 .0) (e .0) (e .1 .0) (e .1 .1) (k .1 .0 ∙ proof) (k .1 .1 .0 ∙ model)
+    solved-told (replicate (proofBytes limit.standard) 0) (replicate modelBytes 0) (s .args .input .now) proof model (w .result)
+    (w .last .1 .0) (w .last .1 .1 .0) (e .0) (e .1 .0) (e .1 .1) (k .1 .0 ∙ proof) (k .1 .1 .0 ∙ model)
 
-slice-aggregate-solve : tie.Need-slice-aggregate-solve
-slice-aggregate-solve c = search needs
+slice-aggregate-solve-within : tie.Need-slice-aggregate-solve-within
+slice-aggregate-solve-within c = search needs
 
-slice-aggregate-solve-2 : tie.Need-slice-aggregate-solve-2
-slice-aggregate-solve-2 c = search needs
+slice-aggregate-solve-within-2 : tie.Need-slice-aggregate-solve-within-2
+slice-aggregate-solve-within-2 c = search needs
 
-solve-requires : tie.Need-solve-requires
-solve-requires c κs = search needs
+standard-requires : tie.Need-standard-requires
+standard-requires c κs = search needs
+
+solve-within-requires : tie.Need-solve-within-requires
+solve-within-requires c κs = rw (c .standard .ensures) (omega arith)
 
 slice-aggregate-put-solved : tie.Need-slice-aggregate-put-solved
 slice-aggregate-put-solved c = search needs
@@ -55,9 +60,10 @@ pub answer-text-spec : {M : Type 1} → statement M
 answer-text-spec =
     tie.close
     (tie.spec
-    slice-aggregate-solve
-    slice-aggregate-solve-2
-    solve-requires
+    slice-aggregate-solve-within
+    slice-aggregate-solve-within-2
+    standard-requires
+    solve-within-requires
     slice-aggregate-put-solved
     slice-aggregate-put-solved-2
     put-solved-requires

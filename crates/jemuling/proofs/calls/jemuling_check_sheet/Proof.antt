@@ -8,6 +8,9 @@ use borrow.Author.Needs.{needs}
 use Rattle.jemuling.proofs.calls.jemuling_check_sheet.Statement.{statement}
 use Rattle.jemuling.proofs.calls.jemuling_check_sheet.Tie as tie
 
+standard-requires : tie.Need-standard-requires
+standard-requires c κs = search needs
+
 check-model-requires : tie.Need-check-model-requires
 check-model-requires c κs = search needs
 
@@ -16,9 +19,10 @@ checked-told-requires c κs = search needs
 
 returns : tie.Need-returns
 returns c =
-    let e = c .checked-told .ensures ∙ ap checkedTold (c .before .check-model .ensures) in
-    let input = c .before .before .before in
-    (e, sheet-checked _ _ _ (all-bytes (input .before .args .input .now) (λ i. omega (arith, input .shared-slice-known .given i))) e)
+    let k = c .before in
+    let e = c .checked-told .ensures ∙ ap checkedTold (rw (k .before .standard .ensures) at (k .check-model .ensures)) in
+    let input = k .before .before .before in
+    (e, sheet-checked _ _ _ _ (all-bytes (input .before .args .input .now) (λ i. omega (arith, input .shared-slice-known .given i))) e)
 
 pub jemuling-check-sheet-spec : {M : Type 1} → statement M
-jemuling-check-sheet-spec = tie.close (tie.spec check-model-requires checked-told-requires returns)
+jemuling-check-sheet-spec = tie.close (tie.spec standard-requires check-model-requires checked-told-requires returns)

@@ -24,7 +24,7 @@ returns c =
     let t = c .evidence-told .ensures
     ∙ ap evidenceTold (e .evidence .ensures ∙ ap (λ (l : Limits). evidence l (s .args .number) (s .args .lines) (s .args .proof .now)
     (s .args .model .now)) (e .before .standard .ensures)) in
-    (t, part-handed _ _ _ _ _ t)
+    (t, part-handed _ _ _ _ _ _ t)
 
 pub jemuling-hand-back-spec : {M : Type 1} → statement M
 jemuling-hand-back-spec =

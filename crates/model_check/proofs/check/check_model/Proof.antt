@@ -24,7 +24,8 @@ returns : tie.Need-returns
 returns c =
     let a = c .before .before .before in
     let s = a .before .before .before in
-    sym (checked-fault (s .args .input .now) (s .args .bytes .now) _ _ (sym (a .read .ensures) ∙ c .before .scan .given .1))
+    sym (checked-fault (s .args .terms) (s .args .input .now) (s .args .bytes .now) _ _
+    (sym (a .read .ensures) ∙ c .before .scan .given .1))
 
 returns-2 : tie.Need-returns-2
 returns-2 c = search needs

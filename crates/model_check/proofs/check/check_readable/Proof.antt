@@ -7,7 +7,7 @@ use Rattle.model_check.proofs.check.check_readable.Statement.{statement
 use Rattle.model_check.proofs.check.check_readable.Tie as tie
 
 returns : tie.Need-returns
-returns c = let s = c .before .before .before in sym (checked-short (s .pre) (s .args .bytes .now) (c .if1 .taken))
+returns c = let s = c .before .before .before in sym (checked-short (s .args .terms) (s .pre) (s .args .bytes .now) (c .if1 .taken))
 
 read-model-requires : tie.Need-read-model-requires
 read-model-requires c κs = search needs
@@ -16,7 +16,8 @@ returns-2 : tie.Need-returns-2
 returns-2 c =
     let m = c .before .before in
     let s = m .before .before .before .before in
-    sym (checked-bad (s .pre) (s .args .bytes .now) (m .before .if1 .left) (m .read-model .ensures) (not-true _ (c .if2 .taken)))
+    sym (checked-bad (s .args .terms) (s .pre) (s .args .bytes .now) (m .before .if1 .left) (m .read-model .ensures)
+    (not-true _ (c .if2 .taken)))
 
 check-clauses-requires : tie.Need-check-clauses-requires
 check-clauses-requires c κs =
@@ -30,7 +31,8 @@ returns-3 c =
     let m = e .before .before in
     let s = m .before .before .before .before in
     c .check-clauses .ensures
-    ∙ sym (checked-clauses (s .pre) (s .args .bytes .now) (m .before .if1 .left) (m .read-model .ensures) (not-false _ (e .if2 .left)))
+    ∙ sym (checked-clauses (s .args .terms) (s .pre) (s .args .bytes .now) (m .before .if1 .left) (m .read-model .ensures)
+    (not-false _ (e .if2 .left)))
 
 pub check-readable-spec : {M : Type 1} → statement M
 check-readable-spec =

@@ -30,7 +30,7 @@ returns c =
     let k = c .before .before .before in
     let a = k .before .before .before .before .before .args in
     let t : c .before .whole-steps .result ≡ false = search (needs, not-true, not-false, c .if1) in
-    called-length (a .limits) (a .input .now) (a .proof .now) (known k) (sym (c .before .whole-steps .ensures) ∙ t)
+    called-length (a .terms) (a .input .now) (a .proof .now) (known k) (sym (c .before .whole-steps .ensures) ∙ t)
 
 check-readable-requires : tie.Need-check-readable-requires
 check-readable-requires c κs = known (c .before .before .before)
@@ -39,7 +39,7 @@ returns-2 : tie.Need-returns-2
 returns-2 c =
     let k = c .before .before .before in
     let a = k .before .before .before .args in
-    called-faulty (a .limits) (a .input .now) (a .proof .now) _ _ (sym (k .read .ensures) ∙ c .before .s .given .1)
+    called-faulty (a .terms) (a .input .now) (a .proof .now) _ _ (sym (k .read .ensures) ∙ c .before .s .given .1)
 
 returns-3 : tie.Need-returns-3
 returns-3 c =
@@ -47,7 +47,7 @@ returns-3 c =
     let k = w .before .before in
     let a = k .before .before .before .before .before .args in
     let t : w .whole-steps .result ≡ true = search (needs, not-true, not-false, c .before .if1) in
-    c .check-readable .ensures ∙ called-whole (a .limits) (a .input .now) (a .proof .now) (known k) (sym (w .whole-steps .ensures) ∙ t)
+    c .check-readable .ensures ∙ called-whole (a .terms) (a .input .now) (a .proof .now) (known k) (sym (w .whole-steps .ensures) ∙ t)
 
 pub check-proof-spec : {M : Type 1} → statement M
 check-proof-spec =

@@ -10,10 +10,10 @@ use Rattle.solving.proofs.decide.decide.Statement.{statement}
 use Rattle.solving.proofs.decide.decide.Tie as tie
 
 -- the problem is well formed
-formed : (c : tie.After-eliminate) → let a = c .before .before .before .before .before .args in
+formed : (c : tie.After-eliminate) → let a = c .before .before .before .before .before .before .args in
     WellFormed (problemAt (a .input .now) (a .sizes))
 formed c =
-    let s = c .before .before .before .before .before in
+    let s = c .before .before .before .before .before .before in
     let a = s .args in
     read-well-formed (a .input .now) (problemAt (a .input .now) (a .sizes)) (s .pre .0 .is-read)
 
@@ -45,7 +45,7 @@ enum-told-4 c = search needs
 saturated-requires : tie.Need-saturated-requires
 saturated-requires c κs =
     let k = c .before .before .before .before .before .before .before in
-    let s = k .before .before .before .before .before in
+    let s = k .before .before .before .before .before .before in
     let e = k .eliminate .ensures .0 in
     let w = formed k in
     let ordered = subst Ordered (sym (k .eliminate .ensures .1)) (problem-ordered (problemAt (s .args .input .now) (s .args .sizes))) in (
@@ -62,7 +62,7 @@ returns c =
     let t = f .before .before in
     let k = t .before .before .before .before .before in
     rw (f .refuse .ensures .0, f .refuse .ensures .1) (leaves-overflow (formed k) (k .eliminate .ensures .0)
-    (k .before .before .before .before .before .args .model .now) (t .enum-told .given .1))
+    (k .before .before .before .before .before .before .args .model .now) (t .enum-told .given .1))
 
 same-length-2 : tie.Need-same-length-2
 same-length-2 c = search needs
@@ -73,7 +73,7 @@ returns-2 c =
     let t = f .before .before in
     let k = t .before .before .before .before .before in
     rw (f .refuse2 .ensures .0, f .refuse2 .ensures .1) (leaves-out (formed k) (k .eliminate .ensures .0)
-    (k .before .before .before .before .before .args .model .now) (t .enum-told2 .given .1))
+    (k .before .before .before .before .before .before .args .model .now) (t .enum-told2 .given .1))
 
 same-length-3 : tie.Need-same-length-3
 same-length-3 c = search needs
@@ -87,7 +87,7 @@ returns-3 c =
     let t = f .before .before .before in
     let k = t .before .before .before .before .before in
     rw (f .without-model .ensures .0, f .without-model .ensures .1 .0, f .without-model .ensures .1 .1)
-    (leaves-empty (formed k) (k .eliminate .ensures .0) (k .before .before .before .before .before .args .model .now)
+    (leaves-empty (formed k) (k .eliminate .ensures .0) (k .before .before .before .before .before .before .args .model .now)
     (t .enum-told3 .given .1))
 
 same-length-5 : tie.Need-same-length-5
@@ -102,7 +102,7 @@ returns-4 c =
     let t = f .before .before .before in
     let k = t .before .before .before .before .before in
     rw (f .saturated .ensures .1)
-    (leaves-saturated (formed k) (k .eliminate .ensures .0) (k .before .before .before .before .before .args .model .now) _ _
+    (leaves-saturated (formed k) (k .eliminate .ensures .0) (k .before .before .before .before .before .before .args .model .now) _ _
     (t .enum-told4 .given .1) (rw (k .eliminate .ensures .1) at (f .saturated .ensures .0)))
 
 pub decide-spec : {M : Type 1} → statement M

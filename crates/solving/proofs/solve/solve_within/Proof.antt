@@ -24,9 +24,9 @@ returns c =
     let s = b .before .before .before .before in
     let a = s .args in
     rw (
-      lent-short-proof (a .limits) (a .input .now) (a .proof .now) (a .model .now) (rw (b .proof-bytes .ensures) at (t .if1 .taken)),
+      lent-short-proof (a .terms) (a .input .now) (a .proof .now) (a .model .now) (rw (b .proof-bytes .ensures) at (t .if1 .taken)),
       c .faulted .ensures,
-    ) (leaves-faulted (a .limits) _ _ (a .proof .now) (a .model .now))
+    ) (leaves-faulted (a .terms .limits) _ _ (a .proof .now) (a .model .now))
 
 faulted-requires-2 : tie.Need-faulted-requires-2
 faulted-requires-2 c κs = search needs
@@ -40,10 +40,10 @@ returns-2 c =
     let s = b .before .before .before .before in
     let a = s .args in
     rw (
-      lent-short-model (a .limits) (a .input .now) (a .proof .now) (a .model .now) (rw (b .proof-bytes .ensures) at (l .if1 .left))
+      lent-short-model (a .terms) (a .input .now) (a .proof .now) (a .model .now) (rw (b .proof-bytes .ensures) at (l .if1 .left))
           (t .if2 .taken),
       c .faulted2 .ensures,
-    ) (leaves-faulted (a .limits) _ _ (a .proof .now) (a .model .now))
+    ) (leaves-faulted (a .terms .limits) _ _ (a .proof .now) (a .model .now))
 
 read-requires : tie.Need-read-requires
 read-requires c κs = search needs
@@ -79,10 +79,10 @@ returns-3 c =
     let a = s .args in
     let e = scanOf-faulty (read (a .input .now)) _ _ (sym (d .read .ensures) ∙ m .s .given .1) in
     rw (
-      lent-fault (a .limits) (a .input .now) (a .proof .now) (a .model .now) (rw (b .proof-bytes .ensures) at (l .before .if1 .left))
+      lent-fault (a .terms) (a .input .now) (a .proof .now) (a .model .now) (rw (b .proof-bytes .ensures) at (l .before .if1 .left))
           (l .if2 .left) _ _ e,
       c .faulted3 .ensures,
-    ) (leaves-faulted (a .limits) _ _ (a .proof .now) (a .model .now))
+    ) (leaves-faulted (a .terms .limits) _ _ (a .proof .now) (a .model .now))
 
 same-length : tie.Need-same-length
 same-length c = search needs
@@ -101,7 +101,7 @@ returns-4 c =
     let s = b .before .before .before .before in
     let a = s .args in
     let r = readable (a .input .now) _ (sym (d .read .ensures) ∙ m .s2 .given .1) in
-    rw (lent-sound (a .limits) (a .input .now) (a .proof .now) (a .model .now) (rw (b .proof-bytes .ensures) at (l .before .if1 .left))
+    rw (lent-sound (a .terms) (a .input .now) (a .proof .now) (a .model .now) (rw (b .proof-bytes .ensures) at (l .before .if1 .left))
     (l .if2 .left) _ (r .is-read)) (k .decide .ensures)
 
 pub solve-within-spec : {M : Type 1} → statement M
