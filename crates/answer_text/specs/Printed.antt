@@ -53,7 +53,8 @@ PrintableOutcome (decided v steps pairs bytes) = (length steps ≤ limit.steps) 
 module _ (p : Problem) (w : WellFormed p) where
   concluded-printable : (s : State) → length (stepsOf s) ≤ limit.steps → All Numbered (stepsOf s) → PrintableOutcome (concluded p s)
   unfolding concluded stepsOf
-  concluded-printable (running steps pairs) n h = by (written (p .booleans) (p .rationals) (walk (orderOf p) (map (λ s. s .line) steps))) refl
+  concluded-printable (running steps pairs) n h =
+      by (written (p .booleans) (p .rationals) (walk (orderOf p) (map (λ s. s .line) steps))) refl
     where
       by : (o : Option (List ℕ)) → written (p .booleans) (p .rationals) (walk (orderOf p) (map (λ s. s .line) steps)) ≡ o
           → PrintableOutcome (concluded p (running steps pairs))

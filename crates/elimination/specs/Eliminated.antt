@@ -37,7 +37,8 @@ pub record Eliminated (limits : Limits) (p : Problem) (before after : List ℕ) 
 
 module _ {limits : Limits} (problem : Problem) {before middle after : List ℕ} {loaded p : Point}
     (first : Reaches limits before origin middle loaded (load (limited limits) (loadableOf problem) (running [] 0)))
-    (then : Reaches limits middle loaded after p (rounds (limited limits) (orderOf problem) 0 (orderOf problem) (stateAt middle loaded))) where
+    (then : Reaches limits middle loaded after p
+    (rounds (limited limits) (orderOf problem) 0 (orderOf problem) (stateAt middle loaded))) where
   whole : stateAt after p ≡ elimination (limited limits) problem
   unfolding elimination eliminate
   whole = then .is ∙ ap (rounds (limited limits) (orderOf problem) 0 (orderOf problem)) (first .is)

@@ -122,7 +122,8 @@ round-step v vs l = by (contains v l)
     by false = refl
 
 rounds-rational : (fs : List ℕ) (cs : List ℤ) (vs : List Variable) (l : rules.Line)
-    → ((f : ℕ) → contains (rational f) l ≡ not (isZero (getD cs f (pos 0)))) → roundOf (map rational fs ++ vs) l ≡ leading fs cs (roundOf vs l)
+    → ((f : ℕ) → contains (rational f) l ≡ not (isZero (getD cs f (pos 0))))
+    → roundOf (map rational fs ++ vs) l ≡ leading fs cs (roundOf vs l)
 unfolding leading
 rounds-rational [] cs vs l e = refl
 rounds-rational (f ∷ fs) cs vs l e = round-step (rational f) (map rational fs ++ vs) l ∙ rw (e f, rounds-rational fs cs vs l e)

@@ -75,7 +75,8 @@ module _ (p : Problem) where
     ends : EndOf (elimination (limited limits) p) (firstStop (limited limits) (events (orderOf p) (loadableOf p)))
     unfolding elimination
     ends = rw (elimination-cut limits p)
-        (cut-end (limited limits) (events (orderOf p) (loadableOf p)) (elimination unlimited p) (unlimited-unstopped (orderOf p) (loadableOf p)))
+        (cut-end (limited limits) (events (orderOf p) (loadableOf p)) (elimination unlimited p)
+        (unlimited-unstopped (orderOf p) (loadableOf p)))
 
     pub overflow-first : IsRefused refusal.Overflow (answerOf (concluded p (elimination (limited limits) p)))
         ↔ (firstStop (limited limits) (events (orderOf p) (loadableOf p)) ≡ some overflow)

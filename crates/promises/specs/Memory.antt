@@ -98,7 +98,8 @@ module _ (terms : Terms) (proof model : List ℕ) (full : FullSize (terms .limit
     unfolding noModel
     kept-finished steps n c f h none m = kept-decided Unwritten steps n noModel f h refl
     kept-finished steps n c f h (some bytes) m =
-        kept-decided Satisfiable steps n bytes f h (written-accepted terms input q e (walk (orderOf p) (map (λ s. s .line) steps)) bytes [] m
+        kept-decided Satisfiable steps n bytes f h
+        (written-accepted terms input q e (walk (orderOf p) (map (λ s. s .line) steps)) bytes [] m
         (running-satisfies p (posed-well-formed (terms .edition) input q e) (limited limits) steps n c) .0)
 
     kept-concluded : (s : State) → elimination (limited limits) p ≡ s → All (λ x. Formed (x .line)) (stepsOf s)

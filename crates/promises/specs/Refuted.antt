@@ -35,7 +35,8 @@ module _ {variables : List Variable} (o : Ordered variables) (χ : Assignment) (
       let u = line-at Right earlier (k .first) (k .upper) (k .atFirst) h in
       let l = line-at Right earlier (k .second) (k .lower) (k .atSecond) h in (
         dropped-is (λ m. T (lineHolds χ m)) (k .result)
-            (resolve-holds χ d (k .variable) (k .upper) (k .lower) (resolvable o (k .variable) (k .round) (k .upper) (k .lower) (u .1) (l .1)
+            (resolve-holds χ d (k .variable) (k .upper) (k .lower)
+            (resolvable o (k .variable) (k .round) (k .upper) (k .lower) (u .1) (l .1)
             (k .place) (k .ofUpper) (k .ofLower)) (k .positive) (k .negative) (u .0) (l .0)),
         resolve-sound (k .variable) (k .upper) (k .lower) (s .line) (u .1) (l .1) (k .positive) (k .negative) (k .result),
       )

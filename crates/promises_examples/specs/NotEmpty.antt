@@ -107,6 +107,7 @@ pub seven-does-not-fit : Fits (ofSteps 4) (problemFrom seven) → ⊥
 unfolding definitions
 seven-does-not-fit = delivers 4 seven (omega arith) refl full-four .otherwise .0 (inr refl)
 
-pub seven-out-of-steps : firstStop (limited (ofSteps 4)) (events (orderOf (problemFrom seven)) (loadableOf (problemFrom seven))) ≡ some outOfSteps
+pub seven-out-of-steps : firstStop (limited (ofSteps 4)) (events (orderOf (problemFrom seven)) (loadableOf (problemFrom seven)))
+    ≡ some outOfSteps
 unfolding definitions
 seven-out-of-steps = delivers 4 seven (omega arith) refl full-four .isOutOfSteps .0 refl

@@ -43,8 +43,10 @@ module _ (order : Order) {limits : Limits} {start : List ℕ} {from : Point} whe
   rounds-start s = record { leads = leads-none s; counted = omega arith; few = omega arith; same = refl }
 
   module _ {proof : List ℕ} {p : Point} {t : ℕ} (at : AtRound order limits start from proof p t) where
-    pub rounds-next : Ordered (variablesOf order) → (v : Variable) → IsRound (variablesOf order) t (Of v) → p .progress ≡ Running → {after : List ℕ} {q : Point}
-        → Reaches limits proof p after q (afterRound limits (record { order = order; number = t; variable = v }) proof p) → q .pairs ≤ p .pairs + 4294967296
+    pub rounds-next : Ordered (variablesOf order) → (v : Variable) → IsRound (variablesOf order) t (Of v) → p .progress ≡ Running
+        → {after : List ℕ} {q : Point}
+        → Reaches limits proof p after q (afterRound limits (record { order = order; number = t; variable = v }) proof p)
+        → q .pairs ≤ p .pairs + 4294967296
         → AtRound order limits start from after q (t + 1)
     unfolding stateAt stateOf rounds
     rounds-next o v is going {after} {q} r c =
@@ -61,7 +63,8 @@ module _ (order : Order) {limits : Limits} {start : List ℕ} {from : Point} whe
               ∙ at .same;
         }
 
-    pub rounds-done : Ordered (variablesOf order) → IsRound (variablesOf order) t End → Reaches limits start from proof p (allRounds (variablesOf order) limits start from)
+    pub rounds-done : Ordered (variablesOf order) → IsRound (variablesOf order) t End
+        → Reaches limits start from proof p (allRounds (variablesOf order) limits start from)
     unfolding rounds
     rounds-done o h =
         let l : length (variablesOf order) ≤ t = omega (arith, o .count) in

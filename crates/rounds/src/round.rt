@@ -22,7 +22,8 @@ pub fn round(proof: &mut [u8], current: VariableRound, from: Point, limits: Limi
     requires { ⌜ Scheduled current ⌝ }
     requires { ⌜ limits .steps ≤ mostSteps ⌝ }
     requires { ⌜ from .pairs ≤ 900000000000 ⌝ }
-    ensures { λ p. ⌜ Reaches limits (now (proof .entry)) from (now (proof .exit)) p (afterRound limits current (now (proof .entry)) from) ⌝ }
+    ensures { λ p. ⌜ Reaches limits (now (proof .entry)) from (now (proof .exit)) p
+        (afterRound limits current (now (proof .entry)) from) ⌝ }
     ensures { λ p. ⌜ p .pairs ≤ from .pairs + 4294967296 ⌝ }
 {
     let m = from.steps;

@@ -18,7 +18,8 @@ pub fn rounds(proof: &mut [u8], order: Order, from: Point, limits: Limits) -> Po
     requires { ⌜ Ordered (variablesOf order) ⌝ }
     requires { ⌜ limits .steps ≤ mostSteps ⌝ }
     requires { ⌜ from .pairs ≤ mostSteps ⌝ }
-    ensures { λ p. ⌜ Reaches limits (now (proof .entry)) from (now (proof .exit)) p (allRounds (variablesOf order) limits (now (proof .entry)) from) ⌝ }
+    ensures { λ p. ⌜ Reaches limits (now (proof .entry)) from (now (proof .exit)) p
+        (allRounds (variablesOf order) limits (now (proof .entry)) from) ⌝ }
 {
     let mut p = from;
     let mut t: usize = 0;

@@ -136,9 +136,11 @@ module _ {limits : Limits} {p : Problem} (w : WellFormed p) {before after : List
       where
         concludes : (o : Option (List ℕ)) → written (p .booleans) (p .rationals) (walk (orderOf p) (linesIn after (c .steps))) ≡ o
             → concluded p state ≡ finished p state o
-        concludes o f = concludes-at Running h o (sym (ap (λ ls. written (p .booleans) (p .rationals) (walk (orderOf p) ls)) (e .lines)) ∙ f)
+        concludes o f =
+            concludes-at Running h o (sym (ap (λ ls. written (p .booleans) (p .rationals) (walk (orderOf p) ls)) (e .lines)) ∙ f)
 
-        by : (o : Option (List ℕ)) → written (p .booleans) (p .rationals) (walk (orderOf p) (linesIn after (c .steps))) ≡ o → WrittenBy o c model
-            filled s → Leaves limits (concluded p state) before model (zeroed (c .steps) (limits .steps) after) filled s
+        by : (o : Option (List ℕ)) → written (p .booleans) (p .rationals) (walk (orderOf p) (linesIn after (c .steps))) ≡ o
+            → WrittenBy o c model filled s
+            → Leaves limits (concluded p state) before model (zeroed (c .steps) (limits .steps) after) filled s
         by none f g = rw (g .said) (leaves-decided Unwritten noModel filled (concludes none f) (g .left ∙ no-model))
         by (some bytes) f g = rw (g .said) (leaves-decided Satisfiable bytes filled (concludes (some bytes) f) (g .left))

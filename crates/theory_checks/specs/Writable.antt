@@ -75,5 +75,6 @@ module _ (p : Problem) (w : WellFormed p) where
   pub elimination-writable : (limits : Limits) → limits .steps ≤ limit.mostSteps → All Writable (stepsOf (elimination (limited limits) p))
   unfolding elimination
   elimination-writable limits few =
-      each-writable (orderOf p) [] (stepsOf (elimination (limited limits) p)) (omega (arith, limited-held limits (orderOf p) (loadableOf p)))
+      each-writable (orderOf p) [] (stepsOf (elimination (limited limits) p))
+      (omega (arith, limited-held limits (orderOf p) (loadableOf p)))
       (elimination-encodable p w limits (orderOf p)) (elimination-origins (orderOf p) (loadableOf p) (limited limits))

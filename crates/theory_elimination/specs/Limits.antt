@@ -130,4 +130,5 @@ module _ (limits : Limits) (p : Problem) where
   pub fits-unstopped : Fits limits p → Stopped (elimination (limited limits) p) → ⊥
   unfolding elimination
   fits-unstopped h k =
-      stopped-clash (eliminate unlimited (orderOf p) (loadableOf p)) (unlimited-unstopped (orderOf p) (loadableOf p)) (subst Stopped (fits-same h) k)
+      stopped-clash (eliminate unlimited (orderOf p) (loadableOf p)) (unlimited-unstopped (orderOf p) (loadableOf p))
+      (subst Stopped (fits-same h) k)

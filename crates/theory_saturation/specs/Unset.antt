@@ -28,7 +28,8 @@ assign-unset vs ls χ s (rational g) =
     let x = rationalValue χ g ls in
     record {
       positive = with-denominator g x χ (s .positive) (rational-sound χ (s .positive) g ls);
-      free = λ f h. let a = neither (eqb f g) (any (names f) vs) h in with-zero g x χ f (λ e. eqb-no {a = f} {b = g} (a .0) e) (s .free f (a .1));
+      free = λ f h. let a = neither (eqb f g) (any (names f) vs) h in
+          with-zero g x χ f (eqb-no {a = f} {b = g} (a .0)) (s .free f (a .1));
     }
 
 pub walk-unset : (variables : List Variable) (lines : List Line) (t : ℕ) (vs : List Variable)

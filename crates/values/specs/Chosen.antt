@@ -39,7 +39,8 @@ module _ (χ : Assignment) (current : RationalRound) (ls : List rules.Line) wher
       by false true e = refl
       by false false e = let z : _≡_ {A = ℕ} 0 1 = cc in absurd (omega arith)
 
-  pub chosen-value : (L U : Bound) (x : Fraction) → Collected χ current ls L U → x ≡ value L U → (t : Bool) → t ≡ beyond x → Chosen t χ current ls x
+  pub chosen-value : (L U : Bound) (x : Fraction) → Collected χ current ls L U → x ≡ value L U → (t : Bool) → t ≡ beyond x
+      → Chosen t χ current ls x
   unfolding exceeds rationalValue
   chosen-value L U x h e t b = by t b
     where

@@ -45,7 +45,8 @@ pub fn walk(proof: &[u8], n: usize, order: Order, r: u8) -> Reached
     requires { ⌜ Ordered (variablesOf order) ⌝ }
     requires { ⌜ r ≤ rationals ⌝ }
     requires { ⌜ Narrow (now proof) n r ⌝ }
-    ensures { λ w. ⌜ ((b : ℕ) → written b r (walk (variablesOf order) (linesIn (now (proof .entry)) n)) ≡ bytesOf b r (w .written) (w .model)) ⌝ }
+    ensures { λ w. ⌜ ((b : ℕ) → written b r (walk (variablesOf order) (linesIn (now (proof .entry)) n))
+        ≡ bytesOf b r (w .written) (w .model)) ⌝ }
     ensures { λ w. ⌜ WrittenInRange (w .written) (w .model) ⌝ }
 {
     let mut model = walk_booleans(proof, n, order);

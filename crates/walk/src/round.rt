@@ -24,7 +24,8 @@ pub fn assign_rational(proof: &[u8], n: usize, current: RationalRound, model: Mo
     requires { ⌜ ReadyLines (now proof) n ⌝ }
     requires { ⌜ ScheduledRational current ⌝ }
     requires { ⌜ InRange model ⌝ }
-    ensures { λ r. ⌜ Assigned (r .written) (r .model) (rational (current .rational)) (ownOf current (linesIn (now (proof .entry)) n)) (assignment model) ⌝ }
+    ensures { λ r. ⌜ Assigned (r .written) (r .model) (rational (current .rational)) (ownOf current (linesIn (now (proof .entry)) n))
+        (assignment model) ⌝ }
 {
     let found = rational_value(proof, n, current, model);
     if found.beyond {
@@ -43,7 +44,8 @@ pub fn assign_boolean(proof: &[u8], n: usize, order: Order, i: usize, model: Mod
     requires { ⌜ Ordered (variablesOf order) ⌝ }
     requires { ⌜ i < allBooleans ⌝ }
     requires { ⌜ InRange model ⌝ }
-    ensures { λ m. ⌜ WithVariable m (boolean i) (own (variablesOf order) (booleanRound i) (linesIn (now (proof .entry)) n)) (assignment model) ⌝ }
+    ensures { λ m. ⌜ WithVariable m (boolean i) (own (variablesOf order) (booleanRound i) (linesIn (now (proof .entry)) n))
+        (assignment model) ⌝ }
 {
     let yes = boolean_value(proof, n, order, i, model);
     with_boolean(model, i, yes)

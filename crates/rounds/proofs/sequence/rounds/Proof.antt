@@ -6,7 +6,7 @@ use borrow.Author.Needs.{needs}
 use borrow.Author.Tests.{not-true, not-false}
 use Rattle.rules_types.specs.Limits as limit
 use Rattle.lines.specs.declared.order.Round.the-variants.{Of}
-use Rattle.lines.specs.Order.{variablesOf, IsRound}
+use Rattle.lines.specs.Order.{variablesOf, Scheduled, IsRound}
 use Rattle.placing.specs.declared.point.Progress.the-variants.{Running}
 use Rattle.placing.specs.Point.{running-yes}
 use Rattle.rounds.specs.Rounds.{AtRound, rounds-start, rounds-next, rounds-done, rounds-stay}
@@ -58,7 +58,8 @@ round-requires c κs =
     let s = l .before .before in
     let b = l .loop .inv .counted in
     let f = l .loop .inv .few in
-    (l .loop .inv .leads .standing, (going e, (record { ranged = here v .0; ordered = s .pre .1 .0 }, (s .pre .1 .1 .0, omega (arith, b, f, s .pre .1 .1 .1)))))
+    let r : Scheduled _ = record { ranged = here v .0; ordered = s .pre .1 .0 } in
+    (l .loop .inv .leads .standing, (going e, (r, (s .pre .1 .1 .0, omega (arith, b, f, s .pre .1 .1 .1)))))
 
 enum-told : tie.Need-enum-told Inv-loop μ-loop
 enum-told c = search needs

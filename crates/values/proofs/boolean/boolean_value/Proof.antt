@@ -18,7 +18,8 @@ use Rattle.values.proofs.boolean.boolean_value.Tie as tie
 
 abbrev Inv-loop : tie.InvT-loop
 Inv-loop proof n order i model j₀ j = (j ≤ n)
-    × (any (forces (variablesOf order) (assignment model) i) (linesIn proof n) ≡ any (forces (variablesOf order) (assignment model) i) (drop j (linesIn proof n)))
+    × (any (forces (variablesOf order) (assignment model) i) (linesIn proof n)
+    ≡ any (forces (variablesOf order) (assignment model) i) (drop j (linesIn proof n)))
 
 abbrev μ-loop : tie.MeasureT-loop
 μ-loop proof n order i model j₀ j = n - j
@@ -33,7 +34,8 @@ forces-requires : tie.Need-forces-requires Inv-loop μ-loop
 forces-requires c κs =
     let l = c .before .before .loop in
     let s = c .before .before .before .before in
-    (s .pre .1 .1 .0, (s .pre .1 .1 .1 .0, (rw (c .line-at .ensures) (s .pre .1 .0 (l .j) (c .before .loop-test .taken)), s .pre .1 .1 .1 .1)))
+    let ready = s .pre .1 .0 (l .j) (c .before .loop-test .taken) in
+    (s .pre .1 .1 .0, (s .pre .1 .1 .1 .0, (rw (c .line-at .ensures) ready, s .pre .1 .1 .1 .1)))
 
 -- the line that was read decides, or those behind it
 decided : (c : tie.After-forces Inv-loop μ-loop) → let l = c .before .before .before .loop in let s =
@@ -52,7 +54,8 @@ decided c =
 returns : tie.Need-returns Inv-loop μ-loop
 returns c =
     let s = c .before .before .before .before .before .before in
-    sym (sym (value-is (variablesOf (s .args .order)) (assignment (s .args .model)) (s .args .i) (linesIn (s .args .proof .now) (s .args .n)))
+    sym
+    (sym (value-is (variablesOf (s .args .order)) (assignment (s .args .model)) (s .args .i) (linesIn (s .args .proof .now) (s .args .n)))
     ∙ decided (c .before) ∙ rw (c .if1 .taken))
 
 add-j : tie.Need-add-j Inv-loop μ-loop
@@ -72,7 +75,8 @@ returns-2 c =
     let test = forces (variablesOf (s .args .order)) (assignment (s .args .model)) (s .args .i) in
     let ls = linesIn (s .args .proof .now) (s .args .n) in
     let z : l .j ≡ s .args .n = omega (arith, l .inv .0, c .loop-test .left) in
-    sym (sym (value-is (variablesOf (s .args .order)) (assignment (s .args .model)) (s .args .i) ls) ∙ l .inv .1 ∙ ap (λ (k : ℕ). any test (drop k ls)) z
+    sym (sym (value-is (variablesOf (s .args .order)) (assignment (s .args .model)) (s .args .i) ls) ∙ l .inv .1
+    ∙ ap (λ (k : ℕ). any test (drop k ls)) z
     ∙ ap (any test) (lines-end (s .args .proof .now) (s .args .n)))
 
 pub boolean-value-spec : {M : Type 1} → statement M

@@ -13,7 +13,8 @@ use Rattle.values.proofs.gather.gathered.Statement.{statement}
 use Rattle.values.proofs.gather.gathered.Tie as tie
 
 abbrev Inv-loop : tie.InvT-loop
-Inv-loop proof n current model b₀ j₀ b j = (j ≤ n) × (b .beyond ≡ false) × CollectedIn b (assignment model) current (drop j (linesIn proof n))
+Inv-loop proof n current model b₀ j₀ b j = (j ≤ n) × (b .beyond ≡ false)
+    × CollectedIn b (assignment model) current (drop j (linesIn proof n))
 
 abbrev μ-loop : tie.MeasureT-loop
 μ-loop proof n current model b₀ j₀ b j = j

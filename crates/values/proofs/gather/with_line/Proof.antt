@@ -68,7 +68,8 @@ constrained c = let s = entry c in constraint-is (s .args .line)
     (round-related (s .args .line) (s .pre .1 .1 .1 .0 .shaped) (s .args .current) (s .pre .1 .1 .0) (same-round c))
 
 one-side : (c : tie.Else1) → let s = entry c in
-    negatively (rational (s .args .current .rational)) (meaning (s .args .line)) ≡ not (positively (rational (s .args .current .rational)) (meaning (s .args .line)))
+    let v = rational (s .args .current .rational) in
+    negatively v (meaning (s .args .line)) ≡ not (positively v (meaning (s .args .line)))
 one-side c = let s = entry c in
     round-sides (s .args .line) (s .pre .1 .1 .1 .0 .shaped) (s .args .current) (s .pre .1 .1 .0) (same-round c)
 
@@ -112,7 +113,8 @@ small c =
     let b = c .before .before in
     let o = of-round b in
     let s = entry o in
-    bound-small (s .args .line) (s .args .model) (s .args .current .rational) (row-length s) (s .pre .1 .1 .0 .ranged) (s .pre .1 .1 .1 .0) (s .pre .1 .1 .1 .1)
+    bound-small (s .args .line) (s .args .model) (s .args .current .rational) (row-length s) (s .pre .1 .1 .0 .ranged)
+    (s .pre .1 .1 .1 .0) (s .pre .1 .1 .1 .1)
     (bounded o) (rw (← b .bound-of .ensures, ← c .before .beyond .ensures) (c .if3 .left))
 
 has-positive-rational-requires : tie.Need-has-positive-rational-requires
