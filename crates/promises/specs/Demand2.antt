@@ -20,6 +20,7 @@ use Rattle.rules.specs.Elimination.{Stops, State, orderOf, drops, covered, roun
 use Rattle.rules.specs.Needs.{stepsOf}
 use Rattle.rules.specs.Calls.{sound, read, solve, proofChecked, modelChecked, evidence}
 use Rattle.theory_lists.specs.All.{All, Any}
+use Rattle.theory_saturation.specs.Order.{Ordered, problem-ordered}
 use Rattle.theory_saturation.specs.Drops.{drops-exactly, covered-exactly}
 use Rattle.theory_bytes.specs.Bytes.{AllBytes}
 use Rattle.theory_splitting.specs.EveryPart.{EveryPart, every-part}
@@ -61,7 +62,9 @@ pub record Demand2 (edition : ℕ) (input : List ℕ) (p : Problem) : Type 0 whe
   -- earlier one drops, up to the one that ended it; the pairs are the resolvents counted; and no other proof is that
   pub exactly : (stops : Stops) → Exactly stops (orderOf p) (loadableOf p) (elimination stops p)
   pub only : (stops : Stops) (other : State) → Exactly stops (orderOf p) (loadableOf p) other → other ≡ elimination stops p
-  -- the words of that: the order of a round's pairs; which line an earlier one drops; every part before the end is loaded
+  -- the words of that: a round for each variable, "turns 0 to 7 belong to the figures and 8 to 39 to the marks"; the order of a round's
+  -- pairs; which line an earlier one drops; every part before the end is loaded
+  pub rounds : Ordered (orderOf p)
   pub inOrder : (v : Variable) (t : ℕ) (steps : List Step) → InOrder (orderOf p) v t steps (roundPairs (orderOf p) v t steps)
   pub dropping : (earlier l : Line) → T (drops earlier l) ↔ (earlier ≡ l)
   pub covering : (l : Line) (steps : List Step) → T (covered l steps) ↔ Any (λ s. T (drops (s .line) l)) steps
@@ -85,6 +88,7 @@ demand2 edition input q e = let p = inEdition edition q in record {
   normalized = λ stops. elimination-normalized p stops (posed-well-formed edition input q e);
   exactly = elimination-is p;
   only = elimination-only p;
+  rounds = problem-ordered p;
   inOrder = round-in-order (orderOf p);
   dropping = drops-exactly;
   covering = covered-exactly;

@@ -34,7 +34,7 @@ pub record Problem : Type 0 where
   pub rationals : ℕ
   pub clauses : List Clause
 
--- the problem that is posed in an edition: its clauses as written
+-- the problem that is posed in an edition: so far its clauses as written, in each
 abbrev pub inEdition : ℕ → Problem → Problem
 inEdition edition p = p
 

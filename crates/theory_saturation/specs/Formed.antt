@@ -21,7 +21,7 @@ use Rattle.theory_resolution.specs.Members.{has}
 use Rattle.theory_resolution.specs.Variables.{nonzero, contains-rational, contains-boolean}
 use Rattle.theory_resolution.specs.Formed.{Eight, Formed}
 use Rattle.theory_resolution.specs.Proper.{Proper, ProperLine}
-use Rattle.theory_saturation.specs.Rounds.{At, at-contains}
+use Rattle.theory_saturation.specs.Rounds.{at-contains}
 use Rattle.theory_saturation.specs.Order.{Ordered}
 use Rattle.theory_saturation.specs.Covered.{Covers}
 use Rattle.theory_saturation.specs.Saturation.{AllPairs, LinesHold, saturation}

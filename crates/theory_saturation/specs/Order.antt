@@ -1,12 +1,12 @@
 -- What the elimination, the walk and the gathering need of an order of rounds; and that the order of a problem's run is such.
-use mathlib.Core.Path.{_≡_, refl, sym, subst, ap, _∙_}
+use mathlib.Core.Path.{_≡_, refl, subst}
 use mathlib.Core.Bool.{not}
 use mathlib.Core.Logic.{⊎-elim}
 use mathlib.Core.List.{List, [], _∷_, _++_, map}
 use Prim.Native.Nat.{ℕ, zero, suc, _+_, _-_, _≤_, _<_}
 use native.Mathlib.Omega.{arith}
 use lib.Dec.{T, leb, leb→le, nleb→lt}
-use lib.ListN.{length, getD, length-append}
+use lib.ListN.{length, getD}
 use Rattle.rules_types.specs.Limits as limit
 use Rattle.rules.specs.Lists.{any, tabulate}
 use Rattle.rules.specs.Problem.{Problem}
@@ -19,11 +19,12 @@ use Rattle.theory_saturation.specs.Rounds.{At, at-unique}
 use Rattle.theory_saturation.specs.Once.{names, Once}
 
 pub record Ordered (variables : List Variable) : Type 0 where
+  -- the elimination ends behind the last round, and there the walk begins
   pub count : length variables ≡ limit.rounds
-  -- the first rounds are those of rational variables, and then the Boolean ones follow by their numbers
+  -- the first rounds are those of rational variables, and then the Boolean ones follow by their numbers: so none of these has a constraint
   pub rationals : (t : ℕ) → t < limit.rationals → (f : ℕ) × (f < limit.rationals) × At variables t (rational f)
   pub booleans : (i : ℕ) → i < limit.allBooleans → At variables (limit.rationals + i) (boolean i)
-  -- each rational variable has its round, and no other
+  -- each rational variable has a round, so that every line has one; and no other, so that the walk sets it once
   pub each : (f : ℕ) → f < limit.rationals → (t : ℕ) × (t < limit.rationals) × At variables t (rational f)
   pub once : Once variables
 
@@ -34,21 +35,27 @@ Ranged (boolean i) = i < limit.allBooleans
 
 module _ {variables : List Variable} (o : Ordered variables) where
   -- a round's variable, by whether its number is one of the first
-  at-round : (P : Variable → Type 0) (t : ℕ) (v : Variable) → At variables t v → (t < limit.rationals → (f : ℕ) → f < limit.rationals
-      → P (rational f)) → (limit.rationals ≤ t → (i : ℕ) → i < limit.allBooleans → P (boolean i)) → P v
-  at-round P t v a first later =
-      ⊎-elim
-      (λ h. let k = leb→le limit.rationals t h in
-      let b = place-below (λ w. w ≡ v) variables t a in
-      let i : t - limit.rationals < limit.allBooleans = omega (arith, o .count) in
-      let e : limit.rationals + (t - limit.rationals) ≡ t = omega arith in
-      subst P (at-unique variables t (boolean (t - limit.rationals)) v
-      (subst (λ (s : ℕ). At variables s (boolean (t - limit.rationals))) e (o .booleans (t - limit.rationals) i)) a)
-      (later k (t - limit.rationals) i))
-      (λ h. let k = nleb→lt limit.rationals t h in
-      let r = o .rationals t k in
-      subst P (at-unique variables t (rational (r .0)) v (r .2) a) (first k (r .0) (r .1)))
-      (split (leb limit.rationals t))
+  at-round : (P : Variable → Type 0) (t : ℕ) (v : Variable) → At variables t v
+      → (t < limit.rationals → (f : ℕ) → f < limit.rationals → P (rational f))
+      → (limit.rationals ≤ t → (i : ℕ) → i < limit.allBooleans → P (boolean i)) → P v
+  at-round P t v a first later = ⊎-elim behind front (split (leb limit.rationals t))
+    where
+      is : (w : Variable) → At variables t w → P w → P v
+      is w b = subst P (at-unique variables t w v b a)
+
+      front : T (not (leb limit.rationals t)) → P v
+      front h =
+          let k = nleb→lt limit.rationals t h in
+          let r = o .rationals t k in
+          is (rational (r .0)) (r .2) (first k (r .0) (r .1))
+
+      behind : T (leb limit.rationals t) → P v
+      behind h =
+          let k = leb→le limit.rationals t h in
+          let i = t - limit.rationals in
+          let few : i < limit.allBooleans = omega (arith, place-below (λ w. w ≡ v) variables t a, o .count) in
+          let e : limit.rationals + i ≡ t = omega arith in
+          is (boolean i) (subst (λ (s : ℕ). At variables s (boolean i)) e (o .booleans i few)) (later k i few)
 
   pub at-ranged : (t : ℕ) (v : Variable) → At variables t v → Ranged v
   at-ranged t v a = at-round Ranged t v a (λ k f h. h) (λ k i h. h)

@@ -1,5 +1,5 @@
 -- The walk in machine words, from the last round to the first: where it stands at round t, how it goes on, and how it ends.
-use mathlib.Core.Path.{_≡_, refl, sym, ap, subst, _∙_}
+use mathlib.Core.Path.{_≡_, sym, ap, subst, _∙_}
 use mathlib.Core.Bool.{true, false, _||_}
 use mathlib.Core.List.{List}
 use mathlib.Core.Option.{none, some}

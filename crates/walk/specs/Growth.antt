@@ -1,7 +1,7 @@
 -- What is too large stays too large: the common denominator becomes a multiple of itself, and the numerators grow with it.
 use mathlib.Core.Path.{_≡_, refl, ap, subst, _∙_}
 use mathlib.Core.Bool.{Bool, true, false, _||_, or-true}
-use mathlib.Core.List.{List, [], _∷_}
+use mathlib.Core.List.{List, _∷_}
 use Prim.Native.Nat.{ℕ, zero, suc, _*_, _/_, _≤_, _<_}
 use native.Mathlib.Nat.{mul-div-cancel', le-mul-of-pos-right, le-of-dvd, pos-of-dvd-of-pos, dvd-mul-left}
 use native.Mathlib.Omega.{arith}
