@@ -9,6 +9,7 @@ use Rattle.rules.specs.Lines as rules
 use Rattle.rules.specs.Lines.{rational, boolean}
 use Rattle.rules.specs.Elimination.{orderBy}
 use Rattle.theory_saturation.specs.Rounds.{At}
+use Rattle.theory_saturation.specs.Order as order
 use Rattle.theory_saturation.specs.Order.{Ordered, at-ranged, rational-at, boolean-at}
 use Rattle.lines.specs.declared.order.Order.{Order}
 use Rattle.lines.specs.declared.order.RationalRound.{RationalRound}
@@ -27,8 +28,7 @@ variablesOf o = orderBy (o .rationals)
 
 -- one that a line can have
 abbrev pub Ranged : Variable → Type 0
-Ranged (Rational f) = f < limit.rationals
-Ranged (Boolean i) = i < limit.allBooleans
+Ranged v = order.Ranged (variableOf v)
 
 -- a round that can be gone through
 pub record Scheduled (round : VariableRound) : Type 0 where

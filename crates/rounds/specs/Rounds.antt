@@ -34,7 +34,7 @@ allRounds variables limits proof p = rounds (limited limits) variables 0 variabl
 -- ---- before round t
 pub record AtRound (order : Order) (limits : Limits) (start : List ℕ) (from : Point) (proof : List ℕ) (p : Point) (t : ℕ) : Type 0 where
   pub leads : Leads limits start (from .steps) proof (p .steps)
-  pub counted : p .pairs ≤ from .pairs + 4294967296 * t
+  pub counted : p .pairs ≤ from .pairs + limit.mostSteps * limit.mostSteps * t
   pub few : t ≤ limit.rounds
   pub same : roundsFrom (variablesOf order) t limits proof p ≡ allRounds (variablesOf order) limits start from
 
@@ -46,7 +46,7 @@ module _ (order : Order) {limits : Limits} {start : List ℕ} {from : Point} whe
     pub rounds-next : Ordered (variablesOf order) → (v : Variable) → IsRound (variablesOf order) t (Of v) → p .progress ≡ Running
         → {after : List ℕ} {q : Point}
         → Reaches limits proof p after q (afterRound limits (record { order = order; number = t; variable = v }) proof p)
-        → q .pairs ≤ p .pairs + 4294967296
+        → q .pairs ≤ p .pairs + limit.mostSteps * limit.mostSteps
         → AtRound order limits start from after q (t + 1)
     unfolding stateAt stateOf rounds
     rounds-next o v is going {after} {q} r c =

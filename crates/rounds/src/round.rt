@@ -8,7 +8,7 @@ use placing::point::is_running;
 use rules_types::limits::Limits;
 use steps::access::line_at;
 ghost use mathlib.Core.Path.{_≡_};
-ghost use Prim.Native.Nat.{_+_, _≤_};
+ghost use Prim.Native.Nat.{_+_, _*_, _≤_};
 ghost use Rattle.lines.specs.Order.{Scheduled};
 ghost use Rattle.rules_types.specs.Limits.{mostSteps};
 ghost use Rattle.placing.specs.Point.{Standing, Reaches};
@@ -24,7 +24,7 @@ pub fn round(proof: &mut [u8], current: VariableRound, from: Point, limits: Limi
     requires { ⌜ from .pairs ≤ 900000000000 ⌝ }
     ensures { λ p. ⌜ Reaches limits (now (proof .entry)) from (now (proof .exit)) p
         (afterRound limits current (now (proof .entry)) from) ⌝ }
-    ensures { λ p. ⌜ p .pairs ≤ from .pairs + 4294967296 ⌝ }
+    ensures { λ p. ⌜ p .pairs ≤ from .pairs + mostSteps * mostSteps ⌝ }
 {
     let m = from.steps;
     let v = current.variable;

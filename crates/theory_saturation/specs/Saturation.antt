@@ -106,9 +106,9 @@ start-denominator : 1 ≤ start .denominator
 unfolding start
 start-denominator = omega arith
 
--- a line that has a round does not belong to none
-none-left : (S : List Line) (variables : List Variable) → HaveRounds S variables → HoldFrom variables (length variables) start S
-none-left S variables placed =
+-- where every line has a round, none is left that belongs to no round
+each-placed : (S : List Line) (variables : List Variable) → HaveRounds S variables → HoldFrom variables (length variables) start S
+each-placed S variables placed =
     all-map (λ l. T (any (λ v. contains v l) variables)) (λ l. length variables ≤ roundOf variables l → T (lineHolds start l)) S
     (λ l h k. absurd (omega (arith, round-below variables l h))) placed
 
@@ -116,4 +116,4 @@ pub saturation : (S : List Line) (variables : List Variable) → HaveRounds S va
     → LinesHold (walk variables S .assignment) S
 unfolding walk
 saturation S variables placed pairs = subst (λ (χ : Assignment). LinesHold χ S) (sym (walk-is variables S 0 variables))
-    (saturation-by assign assign-rule start start-denominator S variables (none-left S variables placed) pairs)
+    (saturation-by assign assign-rule start start-denominator S variables (each-placed S variables placed) pairs)

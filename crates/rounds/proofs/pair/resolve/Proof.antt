@@ -19,6 +19,7 @@ enum-known-v-2 : tie.Need-enum-known-v-2
 enum-known-v-2 c = search needs
 
 resolve-boolean-requires : tie.Need-resolve-boolean-requires
+unfolding variableOf
 resolve-boolean-requires c κs =
     let p = c .before .before .before .pre in
     (subst Ranged (c .before .v2 .given .1) (p .0), (p .1 .0, p .1 .1 .0))

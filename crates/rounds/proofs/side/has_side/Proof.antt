@@ -9,6 +9,7 @@ enum-known-v : tie.Need-enum-known-v
 enum-known-v c = search needs
 
 rational-side-requires : tie.Need-rational-side-requires
+unfolding variableOf
 rational-side-requires c κs =
     let s = c .before .before .before .before in
     (s .pre .0, (subst Ranged (c .before .v .given .1) (s .pre .1 .0), s .pre .1 .1))
@@ -17,6 +18,7 @@ enum-known-v-2 : tie.Need-enum-known-v-2
 enum-known-v-2 c = search needs
 
 boolean-side-requires : tie.Need-boolean-side-requires
+unfolding variableOf
 boolean-side-requires c κs =
     let s = c .before .before .before .before in
     (s .pre .0, subst Ranged (c .before .v2 .given .1) (s .pre .1 .0))
