@@ -27,8 +27,12 @@
  * prints or stops the process; every call ends, for bytes of every kind and
  * buffers of every length. Calls in several threads do not disturb each other
  * as long as the buffers that one of them writes are its own. A pointer may be
- * NULL where its length is 0. Buffers of one call must not overlap. A call
- * takes at most some two and a half kilobytes of stack.
+ * NULL where its length is 0. Buffers of one call must not overlap.
+ *
+ * Beside what it is lent, a call takes stack and no other memory. Beyond its
+ * caller's, in bytes as measured on x86-64, solving takes at most 1,536, the
+ * check of a book 2,560, the check of a sheet 640, and handing back 64. Solving
+ * is lent question, book and sheet alone, and holds no array over 1,024 bytes.
  *
  * Link with libjemuling.a; it needs memset of the C library and nothing else.
  */

@@ -1,0 +1,147 @@
+/*
+ * The stack that each call takes beyond its caller's, measured on the vectors: a call runs on a stack painted before, and the paint that is
+ * gone afterwards is counted. Takes the files of the vectors: solve, check_book, check_sheet. README.md and the header say the most.
+ */
+#define _POSIX_C_SOURCE 200809L
+#include <pthread.h>
+#include <stdio.h>
+#include <stdlib.h>
+#include <string.h>
+
+#include "jemuling.h"
+
+#define PAINTED (256 * 1024)
+#define ROW (1024 * 1024)
+
+enum { NOTHING, SOLVING, BOOK, SHEET, BACK, CALLS };
+
+static const struct {
+    const char *name;
+    size_t most;
+} said[CALLS] = {
+    [SOLVING] = { "solving", 1536 },
+    [BOOK] = { "the check of a book", 2560 },
+    [SHEET] = { "the check of a sheet", 640 },
+    [BACK] = { "handing back", 64 },
+};
+
+static unsigned char question[JEMULING_QUESTION_BYTES + 1], book[JEMULING_BOOK_BYTES], sheet[JEMULING_SHEET_BYTES];
+static size_t question_length, book_length;
+static jemuling_solved solved;
+static jemuling_told told;
+static size_t taken[CALLS], runs[CALLS];
+
+static __attribute__((noinline)) void nothing(void)
+{
+    __asm__ volatile("" ::: "memory");
+}
+
+/* One call, on the painted stack. */
+static void *called(void *call)
+{
+    switch (*(const int *)call) {
+    case NOTHING:
+        nothing();
+        break;
+    case SOLVING:
+        solved = jemuling_solve(question, question_length, book, sizeof book, sheet, sizeof sheet);
+        break;
+    case BOOK:
+        told = jemuling_check_book(question, question_length, book, book_length);
+        break;
+    case SHEET:
+        told = jemuling_check_sheet(question, question_length, sheet, sizeof sheet);
+        break;
+    case BACK:
+        told = jemuling_hand_back(solved.number, solved.value, book, sizeof book, sheet, sizeof sheet);
+        break;
+    }
+    return NULL;
+}
+
+/* The bytes at the stack's low end that a call leaves as they were painted. */
+static size_t left(int call, unsigned char *stack, int paint)
+{
+    pthread_attr_t attributes;
+    pthread_t thread;
+    size_t i = 0;
+    memset(stack, paint, PAINTED);
+    if (pthread_attr_init(&attributes) || pthread_attr_setstack(&attributes, stack, PAINTED)
+        || pthread_create(&thread, &attributes, called, &call) || pthread_join(thread, NULL)) {
+        printf("no thread\n0 passed, 1 failed\n");
+        exit(1);
+    }
+    pthread_attr_destroy(&attributes);
+    while (i < PAINTED && stack[i] == paint)
+        i++;
+    return i;
+}
+
+/* What a call takes more than one of nothing, whose return address is 8 bytes. */
+static void measure(int call)
+{
+    static unsigned char stack[PAINTED] __attribute__((aligned(4096)));
+    static const int paints[] = { 0xa5, 0x5a };
+    for (size_t i = 0; i < 2; i++) {
+        size_t bytes = 8 + left(NOTHING, stack, paints[i]) - left(call, stack, paints[i]);
+        if (bytes > taken[call])
+            taken[call] = bytes;
+    }
+    runs[call]++;
+}
+
+/* Reads a field of hexadecimal digits up to a bar, and goes behind it. */
+static size_t field(const char **at, unsigned char *bytes, size_t most)
+{
+    size_t n = 0;
+    unsigned byte;
+    while (**at != '|' && n < most && sscanf(*at, "%2x", &byte) == 1) {
+        bytes[n++] = (unsigned char)byte;
+        *at += 2;
+    }
+    *at += **at == '|';
+    return n;
+}
+
+/* Every row of a file: its question, and the part that stands behind it. */
+static void file(const char *name, int call)
+{
+    static char row[ROW];
+    FILE *rows = fopen(name, "r");
+    while (rows && fgets(row, sizeof row, rows)) {
+        const char *at = strchr(row, '|');
+        if (row[0] == '#' || !at)
+            continue;
+        at++;
+        question_length = field(&at, question, sizeof question);
+        if (call == BOOK)
+            book_length = field(&at, book, sizeof book);
+        if (call == SHEET)
+            field(&at, sheet, sizeof sheet);
+        measure(call);
+        if (call != SOLVING)
+            continue;
+        measure(BACK);
+        book_length = told.number == JEMULING_OF_BOOK ? told.value : sizeof book;
+        measure(BOOK);
+        measure(SHEET);
+    }
+    if (rows)
+        fclose(rows);
+}
+
+int main(int count, char **names)
+{
+    int passed = 0, failed = 0;
+    for (int call = SOLVING; call <= SHEET && call < count; call++)
+        file(names[call], call);
+    for (int call = SOLVING; call < CALLS; call++) {
+        printf("%s: %zu bytes of stack in %zu calls, %zu are said\n", said[call].name, taken[call], runs[call], said[call].most);
+        if (taken[call] > 0 && taken[call] <= said[call].most && runs[call] >= 100)
+            passed++;
+        else
+            failed++;
+    }
+    printf("%d passed, %d failed\n", passed, failed);
+    return failed != 0;
+}
