@@ -83,8 +83,9 @@ impl Finder<'_> {
                 }
                 if let Some(result) = &function.result {
                     self.in_type(result.clone())?;
-                    let kind = self.scope.kind(result.clone())?;
-                    self.returned(function.body.clone(), kind);
+                    if let Ok(kind) = self.scope.kind(result.clone()) {
+                        self.returned(function.body.clone(), kind);
+                    }
                 }
                 self.in_value(function.body.clone())
             }

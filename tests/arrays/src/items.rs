@@ -243,36 +243,27 @@ impl World {
             i = past_pub(source, i);
             let exported = source.is(i, "extern") && source.word(i + 1) == Some(&Word::Text);
             i += if exported { 2 } else { 0 };
+            let open = self.past_lifetimes(file, i + 2)?;
             let end = match source.name(i) {
-                Some("impl" | "fn" | "enum") => {
-                    self.sign(file, i, "{").map(|open| source.after(open))?
-                }
-                Some("struct") if !source.is(self.past_lifetimes(file, i + 2)?, "{") => {
-                    self.sign(file, i, ";")? + 1
-                }
-                Some("struct") => self.sign(file, i, "{").map(|open| source.after(open))?,
                 Some("use" | "mod" | "type" | "const") => self.sign(file, i, ";")? + 1,
+                Some("struct") if !source.is(open, "{") => self.sign(file, i, ";")? + 1,
+                Some("impl" | "fn" | "enum" | "struct") => source.after(self.sign(file, i, "{")?),
                 _ => return Err(source.trouble(i, "a declaration that is not read")),
             };
             // The name stands behind the keyword; of a `use`, at its end.
             let name = if source.is(i, "use") { end - 2 } else { i + 1 };
             let what = match source.name(i) {
                 Some("impl") => {
-                    impls.push((
-                        file,
-                        self.past_lifetimes(file, i + 1)?,
-                        self.sign(file, i, "{")?..end - 1,
-                    ));
+                    let own = self.past_lifetimes(file, i + 1)?;
+                    impls.push((file, own, source.tokens[end - 1].other..end - 1));
                     None
                 }
                 Some("mod") if end == i + 3 => Some(What::Module),
                 Some("use") if !public => Some(What::Use(self.used(file, i + 1..end - 1)?)),
-                Some("struct") => Some(What::Struct(
-                    self.fields(file, self.past_lifetimes(file, i + 2)?)?,
-                )),
-                Some("enum") => Some(What::Enum(
-                    self.variants(file, self.past_lifetimes(file, i + 2)?)?,
-                )),
+                Some("struct") => Some(What::Struct(self.fields(file, open)?)),
+                Some("enum") if source.is(open, "{") => {
+                    Some(What::Enum(self.variants(file, open)?))
+                }
                 Some("type") => Some(What::Alias(self.sign(file, i, "=")? + 1..end - 1)),
                 Some("const") => {
                     let equals = self.sign(file, i, "=")?;
@@ -281,7 +272,7 @@ impl World {
                         value: equals + 1..end - 1,
                     })
                 }
-                Some("fn") => Some(What::Function(self.function(file, i, public, exported)?)),
+                Some("fn") => Some(What::Function(self.function(file, open, public, exported)?)),
                 _ => return Err(source.trouble(i, "a declaration that is not read")),
             };
             if let Some(what) = what {
@@ -378,12 +369,11 @@ impl World {
     fn function(
         &self,
         file: usize,
-        i: usize,
+        open: usize,
         public: bool,
         exported: bool,
     ) -> Result<Function, Trouble> {
         let source = &self.files[file];
-        let open = self.past_lifetimes(file, i + 2)?;
         let body = self.sign(file, open, "{")?;
         let arrow = source.after(open);
         let result = match arrow == body {
@@ -391,7 +381,7 @@ impl World {
             false => Some(arrow + 1..body),
         };
         if !source.is(open, "(") || result.is_some() && !source.is(arrow, "->") {
-            return Err(source.trouble(i, "a function that is not read"));
+            return Err(source.trouble(open, "a function that is not read"));
         }
         let parameters = source.listed(source.inside(open)).into_iter().map(|part| {
             let colon = source.find(part.clone(), ":").unwrap_or(part.end);

@@ -20,9 +20,11 @@ enum At<'a> {
     Parameter(&'a str, &'a str),
     /// Into a crate of its own, which a crate lists, and which lists what stands before the bar.
     NewCrate(&'a str),
+    /// Into a file in a folder of a crate's sources.
+    Folder(&'a str),
 }
 
-use At::{Body, Items, NewCrate, Parameter};
+use At::{Body, Folder, Items, NewCrate, Parameter};
 
 /// What is shown, the place, the text, and what must be said of it.
 #[rustfmt::skip]
@@ -100,6 +102,7 @@ const REFUSED: &[(&str, At, &str, &str)] = &[
         "a type that is not read"),
     ("a module and an item of one name", NewCrate("rows"), "|mod planted; const planted: usize = 4;", "a name that is declared twice"),
     ("a crate that is not listed", Items("machine"), "use lines::line::Line; fn planted(list: [Line; 1]) {}", "a type that is not read"),
+    ("a folder", Folder("rows"), "fn planted() { let list = [0u16; 513]; }", "planted is not read"),
     ("a sign", Items("rows"), "fn planted() { let list = $; }", "a sign that is not read"),
     // What solving is lent.
     ("a slice", Parameter("solving", "solve_within"), "list: &mut [u16], ", "solve_within is lent list: &mut [u16]"),
@@ -117,6 +120,8 @@ const REFUSED: &[(&str, At, &str, &str)] = &[
     ("a call of its own", Items("jemuling"),
         "pub extern \"C\" fn planted(list: &[u8]) { other() } fn other() { solving::solve::solve_within() }", "planted is lent list: &[u8]"),
     ("a call with an empty list of types", Items("jemuling"), "pub extern \"C\" fn planted(list: &[u8]) { list.go::<>() }",
+        "a call that is not read"),
+    ("a call by an alias", Items("jemuling"), "type Planted = Told; pub extern \"C\" fn planted(list: &[u8]) { Planted::go() }",
         "a call that is not read"),
     ("a call that is not found", Items("jemuling"), "pub extern \"C\" fn planted(list: &[u8]) { other::go() }", "a call that is not read"),
 ];
@@ -191,7 +196,7 @@ fn allowed(root: &Path, shows: &str, at: At, text: &str, most: usize) -> (String
     }
 }
 
-/// Judges a copy of the tree with a text put in, and says which file that changed.
+/// Judges a copy of the tree with a text put in, and says which file that changed, or which sources.
 fn copied(root: &Path, at: At, text: &str) -> Result<(String, Judged), Trouble> {
     let copy = root.join("target/arrays");
     let failed = |error: io::Error| Trouble::at(0, &error.to_string()).of("target/arrays");
@@ -212,11 +217,16 @@ fn copied(root: &Path, at: At, text: &str) -> Result<(String, Judged), Trouble> 
             listed = format!("{}planted: {below}\n", listed.replace(&old, &new));
             ("crates/planted/src/lib.rt".to_string(), text.to_string())
         }
+        Folder(name) => (format!("crates/{name}/src/planted/planted.rt"), text),
         Body(name) | Items(name) | Parameter(name, _) => put(of_crate(root, name)?, at, &text)?,
     };
     write(&copy.join("crates.txt"), &listed).map_err(failed)?;
     write(&copy.join(&file), &text).map_err(failed)?;
-    Ok((file, judged(&copy)))
+    let changed = match at {
+        Folder(name) => format!("crates/{name}/src"),
+        _ => file,
+    };
+    Ok((changed, judged(&copy)))
 }
 
 fn write(file: &Path, text: &str) -> io::Result<()> {
@@ -245,7 +255,7 @@ fn put(sources: Vec<Source>, at: At, text: &str) -> Result<(String, String), Tro
     let place = match at {
         Body(_) => file.tokens[function.body.start - 1].end,
         Parameter(..) => file.tokens[function.open].end,
-        Items(_) | NewCrate(_) => file.text.len(),
+        Items(_) | NewCrate(_) | Folder(_) => file.text.len(),
     };
     let (before, after) = file.text.split_at(place);
     Ok((file.name.clone(), format!("{before}{text}{after}")))

@@ -222,7 +222,7 @@ impl<'a> Reader<'a> {
             Some(c) if c.is_ascii_digit() => self.number(),
             Some(c) if name_part(c) => {
                 let name = self.taken(name_part);
-                match self.rest().starts_with(['"', '\'', '#']) && name.len() < 3 {
+                match self.rest().starts_with(&['"', '\'', '#'][..]) && name.len() < 3 {
                     true => Err(self.trouble("a quote that is not read")),
                     false => Ok(Word::Name(name.to_string())),
                 }
@@ -278,6 +278,6 @@ impl<'a> Reader<'a> {
     }
 }
 
-pub fn name_part(c: char) -> bool {
+fn name_part(c: char) -> bool {
     c == '_' || c.is_ascii_alphanumeric()
 }
