@@ -17,7 +17,7 @@ use Rattle.rules_types.specs.Terms.{standard}
 use Rattle.rules_types.specs.Answers.{verdictNumber}
 use Rattle.rules.specs.Problem.{Problem, inEdition}
 use Rattle.rules.specs.Steps.{Step, encodeProof}
-use Rattle.rules.specs.Elimination.{State, running, ended, empty, overflow, outOfSteps, orderOf, limited, loadableOf, elimination}
+use Rattle.rules.specs.Elimination.{State, running, ended, empty, overflow, outOfSteps, orderOf, limited, elimination}
 use Rattle.rules.specs.Needs.{stepsOf}
 use Rattle.rules.specs.Values.{walk}
 use Rattle.rules.specs.Model.{written}
@@ -31,7 +31,7 @@ use Rattle.theory_layout.specs.Steps.{Writable}
 use Rattle.theory_splitting.specs.Lent.{lent-full}
 use Rattle.theory_splitting.specs.Reading.{posed-well-formed}
 use Rattle.theory_splitting.specs.WellFormed.{WellFormed}
-use Rattle.theory_elimination.specs.WithinLimits.{limited-held}
+use Rattle.theory_elimination.specs.OfProblem.{elimination-held}
 use Rattle.theory_checks.specs.Writable.{elimination-writable}
 use Rattle.jemuling.specs.Evidence.{refused, handedBack, part-model, part-proof}
 use Rattle.printing.specs.Texts.{Printable}
@@ -76,7 +76,7 @@ numbered p w limits h =
     (λ s k. record { formed = k .line .formed; first = k .first; second = k .second }) (elimination-writable p w limits h)
 
 outcome-printable : (q : List ℕ) → PrintableOutcome (outcome standard q)
-unfolding outcome elimination
+unfolding outcome
 outcome-printable q = by (read q) refl
   where
     by : (r : Reading) → read q ≡ r → PrintableOutcome (outcome standard q)
@@ -85,7 +85,7 @@ outcome-printable q = by (read q) refl
         let p = inEdition (standard .edition) asked in
         let w = posed-well-formed (standard .edition) q asked e in
         rw (e, outcome) (concluded-printable p w (elimination (limited limit.standard) p)
-        (limited-held limit.standard (orderOf p) (loadableOf p)) (numbered p w limit.standard (omega arith)))
+        (elimination-held limit.standard p) (numbered p w limit.standard (omega arith)))
 
 -- ---- what is handed back
 module _ (n : ℕ) (proof model : List ℕ) (l : length proof ≡ limit.proofBytes limit.standard) (m : length model ≡ limit.modelBytes)

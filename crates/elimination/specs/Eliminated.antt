@@ -9,7 +9,7 @@ use Rattle.rules_types.specs.Limits as limit
 use Rattle.rules.specs.Problem.{Problem}
 use Rattle.rules.specs.Steps.{Step, encodeProof}
 use Rattle.rules.specs.Needs.{stepsOf, pairsOf}
-use Rattle.rules.specs.Elimination.{running, limited, orderOf, loadableOf, load, rounds, eliminate, elimination}
+use Rattle.rules.specs.Elimination.{State, running, limited, loadableOf, load, chosenRounds, otherRounds, chosenRun, elimination}
 use Rattle.theory_lists.specs.Places.{element-all}
 use Rattle.theory_lists.specs.Tabulated.{element-tabulate}
 use Rattle.theory_splitting.specs.WellFormed.{WellFormed}
@@ -21,6 +21,7 @@ use Rattle.steps.specs.Lines.{lineAt, linesIn, ReadyLines}
 use Rattle.placing.specs.declared.point.Point.{Point}
 use Rattle.steps.specs.Held.{stepFrom, stepsIn, length-stepsIn, Held, lines-stepsIn, held-ready, held-bytes}
 use Rattle.placing.specs.Point.{stateAt, Leads, leads-trans, progressOf, progress-at, pairs-at, Reaches, steps-at}
+use Rattle.rounds.specs.Rounds.{chosenFrom, allRounds}
 use Rattle.elimination.specs.Loading.{origin}
 
 pub record Eliminated (limits : Limits) (p : Problem) (before after : List ℕ) (c : Point) : Type 0 where
@@ -37,11 +38,18 @@ pub record Eliminated (limits : Limits) (p : Problem) (before after : List ℕ) 
 
 module _ {limits : Limits} (problem : Problem) {before middle after : List ℕ} {loaded p : Point}
     (first : Reaches limits before origin middle loaded (load (limited limits) (loadableOf problem) (running [] 0)))
-    (then : Reaches limits middle loaded after p
-    (rounds (limited limits) (orderOf problem) 0 (orderOf problem) (stateAt middle loaded))) where
+    (then : Reaches limits middle loaded after p (allRounds limits (problem .rationals) middle loaded)) where
+  abbrev r : ℕ
+  r = problem .rationals
+
   whole : stateAt after p ≡ elimination (limited limits) problem
-  unfolding elimination eliminate
-  whole = then .is ∙ ap (rounds (limited limits) (orderOf problem) 0 (orderOf problem)) (first .is)
+  unfolding elimination chosenRun
+  whole = then .is ∙ ap (λ (s : State). otherRounds (limited limits) r (chosenRounds (limited limits) r r [] s)) (first .is)
+
+  -- the order that it took
+  pub order-taken : chosenFrom limits r middle loaded .taken ≡ chosenRun (limited limits) problem .taken
+  unfolding chosenRun
+  order-taken = ap (λ (s : State). chosenRounds (limited limits) r r [] s .taken) (first .is)
 
   held-steps : stepsIn after (p .steps) ≡ stepsOf (elimination (limited limits) problem)
   held-steps = sym (steps-at after p) ∙ ap stepsOf whole

@@ -1,25 +1,18 @@
 // The elimination of a problem: loading, then the rounds, in a proof's bytes.
 use crate::load::load;
-use lines::order::Order;
-use placing::point::Point;
 use problem_scan::cursor::Sizes;
+use rounds::sequence::Run;
 use rounds::sequence::rounds;
 use rules_types::limits::Limits;
 ghost use mathlib.Core.Path.{_≡_};
 ghost use Prim.Native.Nat.{_≤_};
 ghost use lib.ListN.{length};
 ghost use Rattle.rules_types.specs.Limits.{mostSteps, proofBytes};
-ghost use Rattle.rules.specs.Elimination.{orderOf};
+ghost use Rattle.rules.specs.Elimination.{limited, orderAfter, chosenRun};
 ghost use Rattle.lines.specs.Order.{variablesOf};
 ghost use Rattle.problem_read.specs.Parsed.{problemAt};
 ghost use Rattle.problem_read.specs.Readable.{Readable};
 ghost use Rattle.elimination.specs.Eliminated.{Eliminated};
-
-// Where an elimination ended, and the order that it took.
-pub struct Run {
-    pub end: Point,
-    pub order: Order,
-}
 
 // Of a problem of these sizes that was read without fault; the proof's bytes are lent for the steps.
 pub fn eliminate(input: &[u8], sizes: Sizes, proof: &mut [u8], limits: Limits) -> Run
@@ -27,13 +20,8 @@ pub fn eliminate(input: &[u8], sizes: Sizes, proof: &mut [u8], limits: Limits) -
     requires { ⌜ proofBytes limits ≤ length (now proof) ⌝ }
     requires { ⌜ limits .steps ≤ mostSteps ⌝ }
     ensures { λ run. ⌜ Eliminated limits (problemAt (now (input .entry)) sizes) (now (proof .entry)) (now (proof .exit)) (run .end) ⌝ }
-    ensures { λ run. ⌜ variablesOf (run .order) ≡ orderOf (problemAt (now (input .entry)) sizes) ⌝ }
+    ensures { λ run. ⌜ variablesOf (run .order) ≡ orderAfter (chosenRun (limited limits) (problemAt (now (input .entry)) sizes) .taken) ⌝ }
 {
     let loaded = load(input, sizes, proof, limits);
-    let order = Order::rising();
-    let end = rounds(proof, order, loaded, limits);
-    Run {
-        end: end,
-        order: order,
-    }
+    rounds(proof, sizes.rationals as usize, loaded, limits)
 }

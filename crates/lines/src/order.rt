@@ -5,7 +5,7 @@ ghost use Prim.Native.Nat.{_≤_, _<_};
 ghost use lib.ListN.{getD};
 ghost use Rattle.rules_types.specs.Limits.{allBooleans, rationals};
 ghost use Rattle.theory_saturation.specs.Order.{Ordered, rising};
-ghost use Rattle.lines.specs.Order.{variablesOf, rationalRound, booleanRound, IsRound, ScheduledRational};
+ghost use Rattle.lines.specs.Order.{variablesOf, movedTo, rationalRound, booleanRound, IsRound, ScheduledRational};
 
 pub enum Variable {
     Rational(usize),
@@ -46,6 +46,23 @@ impl Order {
         Order {
             rationals: [0, 1, 2, 3, 4, 5, 6, 7],
         }
+    }
+
+    // The rational variable of round `from` goes first, in round `to`; those between come one round later.
+    pub fn moved(self, from: usize, to: usize) -> Order
+        requires { ⌜ to ≤ from ⌝ }
+        requires { ⌜ from < rationals ⌝ }
+        ensures { λ o. ⌜ o .rationals ≡ movedTo from to (self .rationals) ⌝ }
+    {
+        let mut list = self.rationals;
+        let f = list[from];
+        let mut j = from;
+        while j > to {
+            list[j] = list[j - 1];
+            j -= 1;
+        }
+        list[to] = f;
+        Order { rationals: list }
     }
 
     // The rational variable of round t.

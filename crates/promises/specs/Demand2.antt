@@ -20,7 +20,8 @@ use Rattle.rules.specs.Elimination.{Stops, State, orderOf, drops, covered, roun
 use Rattle.rules.specs.Needs.{stepsOf}
 use Rattle.rules.specs.Calls.{sound, read, solve, proofChecked, modelChecked, evidence}
 use Rattle.theory_lists.specs.All.{All, Any}
-use Rattle.theory_saturation.specs.Order.{Ordered, problem-ordered}
+use Rattle.theory_saturation.specs.Order.{Ordered}
+use Rattle.theory_saturation.specs.Taken.{problem-ordered}
 use Rattle.theory_saturation.specs.Drops.{drops-exactly, covered-exactly}
 use Rattle.theory_bytes.specs.Bytes.{AllBytes}
 use Rattle.theory_splitting.specs.EveryPart.{EveryPart, every-part}
@@ -35,8 +36,8 @@ use Rattle.theory_elimination.specs.InOrder.{InOrder, round-in-order}
 use Rattle.theory_elimination.specs.Exactly.{Exactly}
 use Rattle.theory_elimination.specs.Loaded.{AllLoaded}
 use Rattle.promises.specs.Words.{WholeLines, Refutes, WritesAssignment}
-use Rattle.promises.specs.Elimination.{elimination-lines, elimination-undropped, elimination-distinct, elimination-is}
-use Rattle.promises.specs.Elimination.{elimination-only, elimination-parts, elimination-normalized}
+use Rattle.theory_elimination.specs.OfProblem.{elimination-lines, elimination-undropped, elimination-distinct, elimination-is}
+use Rattle.theory_elimination.specs.OfProblem.{elimination-only, elimination-parts, elimination-normalized}
 use Rattle.promises.specs.Checked.{model-exactly}
 use Rattle.promises.specs.Whole.{accepted-lines}
 use Rattle.promises.specs.Handing.{hands}
@@ -88,7 +89,7 @@ demand2 edition input q e = let p = inEdition edition q in record {
   normalized = λ stops. elimination-normalized p stops (posed-well-formed edition input q e);
   exactly = elimination-is p;
   only = elimination-only p;
-  rounds = problem-ordered p;
+  rounds = problem-ordered p (posed-well-formed edition input q e .rationals);
   inOrder = round-in-order (orderOf p);
   dropping = drops-exactly;
   covering = covered-exactly;

@@ -19,7 +19,7 @@ use Rattle.theory_lists.specs.All.{all-map, all-mapped}
 use Rattle.theory_splitting.specs.WellFormed.{WellFormed}
 use Rattle.theory_splitting.specs.Reading.{posed-well-formed}
 use Rattle.theory_saturation.specs.Unbounded.{walk-zero}
-use Rattle.theory_saturation.specs.Order.{problem-ordered}
+use Rattle.theory_saturation.specs.Taken.{problem-ordered}
 use Rattle.theory_saturation.specs.Least.{Over, over-zero, walk-least}
 use Rattle.theory_elimination.specs.Saturated.{lines}
 use Rattle.theory_elimination.specs.Narrow.{NarrowLine, elimination-narrow}
@@ -53,7 +53,7 @@ module _ (p : Problem) (w : WellFormed p) where
       0 (orderOf p)
 
   assignment-least : LeastOf r χ
-  assignment-least m h = walk-least (orderOf p) (problem-ordered p .once) (lines steps) m
+  assignment-least m h = walk-least (orderOf p) (problem-ordered p (w .rationals) .once) (lines steps) m
       (λ f. ⊎-elim (λ z. over-zero χ m f (absent f (omega arith))) (λ z. h f (omega arith)) (eq-zero-or-pos (r - f)))
 
 pub least-denominator : (edition : ℕ) (input : List ℕ) {p : Problem} → read input ≡ sound p → let posed = inEdition edition p in

@@ -22,7 +22,8 @@ use Rattle.theory_lists.specs.All.{All, all-map}
 use Rattle.theory_resolution.specs.Formed.{Formed}
 use Rattle.theory_splitting.specs.WellFormed.{WellFormed}
 use Rattle.theory_splitting.specs.Reading.{posed-well-formed}
-use Rattle.theory_elimination.specs.Sound.{Sound, elimination-sound}
+use Rattle.theory_elimination.specs.Sound.{Sound}
+use Rattle.theory_elimination.specs.OfProblem.{elimination-normalized}
 use Rattle.theory_bytes.specs.Steps.{take-proof}
 use Rattle.theory_checks.specs.EliminationAccepted.{elimination-accepted}
 use Rattle.theory_bytes.specs.Models.{model-length}
@@ -86,10 +87,10 @@ module _ (terms : Terms) (input : List ℕ) (q : Problem) (e : read input ≡ so
         (take-proof steps (unused ++ drop (limit.proofBytes limits) proof) f)
 
     formed : (steps : List Step) (n : ℕ) → elimination (limited limits) p ≡ ended empty steps n → All (λ s. Formed (s .line)) steps
-    unfolding elimination stepsOf
+    unfolding stepsOf
     formed steps n c =
         all-map (λ s. Sound (s .line)) (λ s. Formed (s .line)) steps (λ s h. h .formed) (subst (λ (s : State). All (λ x. Sound (x .line))
-        (stepsOf s)) c (elimination-sound p (posed-well-formed (terms .edition) input q e) (limited limits) (orderOf p)))
+        (stepsOf s)) c (elimination-normalized p (limited limits) (posed-well-formed (terms .edition) input q e)))
 
     pub our-proof : Comes Unsatisfiable (answerOf (concluded p (elimination (limited limits) p)))
         → proofChecked terms input (take (limit.stepBytes * answerValue (answerOf (concluded p (elimination (limited limits) p))))

@@ -14,10 +14,10 @@ use Rattle.rules.specs.Elimination.{elimination}
 use Rattle.rules.specs.Calls.{concluded, said}
 use Rattle.theory_elimination.specs.Events.{Event, events}
 use Rattle.theory_elimination.specs.Cut.{stopOf, stopAt, endedAt, cut}
-use Rattle.theory_elimination.specs.WithinLimits.{Unstopped, unlimited-unstopped}
+use Rattle.theory_elimination.specs.WithinLimits.{Unstopped}
 use Rattle.promises.specs.Words.{IsRefused, firstStop}
 use Rattle.promises.specs.Outcomes.{walkModel, concluded-running, answerOf, finished-not-stopped}
-use Rattle.promises.specs.Reported.{elimination-cut}
+use Rattle.theory_elimination.specs.OfProblem.{elimination-unstopped, elimination-cut}
 
 -- how an elimination has ended, and what stopped it
 abbrev EndOf : State → Option End → Type 0
@@ -73,10 +73,8 @@ module _ (p : Problem) where
 
   module _ (limits : Limits) where
     ends : EndOf (elimination (limited limits) p) (firstStop (limited limits) (events (orderOf p) (loadableOf p)))
-    unfolding elimination
-    ends = rw (elimination-cut limits p)
-        (cut-end (limited limits) (events (orderOf p) (loadableOf p)) (elimination unlimited p)
-        (unlimited-unstopped (orderOf p) (loadableOf p)))
+    ends = rw (elimination-cut (limited limits) p)
+        (cut-end (limited limits) (events (orderOf p) (loadableOf p)) (elimination unlimited p) (elimination-unstopped p))
 
     pub overflow-first : IsRefused refusal.Overflow (answerOf (concluded p (elimination (limited limits) p)))
         ↔ (firstStop (limited limits) (events (orderOf p) (loadableOf p)) ≡ some overflow)

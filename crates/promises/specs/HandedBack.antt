@@ -20,13 +20,12 @@ use Rattle.rules_types.specs.declared.terms.Terms.{Terms}
 use Rattle.rules_types.specs.Limits as limit
 use Rattle.rules_types.specs.Answers.{answerNumber, answerValue}
 use Rattle.rules.specs.Problem.{Problem, inEdition}
-use Rattle.rules.specs.Elimination.{orderOf, loadableOf, elimination}
 use Rattle.rules.specs.Calls.{Reading, faulty, sound, read, Solving, proofChecked, modelChecked}
 use Rattle.theory_lists.specs.Tests.{split}
 use Rattle.theory_layout.specs.WrittenModels.{front-states}
 use Rattle.theory_splitting.specs.Reading.{posed-well-formed}
 use Rattle.theory_checks.specs.ModelChecked.{satisfying-model-checked}
-use Rattle.theory_elimination.specs.WithinLimits.{limited-held}
+use Rattle.theory_elimination.specs.OfProblem.{elimination-held}
 use Rattle.promises.specs.Words.{walkOf, Comes, FullSize}
 use Rattle.promises.specs.Numbers.{verdict-exactly}
 use Rattle.promises.specs.Handing.{Hands, by-part}
@@ -96,11 +95,9 @@ module _ (terms : Terms) (input proof model : List ℕ) (ours : Solving) (d : De
         record { proofSize = rw (d .sizes .0) (r .full .proofSize); modelSize = rw (d .sizes .1) (r .full .modelSize) }
 
     few-lines : (v : Verdict) → Comes v (ours .solved .answer) → answerValue (ours .solved .answer) ≤ limits .steps
-    unfolding elimination
     few-lines v c =
         let r = verdict-read v c in
-        rw (third (r .problem) (r .reads) (r .full) .lines)
-        (limited-held limits (orderOf (inEdition (terms .edition) (r .problem))) (loadableOf (inEdition (terms .edition) (r .problem))))
+        rw (third (r .problem) (r .reads) (r .full) .lines) (elimination-held limits (inEdition (terms .edition) (r .problem)))
 
     model-of : (n : ℕ) → part ≡ OfModel n → modelChecked terms input (take n (ours .model)) ≡ Accepted
     model-of n = by-part h (λ e. e ≡ OfModel n → modelChecked terms input (take n (ours .model)) ≡ Accepted)

@@ -9,7 +9,6 @@ pub mod Outcomes
 pub mod Reported
 pub mod First
 pub mod Evidence
-pub mod Elimination
 pub mod Checked
 pub mod Failing
 pub mod Whole

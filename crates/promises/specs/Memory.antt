@@ -26,8 +26,8 @@ use Rattle.theory_lists.specs.All.{All, all-map}
 use Rattle.theory_resolution.specs.Formed.{Formed}
 use Rattle.theory_splitting.specs.Reading.{posed-well-formed}
 use Rattle.theory_splitting.specs.Lent.{lent-short-proof, lent-short-model, lent-fault, lent-sound}
-use Rattle.theory_elimination.specs.WithinLimits.{limited-held}
-use Rattle.theory_elimination.specs.Sound.{Sound, elimination-sound}
+use Rattle.theory_elimination.specs.OfProblem.{elimination-normalized, elimination-held}
+use Rattle.theory_elimination.specs.Sound.{Sound}
 use Rattle.theory_bytes.specs.Steps.{proof-length}
 use Rattle.theory_checks.specs.ModelAccepted.{written-accepted}
 use Rattle.promises.specs.Decided.{running-satisfies}
@@ -111,12 +111,11 @@ module _ (terms : Terms) (proof model : List ℕ) (full : FullSize (terms .limit
     kept-concluded (ended outOfSteps steps n) c f h = kept-stopped refusal.OutOfSteps (length steps) n
 
     kept-elimination : SameLengths limits proof model (concluded p (elimination (limited limits) p))
-    unfolding elimination
     kept-elimination =
         kept-concluded (elimination (limited limits) p) refl
         (all-map (λ s. Sound (s .line)) (λ s. Formed (s .line)) (stepsOf (elimination (limited limits) p)) (λ s h. h .formed)
-        (elimination-sound p (posed-well-formed (terms .edition) input q e) (limited limits) (orderOf p)))
-        (limited-held limits (orderOf p) (loadableOf p))
+        (elimination-normalized p (limited limits) (posed-well-formed (terms .edition) input q e)))
+        (elimination-held limits p)
 
 kept-faulted : (limits : Limits) (proof model : List ℕ) (f : Refusal) (place : ℕ) → SameLengths limits proof model (faulted f place)
 unfolding proofAfter modelAfter

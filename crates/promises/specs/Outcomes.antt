@@ -16,7 +16,8 @@ use Rattle.rules.specs.Values.{walk}
 use Rattle.rules.specs.Model.{written}
 use Rattle.rules.specs.Calls.{Outcome, decided, noModel, concluded, said}
 use Rattle.theory_splitting.specs.WellFormed.{WellFormed}
-use Rattle.theory_elimination.specs.Limits.{Stopped, fits-same, fits-or-stopped, fits-unstopped}
+use Rattle.theory_elimination.specs.Limits.{fits-same, fits-or-stopped, fits-unstopped}
+use Rattle.theory_elimination.specs.Stopped.{Stopped}
 use Rattle.promises.specs.Satisfied.{chosen}
 use Rattle.promises.specs.Decided.{NoAssignment, running-satisfies, empty-none}
 use Rattle.promises.specs.Words.{SomeAssignment, modelOf, walkOf, GivesModel, Comes, LimitMet}

@@ -19,11 +19,13 @@ use Rattle.theory_splitting.specs.WellFormed.{WellFormed}
 use Rattle.theory_resolution.specs.Choosing.{choosing}
 use Rattle.theory_splitting.specs.SplitProblem.{splitting-keeps}
 use Rattle.theory_elimination.specs.Closed.{line-at}
-use Rattle.theory_elimination.specs.Origins.{Each, Derived, Justified, elimination-origins}
+use Rattle.theory_elimination.specs.Origins.{Each, Derived, Justified}
 use Rattle.theory_elimination.specs.Ends.{LastEmpty}
 use Rattle.theory_elimination.specs.Sound.{Sound, resolve-sound, loadable-sound}
-use Rattle.theory_saturation.specs.Order.{Ordered, problem-ordered}
+use Rattle.theory_saturation.specs.Order.{Ordered}
+use Rattle.theory_saturation.specs.Taken.{problem-ordered}
 use Rattle.theory_elimination.specs.Pairable.{resolvable}
+use Rattle.theory_elimination.specs.OfProblem.{elimination-lines}
 
 module _ {variables : List Variable} (o : Ordered variables) (χ : Assignment) (d : 0 < χ .denominator) where
   -- holds, and has the form of the elimination's lines
@@ -57,13 +59,13 @@ module _ {variables : List Variable} (o : Ordered variables) (χ : Assignment) (
 -- ---- the theorem, under any stops
 pub empty-refutes : (stops : Stops) (p : Problem) → WellFormed p → LastEmpty (stepsOf (elimination stops p))
     → (χ : Assignment) → Satisfies χ p → ⊥
-unfolding elimination
 empty-refutes stops p w e χ s =
+    let o = problem-ordered p (w .rationals) in
     let c = splitting-keeps p w χ (s .denominator) .0 s in
     let ψ = choosing (c .values) χ in
     let parts = all-both (λ x. T (lineHolds ψ (x .line))) (λ x. Sound (x .line)) (loadableOf p) (c .holds) (loadable-sound p w) in
-    let all = each-right (problem-ordered p) ψ (s .denominator) (loadableOf p) [] (stepsOf (elimination stops p)) parts tt
-    (elimination-origins (orderOf p) (loadableOf p) stops) in
-    let last = append-all (λ x. Right (problem-ordered p) ψ (s .denominator) (x .line)) (e .before) (e .last ∷ [])
-    (subst (All (λ x. Right (problem-ordered p) ψ (s .denominator) (x .line))) (e .is) all) .1 .0 in
+    let all = each-right o ψ (s .denominator) (loadableOf p) [] (stepsOf (elimination stops p)) parts tt
+    (elimination-lines p stops) in
+    let last = append-all (λ x. Right o ψ (s .denominator) (x .line)) (e .before) (e .last ∷ [])
+    (subst (All (λ x. Right o ψ (s .denominator) (x .line))) (e .is) all) .1 .0 in
     clash (lineHolds ψ (e .last .line)) (last .0) (empty-fails ψ (e .last .line) (e .blank))

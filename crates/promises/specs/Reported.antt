@@ -26,12 +26,11 @@ use Rattle.theory_layout.specs.Steps.{Writable}
 use Rattle.theory_layout.specs.Proofs.{proof-at}
 use Rattle.theory_splitting.specs.WellFormed.{WellFormed}
 use Rattle.theory_splitting.specs.Lent.{lent-sound}
-use Rattle.theory_elimination.specs.Events.{events}
-use Rattle.theory_elimination.specs.Cut.{cut, eliminate-cut}
 use Rattle.theory_elimination.specs.Sound.{Sound, loadable-sound}
 use Rattle.theory_elimination.specs.PairBound.{pairs-bound}
 use Rattle.theory_elimination.specs.Narrow.{NarrowLine, elimination-narrow}
-use Rattle.theory_elimination.specs.WithinLimits.{limited-held}
+use Rattle.theory_elimination.specs.Chosen.{elimination-ordered}
+use Rattle.theory_elimination.specs.OfProblem.{elimination-held}
 use Rattle.theory_checks.specs.Writable.{elimination-writable}
 use Rattle.theory_resolution.specs.Holds.{Consistent}
 use Rattle.promises.specs.Words.{Comes, FullSize, HoldsLines}
@@ -76,17 +75,10 @@ module _ (p : Problem) where
 
 pub at-most : (limits : Limits) (p : Problem) → WellFormed p
     → said (concluded p (elimination (limited limits) p)) .pairs ≤ limits .steps * limits .steps / 4
-unfolding elimination
 at-most limits p w =
-    rw (reported-pairs p (elimination (limited limits) p))
+    rw (reported-pairs p (elimination (limited limits) p), elimination-ordered (limited limits) p)
     (pairs-bound limits (orderOf p) (loadableOf p)
     (all-map (λ s. Sound (s .line)) (λ s. Consistent (s .line)) (loadableOf p) (λ s h. h .consistent) (loadable-sound p w)))
-
--- ---- which of "wide" and "full" is first
-pub elimination-cut : (limits : Limits) (p : Problem)
-    → elimination (limited limits) p ≡ cut (limited limits) (events (orderOf p) (loadableOf p)) (elimination unlimited p)
-unfolding elimination
-elimination-cut limits p = eliminate-cut (limited limits) (orderOf p) (loadableOf p)
 
 -- ---- the proof after a verdict
 abbrev proofOf : Limits → List Step → List ℕ → List ℕ
@@ -112,7 +104,6 @@ proof-holds limits p proof (ended outOfSteps steps n) v h = absurd h
 pub lines-held : (limits : Limits) → limits .steps ≤ limit.mostSteps → (p : Problem) → WellFormed p → (proof : List ℕ) (v : Verdict)
     → Comes v (answerOf (concluded p (elimination (limited limits) p)))
     → HoldsLines limits p (proofAfter limits (concluded p (elimination (limited limits) p)) proof) proof
-unfolding elimination
 lines-held limits few p w proof v h =
     let state = elimination (limited limits) p in
     let steps = stepsOf state in
@@ -122,7 +113,7 @@ lines-held limits few p w proof v h =
     let formed = all-map Writable (λ s. Formed (s .line)) steps (λ s k. k .line .formed) writable in
     let size : length (encodeProof steps ++ zeros) ≡ limit.proofBytes limits =
     rw (length-append (encodeProof steps) zeros, length-replicate {A = ℕ} (limit.proofBytes limits - limit.stepBytes * length steps) 0)
-    (omega (arith, proof-length steps formed, limited-held limits (orderOf p) (loadableOf p))) in
+    (omega (arith, proof-length steps formed, elimination-held limits p)) in
     let held = proof-at steps (limits .steps) old writable in
     rw (proof-holds limits p proof state v h) (record {
       lines = held;

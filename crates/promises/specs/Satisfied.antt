@@ -20,7 +20,7 @@ use Rattle.theory_splitting.specs.SplitProblem.{StepsHold, splitting-keeps}
 use Rattle.theory_saturation.specs.Covered.{Covers}
 use Rattle.theory_saturation.specs.Drops.{Drops, drops-covers}
 use Rattle.theory_saturation.specs.Saturation.{LinesHold, all-pairs-map}
-use Rattle.theory_saturation.specs.Order.{problem-ordered}
+use Rattle.theory_saturation.specs.Taken.{problem-ordered}
 use Rattle.theory_saturation.specs.Formed.{saturation-formed}
 use Rattle.theory_elimination.specs.Sound.{Sound, elimination-sound}
 use Rattle.theory_elimination.specs.Ends.{EndsRight, elimination-ends}
@@ -38,7 +38,7 @@ module _ (p : Problem) (w : WellFormed p) (stops : Stops) (steps : List Step) (n
   unfolding stepsOf
   proof-holds =
       let s = subst (λ (state : State). All (λ x. Sound (x .line)) (stepsOf state)) e (elimination-sound p w stops (orderOf p)) in
-      saturation-formed (problem-ordered p) (lines steps)
+      saturation-formed (problem-ordered p (w .rationals)) (lines steps)
       (all-mapped Formed (λ x. x .line) steps (all-map (λ x. Sound (x .line)) (λ x. Formed (x .line)) steps (λ x h. h .formed) s))
       (all-mapped ProperLine (λ x. x .line) steps (all-map (λ x. Sound (x .line)) (λ x. ProperLine (x .line)) steps (λ x h. h .proper) s))
       (all-mapped (λ l. T (not (isEmpty l))) (λ x. x .line) steps (subst EndsRight e (elimination-ends stops (orderOf p) (loadableOf p))))

@@ -14,7 +14,7 @@ use Rattle.rules.specs.Needs.{stepsOf, pairsOf}
 use Rattle.rules.specs.Write.{atMost, clauseOf, alone, problemOf}
 use Rattle.rules.specs.Compute.{definitions}
 use Rattle.theory_elimination.specs.Exactly.{Exactly}
-use Rattle.promises.specs.Elimination.{elimination-only}
+use Rattle.theory_elimination.specs.OfProblem.{elimination-only}
 use Rattle.promises_examples.specs.Read.{problemFrom}
 
 abbrev Exact : Problem → State → Type 0

@@ -2,12 +2,14 @@
 use mathlib.Core.Bool.{Bool, true, false, not, _&&_}
 use mathlib.Core.List.{List, [], _∷_, _++_, map}
 use mathlib.Core.Option.{Option, none, some}
-use Prim.Native.Nat.{ℕ, suc, _+_}
+use Prim.Native.Nat.{ℕ, zero, suc, _+_, _*_}
+use lib.IntN.{ℤ, pos, _-ℤ_}
+use lib.Signed.{ltZ}
 use lib.Dec.{eqb, leb}
-use lib.ListN.{length}
+use lib.ListN.{length, drop}
 use Rattle.rules_types.specs.declared.limits.Limits.{Limits}
 use Rattle.rules_types.specs.Limits as limit
-use Rattle.rules.specs.Lists.{any, tabulate}
+use Rattle.rules.specs.Lists.{any, filter, tabulate}
 use Rattle.rules.specs.Problem.{Clause, Problem, inRange}
 use Rattle.rules.specs.Lines.{Line, Variable, rational, boolean, positively, negatively, contains, isEmpty, sameLine}
 use Rattle.rules.specs.Split.{partsOf, splitsOf}
@@ -20,12 +22,16 @@ use Rattle.rules.specs.Steps.{Step, loaded, resolved, row}
 unfoldable pub orderBy : List ℕ → List Variable
 orderBy rationals = map rational rationals ++ tabulate limit.allBooleans boolean
 
--- the order of a problem's run: the rational variables by their numbers
-unfoldable pub rationalsOf : Problem → List ℕ
-rationalsOf p = tabulate limit.rationals (λ f. f)
+-- of the first n rational variables those not taken, by their numbers
+unfoldable pub remaining : ℕ → List ℕ → List ℕ
+remaining n taken = filter (λ f. not (any (eqb f) taken)) (tabulate n (λ f. f))
 
-unfoldable pub orderOf : Problem → List Variable
-orderOf p = orderBy (rationalsOf p)
+-- the order of a run that took these rational variables: the others follow by their numbers
+unfoldable pub rationalsAfter : List ℕ → List ℕ
+rationalsAfter taken = taken ++ remaining limit.rationals taken
+
+unfoldable pub orderAfter : List ℕ → List Variable
+orderAfter taken = orderBy (rationalsAfter taken)
 
 -- "A line belongs to the earliest turn whose figure or mark it contains"; one that contains none, to none of them
 unfoldable pub roundOf : List Variable → Line → ℕ
@@ -58,6 +64,11 @@ pub data End : Type 0 where
 pub data State : Type 0 where
   running : List Step → ℕ → State
   ended : End → List Step → ℕ → State
+
+-- with the rational variables that it took, in order
+pub record Run : Type 0 where
+  pub taken : List ℕ
+  pub state : State
 
 -- ---- one line more
 -- overflowing, dropped by an earlier line, one too many ("full"), empty: the first of them that is true decides
@@ -104,6 +115,31 @@ sideOf side variables v t steps = select (λ l. side v l && eqb (roundOf variabl
 unfoldable pub roundPairs : List Variable → Variable → ℕ → List Step → List Pair
 roundPairs variables v t steps = pairUp (sideOf positively variables v t steps) (sideOf negatively variables v t steps)
 
+-- ---- the rational variable of a round
+-- "among the lines without a figure already taken"
+unfoldable pub without : List ℕ → Line → Bool
+without taken l = not (any (λ f. contains (rational f) l) taken)
+
+-- the uppers of rational variable f among them, or its lowers
+unfoldable pub count : (Variable → Line → Bool) → List ℕ → List Step → ℕ → ℕ
+count side taken steps f = length (filter (λ s. without taken (s .line) && side (rational f) (s .line)) steps)
+
+-- "U × L - U - L", which may be below 0
+unfoldable pub costOf : ℕ → ℕ → ℤ
+costOf u l = pos (u * l) -ℤ pos u -ℤ pos l
+
+unfoldable pub cost : List ℕ → List Step → ℕ → ℤ
+cost taken steps f = costOf (count positively taken steps f) (count negatively taken steps f)
+
+-- "the least ..., ties to the lower number": of f and those behind it, one behind only if it costs less
+unfoldable pub cheapest : (ℕ → ℤ) → ℕ → List ℕ → ℕ
+cheapest price f [] = f
+cheapest price f (g ∷ gs) = elim (ltZ (price g) (price f)) [ true ↦ cheapest price g gs | false ↦ cheapest price f gs ]
+
+-- "take the remaining figure", of r figures
+unfoldable pub pick : ℕ → List ℕ → List Step → ℕ
+pick r taken steps = elim (remaining r taken) [ [] ↦ 0 | f ∷ fs ↦ cheapest (cost taken steps) f fs ]
+
 -- ---- loading
 -- the parts of clause c, from part p on
 unfoldable pub partSteps : ℕ → ℕ → List Line → List Step
@@ -148,9 +184,30 @@ module _ (stops : Stops) where
   rounds variables t (v ∷ vs) (ended e steps n) = ended e steps n
   rounds variables t (v ∷ vs) (running steps n) = rounds variables (suc t) vs (tryAll v (roundPairs variables v t steps) (running steps n))
 
+  -- in a given order
   unfoldable pub eliminate : List Variable → List Step → State
   eliminate variables parts = rounds variables 0 variables (load parts (running [] 0))
 
+  -- "At each figure turn": k such rounds, of r rational variables, behind those of `taken`
+  unfoldable pub chosenRounds : ℕ → ℕ → List ℕ → State → Run
+  chosenRounds r zero taken state = record { taken = taken; state = state }
+  chosenRounds r (suc k) taken (ended e steps n) = record { taken = taken; state = ended e steps n }
+  chosenRounds r (suc k) taken (running steps n) =
+      let f = pick r taken steps in
+      let next = taken ++ (f ∷ []) in
+      chosenRounds r k next (tryAll (rational f) (roundPairs (orderAfter next) (rational f) (length taken) steps) (running steps n))
+
+  -- "Marks follow as before": the rounds behind the r rational variables, in the order taken
+  unfoldable pub otherRounds : ℕ → Run → State
+  otherRounds r run = let variables = orderAfter (run .taken) in rounds variables r (drop r variables) (run .state)
+
 -- a problem's elimination
+unfoldable pub chosenRun : Stops → Problem → Run
+chosenRun stops p = chosenRounds stops (p .rationals) (p .rationals) [] (load stops (loadableOf p) (running [] 0))
+
 unfoldable pub elimination : Stops → Problem → State
-elimination stops p = eliminate stops (orderOf p) (loadableOf p)
+elimination stops p = otherRounds stops (p .rationals) (chosenRun stops p)
+
+-- its order, "kept with the run": without limits, since what a limited one takes is the same to its end
+unfoldable pub orderOf : Problem → List Variable
+orderOf p = orderAfter (chosenRun unlimited p .taken)

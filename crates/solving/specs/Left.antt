@@ -16,15 +16,17 @@ use Rattle.rules_types.specs.declared.limits.Limits.{Limits}
 use Rattle.rules_types.specs.Limits as limit
 use Rattle.rules.specs.Problem.{Problem}
 use Rattle.rules.specs.Steps.{Step, encodeProof}
-use Rattle.rules.specs.Elimination.{State, limited, orderOf, loadableOf, elimination}
+use Rattle.rules.specs.Elimination.{State, running, ended, empty, overflow, outOfSteps, limited, orderAfter, chosenRun, orderOf}
+use Rattle.rules.specs.Elimination.{elimination}
 use Rattle.rules.specs.Needs.{stepsOf, pairsOf}
 use Rattle.rules.specs.Values.{walk}
 use Rattle.rules.specs.Model.{written}
 use Rattle.rules.specs.Calls.{stopped, decided, noModel, concluded, said, proofAfter, modelAfter}
 use Rattle.theory_lists.specs.All.{all-map}
 use Rattle.theory_splitting.specs.WellFormed.{WellFormed}
-use Rattle.theory_elimination.specs.WithinLimits.{limited-held}
-use Rattle.theory_elimination.specs.Sound.{Sound, elimination-sound}
+use Rattle.theory_elimination.specs.Sound.{Sound}
+use Rattle.theory_elimination.specs.Chosen.{IsRunning, order-kept}
+use Rattle.theory_elimination.specs.OfProblem.{elimination-normalized, elimination-held}
 use Rattle.theory_resolution.specs.Formed.{Formed}
 use Rattle.theory_bytes.specs.Steps.{proof-length}
 use Rattle.steps.specs.Places.{zeroed, zeroed-behind}
@@ -33,6 +35,7 @@ use Rattle.walk.specs.Narrow.{Narrow}
 use Rattle.placing.specs.declared.point.Progress.{Progress}
 use Rattle.placing.specs.declared.point.Progress.the-variants.{Running, Empty, Overflow, OutOfSteps}
 use Rattle.placing.specs.declared.point.Point.{Point}
+use Rattle.placing.specs.Point.{progressOf}
 use Rattle.elimination.specs.Eliminated.{Eliminated}
 use Rattle.solving.specs.Ends.{refusedBy, decidedBy, zeroModel, Written, WrittenBy}
 use Rattle.solving.specs.Leaves.{Leaves}
@@ -50,16 +53,25 @@ module _ {limits : Limits} {p : Problem} (w : WellFormed p) {before after : List
   usedBytes = limit.stepBytes * length steps
 
   few : length steps ≤ limits .steps
-  unfolding elimination
-  few = limited-held limits (orderOf p) (loadableOf p)
+  few = elimination-held limits p
 
   pub few-steps : c .steps ≤ limits .steps
   few-steps = omega (arith, e .steps, few)
 
   used : length (encodeProof steps) ≡ usedBytes
-  unfolding elimination
   used = proof-length steps
-      (all-map (λ s. Sound (s .line)) (λ s. Formed (s .line)) steps (λ s h. h .formed) (elimination-sound p w (limited limits) (orderOf p)))
+      (all-map (λ s. Sound (s .line)) (λ s. Formed (s .line)) steps (λ s h. h .formed) (elimination-normalized p (limited limits) w))
+
+  -- where it ran to its end, the order that it took is the problem's
+  pub order-is : c .progress ≡ Running → orderAfter (chosenRun (limited limits) p .taken) ≡ orderOf p
+  unfolding progressOf
+  order-is h = order-kept (limited limits) p (by state (sym (e .progress) ∙ h))
+    where
+      by : (s : State) → progressOf s ≡ Running → IsRunning s
+      by (running held n) g = tt
+      by (ended empty held n) g = absurd (let z : _≡_ {A = ℕ} 0 1 = cc in omega arith)
+      by (ended overflow held n) g = absurd (let z : _≡_ {A = ℕ} 0 1 = cc in omega arith)
+      by (ended outOfSteps held n) g = absurd (let z : _≡_ {A = ℕ} 0 1 = cc in omega arith)
 
   -- no line has a variable that the problem does not have
   pub narrow : Narrow after (c .steps) (p .rationals)

@@ -1,8 +1,8 @@
 // What each end of an elimination leaves: the answer, the proof's bytes and the model's.
-use elimination::eliminate::Run;
 use fields::put_zeros;
 use models::encode::write_model;
 use placing::point::Point;
+use rounds::sequence::Run;
 use rules_types::answers::Answer;
 use rules_types::answers::Refusal;
 use rules_types::answers::Solved;

@@ -1,6 +1,6 @@
 -- The check accepts the proof of an elimination that ends with an empty line: its lines are sound, and their amounts in range, so the laws
 -- of the elimination and of the bytes meet.
-use mathlib.Core.Path.{_≡_, subst}
+use mathlib.Core.Path.{_≡_, sym, _∙_, subst}
 use mathlib.Core.List.{List, [], _∷_, _++_}
 use Prim.Native.Nat.{ℕ, _≤_}
 use native.Mathlib.Omega.{arith}
@@ -25,9 +25,11 @@ use Rattle.theory_splitting.specs.PartsForm.{LineForm}
 use Rattle.theory_splitting.specs.SplitProblem.{loadable-formed}
 use Rattle.theory_elimination.specs.Closed.{line-at, elimination-closed-unstopped}
 use Rattle.theory_elimination.specs.Sound.{Sound, elimination-sound}
-use Rattle.theory_saturation.specs.Order.{Ordered, problem-ordered}
+use Rattle.theory_saturation.specs.Order.{Ordered}
+use Rattle.theory_saturation.specs.Taken.{problem-ordered}
 use Rattle.theory_elimination.specs.Pairable.{pairable-late}
 use Rattle.theory_elimination.specs.WithinLimits.{limited-held}
+use Rattle.theory_elimination.specs.Chosen.{elimination-ordered}
 use Rattle.theory_elimination.specs.Origins.{Each, Justified, elimination-origins}
 use Rattle.theory_elimination.specs.Ends.{EndsRight, elimination-ends}
 use Rattle.theory_bytes.specs.Lines.{Encodable, AllEncodable}
@@ -64,23 +66,26 @@ each-pairable o earlier (s ∷ ss) h k = (
 -- ---- the proof of an elimination that ends so
 module _ (limits : Limits) (p : Problem) (w : WellFormed p) (few : limits .steps ≤ limit.mostSteps)
     (steps : List Step) (n : ℕ) (f : elimination (limited limits) p ≡ ended empty steps n) where
+  ordered : eliminate (limited limits) (orderOf p) (loadableOf p) ≡ ended empty steps n
+  ordered = sym (elimination-ordered (limited limits) p) ∙ f
+
   held : length steps ≤ limits .steps
-  unfolding elimination stepsOf
-  held = subst (λ (state : State). length (stepsOf state) ≤ limits .steps) f (limited-held limits (orderOf p) (loadableOf p))
+  unfolding stepsOf
+  held = subst (λ (state : State). length (stepsOf state) ≤ limits .steps) ordered (limited-held limits (orderOf p) (loadableOf p))
 
   pub elimination-refutation : Refutation p steps
-  unfolding elimination stepsOf
+  unfolding stepsOf
   elimination-refutation =
       let parts = loadableOf p in
       record {
         parts = parts-encodable p w;
-        lines = subst (λ (state : State). AllEncodable (stepsOf state)) f (elimination-encodable p w limits (orderOf p));
-        origins = subst (λ (state : State). Each (Justified (orderOf p) parts) [] (stepsOf state)) f
+        lines = subst (λ (state : State). AllEncodable (stepsOf state)) ordered (elimination-encodable p w limits (orderOf p));
+        origins = subst (λ (state : State). Each (Justified (orderOf p) parts) [] (stepsOf state)) ordered
             (elimination-origins (orderOf p) parts (limited limits));
-        pairs = each-pairable (problem-ordered p) [] steps tt
-            (subst (λ (state : State). All (λ s. Sound (s .line)) (stepsOf state)) f (elimination-sound p w (limited limits) (orderOf p)));
+        pairs = each-pairable (problem-ordered p (w .rationals)) [] steps tt
+            (subst (λ (state : State). All (λ s. Sound (s .line)) (stepsOf state)) ordered (elimination-sound p w (limited limits) (orderOf p)));
         few = omega (arith, held);
-        last = subst EndsRight f (elimination-ends (limited limits) (orderOf p) parts);
+        last = subst EndsRight ordered (elimination-ends (limited limits) (orderOf p) parts);
       }
 
 pub elimination-accepted : (terms : Terms) → terms .limits .steps ≤ limit.mostSteps → (q : List ℕ) (p : Problem) → read q ≡ sound p

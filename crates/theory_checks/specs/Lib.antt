@@ -9,7 +9,6 @@ pub mod Stated
 pub mod Following
 pub mod ProofAccepted
 pub mod EliminationAccepted
-pub mod ProofBytes
 pub mod Writable
 pub mod ByOffset
 pub mod LinesFollow

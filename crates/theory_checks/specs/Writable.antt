@@ -12,7 +12,7 @@ use Rattle.rules.specs.Problem.{Clause, Problem}
 use Rattle.rules.specs.Split.{partsOf, splitsOf}
 use Rattle.rules.specs.Lines.{Variable}
 use Rattle.rules.specs.Steps.{Step, header}
-use Rattle.rules.specs.Elimination.{limited, orderOf, loadableOf, elimination}
+use Rattle.rules.specs.Elimination.{limited, orderOf, loadableOf, eliminate, elimination}
 use Rattle.rules.specs.Needs.{stepsOf}
 use Rattle.theory_lists.specs.All.{All, all-any, all-both, all-map}
 use Rattle.theory_lists.specs.Places.{element-below, place-below}
@@ -23,6 +23,7 @@ use Rattle.theory_splitting.specs.WellFormed.{splitsIn, WellFormed}
 use Rattle.theory_splitting.specs.Count.{parts-length}
 use Rattle.theory_splitting.specs.Named.{PartAmong, loadable-parts}
 use Rattle.theory_elimination.specs.WithinLimits.{limited-held}
+use Rattle.theory_elimination.specs.Chosen.{elimination-ordered}
 use Rattle.theory_elimination.specs.Origins.{Each, Derived, Justified, elimination-origins}
 use Rattle.theory_checks.specs.EliminationAccepted.{parts-encodable, elimination-encodable}
 
@@ -73,8 +74,8 @@ module _ (p : Problem) (w : WellFormed p) where
   )
 
   pub elimination-writable : (limits : Limits) → limits .steps ≤ limit.mostSteps → All Writable (stepsOf (elimination (limited limits) p))
-  unfolding elimination
   elimination-writable limits few =
-      each-writable (orderOf p) [] (stepsOf (elimination (limited limits) p))
+      rw (elimination-ordered (limited limits) p)
+      (each-writable (orderOf p) [] (stepsOf (eliminate (limited limits) (orderOf p) (loadableOf p)))
       (omega (arith, limited-held limits (orderOf p) (loadableOf p)))
-      (elimination-encodable p w limits (orderOf p)) (elimination-origins (orderOf p) (loadableOf p) (limited limits))
+      (elimination-encodable p w limits (orderOf p)) (elimination-origins (orderOf p) (loadableOf p) (limited limits)))

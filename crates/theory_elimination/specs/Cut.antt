@@ -76,7 +76,7 @@ module _ (stops : Stops) where
       (record { origin = resolved v (p .upper .number) (p .lower .number); line = l }) steps n _ refl refl
 
   -- ---- the stages
-  load-cut : (ss : List Step) (state : State) → load stops ss state ≡ cut stops (loadEvents ss state) (load unlimited ss state)
+  pub load-cut : (ss : List Step) (state : State) → load stops ss state ≡ cut stops (loadEvents ss state) (load unlimited ss state)
   unfolding load loadEvents cut
   load-cut [] state = refl
   load-cut (s ∷ ss) (ended e steps n) = refl
@@ -86,7 +86,7 @@ module _ (stops : Stops) where
       ∙ ap (cut stops (record { isResolvent = false; line = s .line; steps = steps; pairs = n } ∷ []))
       (load-cut ss (add unlimited false s steps n))
 
-  try-cut : (v : Variable) (ps : List Pair) (state : State)
+  pub try-cut : (v : Variable) (ps : List Pair) (state : State)
       → tryAll stops v ps state ≡ cut stops (tryEvents v ps state) (tryAll unlimited v ps state)
   unfolding tryAll tryEvents cut
   try-cut v [] state = refl

@@ -4,6 +4,8 @@ pub mod Cut
 pub mod Pairs
 pub mod Induction
 pub mod WithinLimits
+pub mod Stopped
+pub mod Chosen
 pub mod Resolvents
 pub mod Prefix
 pub mod Longer
@@ -25,3 +27,4 @@ pub mod Origins
 pub mod Ends
 pub mod Sound
 pub mod Pairable
+pub mod OfProblem

@@ -1,6 +1,6 @@
 -- Limits: the limited elimination is the elimination without limits exactly if that fits them; otherwise it ends by overflow or out of
 -- steps.
-use mathlib.Core.Path.{_≡_, refl, _∙_, subst}
+use mathlib.Core.Path.{_≡_, refl, sym, _∙_, subst, subst⁻¹}
 use mathlib.Core.Bool.{Bool, true, false, not, _&&_}
 use mathlib.Core.Logic.{_⊎_, inl, inr, ⊎-elim}
 use mathlib.Core.List.{List, [], _∷_}
@@ -12,25 +12,18 @@ use lib.Arith.{lt→nleb}
 use lib.ListN.{length}
 use Rattle.rules_types.specs.declared.limits.Limits.{Limits}
 use Rattle.rules.specs.Problem.{Problem}
-use Rattle.rules.specs.Elimination.{Stops, limited, unlimited, empty, overflow, outOfSteps, State, running, ended, covered, overflows}
+use Rattle.rules.specs.Elimination.{Stops, limited, unlimited, State, covered, overflows}
 use Rattle.rules.specs.Elimination.{orderOf, loadableOf, eliminate, elimination}
 use Rattle.rules.specs.Needs.{stepsOf, needs, resolvents, Fits}
 use Rattle.theory_lists.specs.Tests.{is-false}
 use Rattle.theory_lists.specs.All.{All, all-map, all-both, all-yes, yes-all}
 use Rattle.theory_elimination.specs.Events.{Event, events}
-use Rattle.theory_elimination.specs.Cut.{stopOf, stopAt, endedAt, cut, eliminate-cut}
-use Rattle.theory_elimination.specs.WithinLimits.{limited-held, Unstopped, unlimited-unstopped}
+use Rattle.theory_elimination.specs.Cut.{stopOf, stopAt, eliminate-cut}
+use Rattle.theory_elimination.specs.Stopped.{Passes, cut-passes, Stopped, stopped-clash, cut-or}
+use Rattle.theory_elimination.specs.Chosen.{elimination-ordered}
+use Rattle.theory_elimination.specs.WithinLimits.{limited-held, unlimited-unstopped}
 use Rattle.theory_elimination.specs.Resolvents.{resolvents-are, resolvents-all, all-resolvents}
 use Rattle.theory_elimination.specs.Longer.{Room, events-room}
-
--- ---- no event stops it
-abbrev Passes : Stops → Event → Type 0
-Passes stops e = stopAt stops e ≡ none
-
-cut-passes : (stops : Stops) (es : List Event) (state : State) → All (Passes stops) es → cut stops es state ≡ state
-unfolding cut endedAt
-cut-passes stops [] state h = refl
-cut-passes stops (e ∷ es) state h = rw (h .0) (cut-passes stops es state (h .1))
 
 -- ---- an event that fits passes, and one that passes fits
 abbrev InRange : Event → Type 0
@@ -51,68 +44,35 @@ pass-in-range true true known many e z = let k : _≡_ {A = ℕ} 0 1 = cc in abs
 pass-in-range true false known many e z = tt
 pass-in-range false w known many e z = absurd z
 
--- ---- some event stops it
-abbrev pub Stopped : State → Type 0
-Stopped (running steps n) = ⊥
-Stopped (ended empty steps n) = ⊥
-Stopped (ended overflow steps n) = Unit {0}
-Stopped (ended outOfSteps steps n) = Unit {0}
-
-pub stopped-clash : (state : State) → Unstopped state → Stopped state → ⊥
-stopped-clash (running steps n) h k = k
-stopped-clash (ended empty steps n) h k = k
-stopped-clash (ended overflow steps n) h k = h
-stopped-clash (ended outOfSteps steps n) h k = h
-
-stop-or : (w known many : Bool) → (stopOf w known many ≡ none)
-    ⊎ ((e : Event) (state : State) → Stopped (endedAt (stopOf w known many) e state))
-unfolding stopOf endedAt
-stop-or true known many = inr (λ e state. tt)
-stop-or false true many = inl refl
-stop-or false false true = inr (λ e state. tt)
-stop-or false false false = inl refl
-
-module _ (stops : Stops) where
-  at-or : (e : Event) → Passes stops e ⊎ ((state : State) → Stopped (endedAt (stopAt stops e) e state))
-  unfolding stopAt
-  at-or e = ⊎-elim (λ h. inl h) (λ f. inr (f e))
-      (stop-or (e .isResolvent && stops .atLine (e .line)) (covered (e .line) (e .steps)) (stops .atSteps (length (e .steps))))
-
-  pass-on : (e : Event) (state : State) → Passes stops e → Stopped state → Stopped (endedAt (stopAt stops e) e state)
-  unfolding endedAt
-  pass-on e state h k = rw h k
-
-  cut-or : (es : List Event) (state : State) → All (Passes stops) es ⊎ Stopped (cut stops es state)
-  unfolding cut
-  cut-or [] state = inl tt
-  cut-or (e ∷ es) state = ⊎-elim (λ h. ⊎-elim (λ k. inl (h, k)) (λ k. inr (pass-on e (cut stops es state) h k)) (cut-or es state))
-      (λ f. inr (f (cut stops es state))) (at-or e)
-
 -- ---- the theorem, for every limit
 module _ (limits : Limits) (p : Problem) where
   abbrev es : List Event
   es = events (orderOf p) (loadableOf p)
 
+  -- the elimination, as that in its order
+  ordered : (stops : Stops) → elimination stops p ≡ eliminate stops (orderOf p) (loadableOf p)
+  ordered stops = elimination-ordered stops p
+
   all-pass : Fits limits p → All (Passes (limited limits)) es
-  unfolding needs elimination stopAt limited
+  unfolding needs stopAt limited
   all-pass h =
       all-map (λ e. InRange e × Room (limits .steps) e) (Passes (limited limits)) es (λ e k. fit-passes (limits .steps) (e .isResolvent)
       (overflows (e .line)) (covered (e .line) (e .steps)) (length (e .steps)) (k .0) (k .1))
       (all-both InRange (Room (limits .steps)) es
       (resolvents-all (λ l. T (not (overflows l))) es
       (rw (resolvents-are p) (all-yes (λ l. not (overflows l)) (resolvents p) (h .amounts))))
-      (events-room (orderOf p) (loadableOf p) (limits .steps) (h .steps)))
+      (events-room (orderOf p) (loadableOf p) (limits .steps)
+      (subst (λ (s : State). length (stepsOf s) ≤ limits .steps) (ordered unlimited) (h .steps))))
 
   pub fits-same : Fits limits p → elimination (limited limits) p ≡ elimination unlimited p
-  unfolding elimination
-  fits-same h = eliminate-cut (limited limits) (orderOf p) (loadableOf p)
-      ∙ cut-passes (limited limits) es (eliminate unlimited (orderOf p) (loadableOf p)) (all-pass h)
+  fits-same h = ordered (limited limits) ∙ eliminate-cut (limited limits) (orderOf p) (loadableOf p)
+      ∙ cut-passes (limited limits) es (eliminate unlimited (orderOf p) (loadableOf p)) (all-pass h) ∙ sym (ordered unlimited)
 
   pass-fits : All (Passes (limited limits)) es → Fits limits p
-  unfolding needs elimination stopAt limited
+  unfolding needs stopAt limited
   pass-fits h =
       let same = eliminate-cut (limited limits) (orderOf p) (loadableOf p)
-      ∙ cut-passes (limited limits) es (eliminate unlimited (orderOf p) (loadableOf p)) h in
+      ∙ cut-passes (limited limits) es (eliminate unlimited (orderOf p) (loadableOf p)) h ∙ sym (ordered unlimited) in
       record {
         steps = subst (λ (s : State). length (stepsOf s) ≤ limits .steps) same (limited-held limits (orderOf p) (loadableOf p));
         amounts =
@@ -122,13 +82,12 @@ module _ (limits : Limits) (p : Problem) where
       }
 
   pub fits-or-stopped : Fits limits p ⊎ Stopped (elimination (limited limits) p)
-  unfolding elimination
   fits-or-stopped =
-      ⊎-elim (λ h. inl (pass-fits h)) (λ k. inr (rw (eliminate-cut (limited limits) (orderOf p) (loadableOf p)) k))
+      ⊎-elim (λ h. inl (pass-fits h))
+      (λ k. inr (subst⁻¹ Stopped (ordered (limited limits) ∙ eliminate-cut (limited limits) (orderOf p) (loadableOf p)) k))
       (cut-or (limited limits) es (eliminate unlimited (orderOf p) (loadableOf p)))
 
   pub fits-unstopped : Fits limits p → Stopped (elimination (limited limits) p) → ⊥
-  unfolding elimination
   fits-unstopped h k =
       stopped-clash (eliminate unlimited (orderOf p) (loadableOf p)) (unlimited-unstopped (orderOf p) (loadableOf p))
-      (subst Stopped (fits-same h) k)
+      (subst Stopped (fits-same h ∙ ordered unlimited) k)

@@ -26,6 +26,7 @@ use Rattle.theory_splitting.specs.WellFormed.{WellFormedConstraint, WellFormedC
 use Rattle.theory_splitting.specs.NormalClause.{clause-ends}
 use Rattle.theory_splitting.specs.SplitProblem.{partSteps-all}
 use Rattle.theory_elimination.specs.Closed.{elimination-closed}
+use Rattle.theory_elimination.specs.Chosen.{elimination-ordered}
 
 module _ (r : ℕ) where
   -- 0 from r on
@@ -111,13 +112,14 @@ module _ (r : ℕ) where
 
 pub elimination-narrow : (stops : Stops) (p : Problem) → WellFormed p
     → All (λ s. NarrowLine (p .rationals) (s .line)) (stepsOf (elimination stops p))
-unfolding elimination loadableOf coefficient
+unfolding loadableOf coefficient
 elimination-narrow stops p w =
-    elimination-closed (NarrowLine (p .rationals)) stops (orderOf p) (loadableOf p) (resolve-few (p .rationals))
+    rw (elimination-ordered stops p)
+    (elimination-closed (NarrowLine (p .rationals)) stops (orderOf p) (loadableOf p) (resolve-few (p .rationals))
     (loadable-few (p .rationals) 0 (p .booleans) (p .clauses)
     (all-map (WellFormedClause (p .booleans) (p .rationals)) (λ x. All (λ c. Few (p .rationals) (some c)) (x .constraints)) (p .clauses)
     (λ x k. all-map (WellFormedConstraint (p .rationals)) (λ c. Few (p .rationals) (some c)) (x .constraints) constraint-few
-    (k .constraints)) (w .clauses)))
+    (k .constraints)) (w .clauses))))
   where
     constraint-few : (c : Constraint) → WellFormedConstraint (p .rationals) c → Few (p .rationals) (some c)
     constraint-few c k f h = k .beyond f h

@@ -42,6 +42,14 @@ module _ {A : Type 0} where
   tabulate-snoc zero f = refl
   tabulate-snoc (suc n) f = ap (λ (s : List A). f 0 ∷ s) (tabulate-snoc n (λ i. f (suc i)))
 
+  -- a shorter one at the front of a longer one
+  pub tabulate-front : (n m : ℕ) (f : ℕ → A) → n ≤ m → (more : List A) × (tabulate m f ≡ tabulate n f ++ more)
+  unfolding tabulate
+  tabulate-front zero m f h = (tabulate m f, refl)
+  tabulate-front (suc n) zero f h = absurd (omega arith)
+  tabulate-front (suc n) (suc m) f h =
+      let r = tabulate-front n m (λ i. f (suc i)) (omega arith) in (r .0, ap (λ (s : List A). f 0 ∷ s) (r .1))
+
   -- from element i on
   pub drop-tabulate : (n : ℕ) (f : ℕ → A) (i : ℕ) → i < n → drop i (tabulate n f) ≡ f i ∷ drop (suc i) (tabulate n f)
   unfolding tabulate

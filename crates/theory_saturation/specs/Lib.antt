@@ -9,6 +9,7 @@ pub mod Least
 pub mod Assign
 pub mod Rounds
 pub mod Order
+pub mod Taken
 pub mod Covered
 pub mod Saturation
 pub mod Equal

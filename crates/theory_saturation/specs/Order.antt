@@ -1,20 +1,22 @@
--- What the elimination, the walk and the gathering need of an order of rounds; and that the order of a problem's run is such.
-use mathlib.Core.Path.{_≡_, refl, subst}
-use mathlib.Core.Bool.{not}
+-- What the elimination, the walk and the gathering need of an order of rounds; and which orders by their rational variables are such.
+use mathlib.Core.Path.{_≡_, refl, sym, subst, subst⁻¹}
+use mathlib.Core.Bool.{Bool, false, not}
 use mathlib.Core.Logic.{⊎-elim}
 use mathlib.Core.List.{List, [], _∷_, _++_, map}
 use Prim.Native.Nat.{ℕ, zero, suc, _+_, _-_, _≤_, _<_}
 use native.Mathlib.Omega.{arith}
-use lib.Dec.{T, leb, leb→le, nleb→lt}
-use lib.ListN.{length, getD}
+use lib.Dec.{T, eqb, leb, leb→le, nleb→lt}
+use lib.ListN.{length, length-append, length-map, getD}
+use mir.Facts.{eqb-yes}
 use Rattle.rules_types.specs.Limits as limit
 use Rattle.rules.specs.Lists.{any, tabulate}
-use Rattle.rules.specs.Problem.{Problem}
 use Rattle.rules.specs.Lines.{Variable, rational, boolean}
-use Rattle.rules.specs.Elimination.{orderBy, rationalsOf, orderOf}
-use Rattle.theory_lists.specs.Tests.{split}
+use Rattle.rules.specs.Elimination.{orderBy}
+use Rattle.theory_lists.specs.Tests.{split, or-else}
+use Rattle.theory_lists.specs.All.{All}
 use Rattle.theory_lists.specs.Places.{place-below}
-use Rattle.theory_lists.specs.Tabulated.{length-tabulate, getD-tabulate}
+use Rattle.theory_lists.specs.Tabulated.{length-tabulate}
+use Rattle.theory_lists.specs.Distinct.{Distinct}
 use Rattle.theory_saturation.specs.Rounds.{At, at-unique}
 use Rattle.theory_saturation.specs.Once.{names, Once}
 
@@ -94,30 +96,59 @@ unfolding orderBy
 boolean-at fs n i h = at-behind fs (tabulate limit.allBooleans boolean) i (limit.rationals + i) (boolean i) (omega arith)
     (at-tabulate limit.allBooleans boolean i h)
 
--- ---- the rational variables by their numbers
+-- the rational variables by their numbers
 abbrev pub rising : List ℕ
 rising = tabulate limit.rationals (λ f. f)
 
-rising-at : (t : ℕ) → t < limit.rationals → At (orderBy rising) t (rational t)
-rising-at t h = subst (λ (f : ℕ). At (orderBy rising) t (rational f)) (getD-tabulate limit.rationals (λ f. f) t 0 h)
-    (rational-at rising t (omega (arith, length-tabulate limit.rationals (λ f. f))))
-
-booleans-once : (n : ℕ) (f : ℕ → ℕ) → Once (tabulate n (λ i. boolean (f i)))
+-- ---- each rational variable once
+once-booleans : (n : ℕ) (f : ℕ → ℕ) → Once (tabulate n (λ i. boolean (f i)))
 unfolding tabulate
-booleans-once zero f = tt
-booleans-once (suc n) f = (tt, booleans-once n (λ i. f (suc i)))
+once-booleans zero f = tt
+once-booleans (suc n) f = (tt, once-booleans n (λ i. f (suc i)))
 
-pub rising-ordered : Ordered (orderBy rising)
-unfolding orderBy tabulate names any
-rising-ordered = record {
-  count = refl;
-  rationals = λ t h. (t, h, rising-at t h);
-  booleans = boolean-at rising (length-tabulate limit.rationals (λ f. f));
-  each = λ f h. (f, h, rising-at f h);
-  once = (tt, (tt, (tt, (tt, (tt, (tt, (tt, (tt, booleans-once limit.allBooleans (λ i. i)))))))));
-}
+absent-booleans : (f n : ℕ) (g : ℕ → ℕ) → any (names f) (tabulate n (λ i. boolean (g i))) ≡ false
+unfolding tabulate any names
+absent-booleans f zero g = refl
+absent-booleans f (suc n) g = absent-booleans f n (λ i. g (suc i))
 
--- ---- that of a problem's run
-pub problem-ordered : (p : Problem) → Ordered (orderOf p)
-unfolding orderOf rationalsOf
-problem-ordered p = rising-ordered
+names-map : (f : ℕ) (fs : List ℕ) (vs : List Variable) → any (names f) vs ≡ false → any (names f) (map rational fs ++ vs) ≡ any (eqb f) fs
+unfolding any names
+names-map f [] vs h = h
+names-map f (g ∷ fs) vs h = rw (names-map f fs vs h)
+
+once-by : (fs : List ℕ) (vs : List Variable) → ((f : ℕ) → any (names f) vs ≡ false) → Once vs → Distinct fs → Once (map rational fs ++ vs)
+once-by [] vs h k d = k
+once-by (f ∷ fs) vs h k d = (subst⁻¹ (λ (b : Bool). T (not b)) (names-map f fs vs (h f)) (d .0), once-by fs vs h k (d .1))
+
+below-all : (n : ℕ) (fs : List ℕ) (t : ℕ) → All (λ f. f < n) fs → t < length fs → getD fs t 0 < n
+below-all n [] t h k = absurd (omega arith)
+below-all n (f ∷ fs) zero h k = h .0
+below-all n (f ∷ fs) (suc t) h k = below-all n fs t (h .1) (omega arith)
+
+place-of : (f : ℕ) (fs : List ℕ) → T (any (eqb f) fs) → (t : ℕ) × (t < length fs) × (getD fs t 0 ≡ f)
+unfolding any
+place-of f [] h = absurd h
+place-of f (g ∷ fs) h = ⊎-elim (λ e. (0, omega arith, sym (eqb-yes e)))
+    (λ e. let r = place-of f fs (or-else (eqb f g) (any (eqb f) fs) e h) in (suc (r .0), omega (arith, r .1), r .2)) (split (eqb f g))
+
+-- so many of them, none twice, below their number; so all of them
+pub ordered-by : (fs : List ℕ) → length fs ≡ limit.rationals → All (λ f. f < limit.rationals) fs → Distinct fs
+    → ((f : ℕ) → f < limit.rationals → T (any (eqb f) fs)) → Ordered (orderBy fs)
+unfolding orderBy
+ordered-by fs n b d e =
+    record {
+      count = rw (
+        length-append (map rational fs) (tabulate limit.allBooleans boolean),
+        length-map fs,
+        length-tabulate limit.allBooleans boolean,
+      ) (omega (arith, n));
+      rationals = λ t h. (getD fs t 0, below-all limit.rationals fs t b (omega (arith, n)), rational-at fs t (omega (arith, n)));
+      booleans = boolean-at fs n;
+      each = λ f h. let r = place-of f fs (e f h) in (
+        r .0,
+        omega (arith, r .1, n),
+        subst (λ (g : ℕ). At (orderBy fs) (r .0) (rational g)) (r .2) (rational-at fs (r .0) (r .1)),
+      );
+      once = once-by fs (tabulate limit.allBooleans boolean) (λ f. absent-booleans f limit.allBooleans (λ i. i))
+          (once-booleans limit.allBooleans (λ i. i)) d;
+    }

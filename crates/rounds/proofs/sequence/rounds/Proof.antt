@@ -5,22 +5,28 @@ use native.Mathlib.Omega.{arith}
 use borrow.Author.Needs.{needs}
 use borrow.Author.Tests.{not-true, not-false}
 use Rattle.rules_types.specs.Limits as limit
+use Rattle.theory_saturation.specs.Order.{Ordered}
 use Rattle.lines.specs.declared.order.Round.the-variants.{Of}
 use Rattle.lines.specs.Order.{variablesOf, Scheduled, IsRound}
 use Rattle.placing.specs.declared.point.Progress.the-variants.{Running}
 use Rattle.placing.specs.Point.{running-yes}
-use Rattle.rounds.specs.Rounds.{AtRound, rounds-start, rounds-next, rounds-done, rounds-stay}
+use Rattle.rounds.specs.Rounds.{AtRound, rounds-start, choosable, chose-ordered, rounds-next, rounds-done, rounds-stay}
 use Rattle.rounds.proofs.sequence.rounds.Statement.{statement}
 use Rattle.rounds.proofs.sequence.rounds.Tie as tie
 
 abbrev Inv-loop : tie.InvT-loop
-Inv-loop proof₀ order limits p₀ t₀ proof p t = AtRound order limits proof₀ p₀ proof p t
+Inv-loop proof₀ r limits order₀ p₀ t₀ proof order p t = AtRound r limits proof₀ p₀ order proof p t
 
 abbrev μ-loop : tie.MeasureT-loop
-μ-loop proof₀ order limits p₀ t₀ proof p t = limit.rounds - t
+μ-loop proof₀ r limits order₀ p₀ t₀ proof order p t = limit.rounds - t
+
+rising-requires : tie.Need-rising-requires Inv-loop μ-loop
+rising-requires c κs = search needs
 
 loop-holds : tie.Need-loop-holds Inv-loop μ-loop
-loop-holds c = rounds-start (c .before .args .order) (c .before .pre .0)
+loop-holds c =
+    let s = c .before .before in
+    rounds-start (s .args .r) (s .pre .1 .0) (c .rising .result) (c .rising .ensures .0) (s .pre .0)
 
 is-running-requires : tie.Need-is-running-requires Inv-loop μ-loop
 is-running-requires c κs = search needs
@@ -29,11 +35,27 @@ same-length : tie.Need-same-length Inv-loop μ-loop
 same-length c = search needs
 
 returns : tie.Need-returns Inv-loop μ-loop
-returns c = let l = c .before .before in
-    rounds-stay (l .before .before .args .order) (l .loop .inv) (sym (c .before .is-running .ensures) ∙ not-true _ (c .if1 .taken))
+returns c =
+    let l = c .before .before in
+    let s = l .before .before .before in
+    rounds-stay (s .args .r) (s .pre .1 .0) (l .loop .inv) (sym (c .before .is-running .ensures) ∙ not-true _ (c .if1 .taken))
+
+order-for-requires : tie.Need-order-for-requires Inv-loop μ-loop
+order-for-requires c κs =
+    let l = c .before .before .before in
+    let s = l .before .before .before in
+    let at = l .loop .inv .leads .standing in
+    (at .held, (omega (arith, at .few, s .pre .1 .1 .0), (s .pre .1 .0, choosable (s .args .r) (s .pre .1 .0) (l .loop .inv))))
+
+-- the order for the round is one of rounds
+ordered : (c : tie.After-order-for Inv-loop μ-loop) → Ordered (variablesOf (c .order-for .result))
+ordered c =
+    let l = c .before .before .before .before in
+    let s = l .before .before .before in
+    chose-ordered (s .args .r) (s .pre .1 .0) (l .loop .inv) (c .order-for .result) (c .order-for .ensures)
 
 round-at-requires : tie.Need-round-at-requires Inv-loop μ-loop
-round-at-requires c κs = search needs
+round-at-requires c κs = ordered c
 
 enum-known-v : tie.Need-enum-known-v Inv-loop μ-loop
 enum-known-v c = search needs
@@ -43,23 +65,24 @@ going : (c : tie.Else1 Inv-loop μ-loop) → c .before .before .loop .p .progres
 going c = running-yes (c .before .before .loop .p .progress) (sym (c .before .is-running .ensures) ∙ not-false _ (c .if1 .left))
 
 -- a variable's round
-here : (c : tie.After-v Inv-loop μ-loop) → let l = c .before .before .before .before .before in
-    IsRound (variablesOf (l .before .before .args .order)) (l .loop .t) (Of (c .v .given .0 .0))
+here : (c : tie.After-v Inv-loop μ-loop) → let r = c .before .before in
+    IsRound (variablesOf (r .before .order-for .result)) (r .before .before .before .before .before .loop .t) (Of (c .v .given .0 .0))
 here c =
     let r = c .before .before in
-    let l = r .before .before .before in
-    subst (IsRound (variablesOf (l .before .before .args .order)) (l .loop .t)) (c .v .given .1) (r .round-at .ensures)
+    subst (IsRound (variablesOf (r .before .order-for .result)) (r .before .before .before .before .before .loop .t)) (c .v .given .1)
+    (r .round-at .ensures)
 
 round-requires : tie.Need-round-requires Inv-loop μ-loop
 round-requires c κs =
     let v = c .before .before in
-    let e = v .before .before .before in
+    let o = v .before .before .before in
+    let e = o .before .before in
     let l = e .before .before in
-    let s = l .before .before in
-    let b = l .loop .inv .counted in
-    let f = l .loop .inv .few in
-    let r : Scheduled _ = record { ranged = here v .0; ordered = s .pre .1 .0 } in
-    (l .loop .inv .leads .standing, (going e, (r, (s .pre .1 .1 .0, omega (arith, b, f, s .pre .1 .1 .1)))))
+    let s = l .before .before .before in
+    let r : Scheduled _ = record { ranged = here v .0; ordered = ordered o } in (
+      l .loop .inv .leads .standing,
+      (going e, (r, (s .pre .1 .1 .0, omega (arith, l .loop .inv .counted, l .loop .inv .few, s .pre .1 .1 .1)))),
+    )
 
 enum-told : tie.Need-enum-told Inv-loop μ-loop
 enum-told c = search needs
@@ -70,10 +93,11 @@ same-length-2 c = search needs
 returns-2 : tie.Need-returns-2 Inv-loop μ-loop
 returns-2 c =
     let r = c .before .before in
-    let l = r .before .before .before in
-    let s = l .before .before in
-    rounds-done (s .args .order) (l .loop .inv) (s .pre .1 .0)
-    (subst (IsRound (variablesOf (s .args .order)) (l .loop .t)) (c .enum-told .given .1) (r .round-at .ensures))
+    let o = r .before in
+    let l = o .before .before .before .before in
+    let s = l .before .before .before in
+    rounds-done (s .args .r) (s .pre .1 .0) (l .loop .inv) (o .order-for .result) (o .order-for .ensures)
+    (subst (IsRound (variablesOf (o .order-for .result)) (l .loop .t)) (c .enum-told .given .1) (r .round-at .ensures))
 
 add-t : tie.Need-add-t Inv-loop μ-loop
 add-t c = search needs
@@ -82,11 +106,12 @@ loop-again : tie.Need-loop-again Inv-loop μ-loop
 loop-again c =
     let r = c .before .before in
     let v = r .before .before .before in
-    let e = v .before .before .before in
+    let o = v .before .before .before in
+    let e = o .before .before in
     let l = e .before .before in
-    let s = l .before .before in
-    rounds-next (s .args .order) (l .loop .inv) (s .pre .1 .0) (v .v .given .0 .0) (here v) (going e) (r .round .ensures .0)
-    (r .round .ensures .1)
+    let s = l .before .before .before in
+    rounds-next (s .args .r) (s .pre .1 .0) (l .loop .inv) (o .order-for .result) (o .order-for .ensures) (v .v .given .0 .0) (here v)
+    (going e) (r .round .ensures .0) (r .round .ensures .1)
 
 loop-less : tie.Need-loop-less Inv-loop μ-loop
 loop-less c = omega (arith, loop-again c .few)
@@ -97,10 +122,12 @@ rounds-spec =
     (tie.spec
     Inv-loop
     μ-loop
+    rising-requires
     loop-holds
     is-running-requires
     same-length
     returns
+    order-for-requires
     round-at-requires
     enum-known-v
     round-requires

@@ -1,10 +1,12 @@
 -- `decide::decide` meets its contract: a law for each end of the elimination. Assumes nothing.
-use mathlib.Core.Path.{sym, subst}
-use Rattle.theory_saturation.specs.Order.{Ordered, problem-ordered}
+use mathlib.Core.Path.{sym, subst, _∙_}
+use Rattle.rules.specs.Elimination.{limited}
+use Rattle.theory_saturation.specs.Order.{Ordered}
+use Rattle.theory_saturation.specs.Taken.{run-ordered}
 use Rattle.theory_splitting.specs.WellFormed.{WellFormed}
 use Rattle.theory_splitting.specs.Reading.{read-well-formed}
 use Rattle.problem_read.specs.Parsed.{problemAt}
-use Rattle.solving.specs.Left.{few-steps, narrow, leaves-overflow, leaves-out, leaves-empty, leaves-saturated}
+use Rattle.solving.specs.Left.{few-steps, narrow, order-is, leaves-overflow, leaves-out, leaves-empty, leaves-saturated}
 use borrow.Author.Needs.{needs}
 use Rattle.solving.proofs.decide.decide.Statement.{statement}
 use Rattle.solving.proofs.decide.decide.Tie as tie
@@ -48,7 +50,8 @@ saturated-requires c κs =
     let s = k .before .before .before .before .before .before in
     let e = k .eliminate .ensures .0 in
     let w = formed k in
-    let ordered = subst Ordered (sym (k .eliminate .ensures .1)) (problem-ordered (problemAt (s .args .input .now) (s .args .sizes))) in (
+    let ordered = subst Ordered (sym (k .eliminate .ensures .1)) (run-ordered (limited (s .args .terms .limits))
+    (problemAt (s .args .input .now) (s .args .sizes)) (w .rationals)) in (
       s .pre .0 .parsed .booleans,
       (s .pre .0 .parsed .rationals, (few-steps w e, (search needs, (s .pre .1 .1 .0, (e .ready, (narrow w e, ordered)))))),
     )
@@ -103,7 +106,7 @@ returns-4 c =
     let k = t .before .before .before .before .before in
     rw (f .saturated .ensures .1)
     (leaves-saturated (formed k) (k .eliminate .ensures .0) (k .before .before .before .before .before .before .args .model .now) _ _
-    (t .enum-told4 .given .1) (rw (k .eliminate .ensures .1) at (f .saturated .ensures .0)))
+    (t .enum-told4 .given .1) (rw (k .eliminate .ensures .1 ∙ order-is (formed k) (k .eliminate .ensures .0) (t .enum-told4 .given .1)) at (f .saturated .ensures .0)))
 
 pub decide-spec : {M : Type 1} → statement M
 decide-spec =

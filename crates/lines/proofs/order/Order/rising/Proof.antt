@@ -1,7 +1,7 @@
 -- `Order::rising` meets its contract. Assumes nothing.
 use mathlib.Core.Path.{refl}
 use Rattle.rules.specs.Lists.{tabulate}
-use Rattle.theory_saturation.specs.Order.{rising-ordered}
+use Rattle.theory_saturation.specs.Taken.{rising-ordered}
 use Rattle.lines.specs.Order.{variablesOf}
 use Rattle.lines.proofs.order.Order.rising.Statement.{statement}
 use Rattle.lines.proofs.order.Order.rising.Tie as tie

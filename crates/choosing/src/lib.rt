@@ -1,0 +1,3 @@
+// The rational variable of a round: "the remaining figure with the least U × L - U - L".
+pub mod choose;
+pub mod counts;
