@@ -1,5 +1,5 @@
-//! The second solver: document 01 with 02's request (vii), written once more, in plain Rust and from
-//! their text alone, to judge the proved one from outside. Every call here takes any bytes and
+//! The second solver: document 01 with 02's request (vii), written once more, in plain Rust and
+//! from their text alone, to judge the proved one from outside. Every call here takes any bytes and
 //! buffers of any length.
 
 pub mod big;
