@@ -1,10 +1,12 @@
 //! The rising order, in which the figures went before 02's (vii), and which the second solver can
 //! still be asked for: no question is decided otherwise in it, and the proved checks accept its
-//! books and sheets.
+//! books and sheets. Books that version 1.0 made are among the vectors; most are not ours.
 
-use crate::buffers::{BOOK_LENGTH, SHEET_LENGTH};
+use crate::buffers::{solve_filled, BOOK_LENGTH, SHEET_LENGTH};
 use crate::report::{demand, equal, Group, Sums};
+use crate::solver::{Solver, BOTH};
 use crate::solving::{check_part, question};
+use crate::vectors;
 use questions::random::Random;
 use reference::{Answer, Order, Verdict};
 
@@ -14,8 +16,17 @@ const CASES: usize = 20_000;
 /// How often another book, another sheet, a verdict now alone and a verdict then alone came.
 type Tally = [usize; 4];
 const LEAST: Tally = [1_000, 500, 100, 1];
+/// The fewest stored books.
+const FEWEST: usize = 30;
 
 pub fn run(sums: &mut Sums) {
+    run_random(sums);
+    for solver in BOTH {
+        run_stored(solver, sums);
+    }
+}
+
+fn run_random(sums: &mut Sums) {
     let mut group = Group::new("solving: in rising order");
     let mut random = Random::new(SEED);
     let mut tally = Tally::default();
@@ -65,4 +76,25 @@ fn satisfiable(answer: &Answer) -> Option<bool> {
         Answer::Verdict { verdict, .. } => Some(*verdict != Verdict::Cannot),
         Answer::Refused { .. } => None,
     }
+}
+
+/// Where version 1.0 wrote these books, the verdict is the same, and most books are others.
+fn run_stored(solver: Solver, sums: &mut Sums) {
+    let mut group = solver.group("solving: questions of version 1.0's books");
+    let stored = vectors::questions_with("base_books.txt");
+    let mut others = 0;
+    for (number, case) in stored.iter().enumerate() {
+        group.case(&format!("number {number}"), || {
+            let (question, book) = case.as_ref()?;
+            let solved = solve_filled(solver, question);
+            equal("satisfiable", &Some(false), &satisfiable(&solved.answer))?;
+            others += usize::from(solved.used() != book);
+            Ok(())
+        });
+    }
+    group.case("most are others", || {
+        let most = stored.len() >= FEWEST && 4 * others > 3 * stored.len();
+        demand(most, &format!("{others} of {} differ", stored.len()))
+    });
+    group.finish(sums);
 }
