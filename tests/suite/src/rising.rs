@@ -15,7 +15,7 @@ const CASES: usize = 20_000;
 
 /// How often another book, another sheet, a verdict now alone and a verdict then alone came.
 type Tally = [usize; 4];
-const LEAST: Tally = [1_000, 500, 100, 1];
+const LEAST: Tally = [2_000, 1_000, 200, 10];
 /// The fewest stored books.
 const FEWEST: usize = 30;
 

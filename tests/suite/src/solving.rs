@@ -126,11 +126,12 @@ fn solve_random(sums: &mut Sums) {
     group.finish(sums);
 }
 
-/// Small ones, large amounts, many lines, many links, damaged ones.
+/// Small ones, large amounts, many figures, many lines, many links, damaged ones.
 pub fn question(random: &mut Random) -> Vec<u8> {
     let mut question = match random.between(0, 99) {
         0 => many_lines(random).encode(),
         1..=9 => random.dense_problem(6).encode(),
+        10..=24 => random.sparse_problem().encode(),
         _ => random.problem().encode(),
     };
     if random.once_in(10) {
