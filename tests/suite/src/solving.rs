@@ -115,7 +115,7 @@ fn solve_random(sums: &mut Sums) {
             Ok(())
         });
     }
-    let near = ["Agrees", "Cannot", "14", "15"].map(|answer| format!("{answer} with 1,000 lines"));
+    let near = ["Agrees", "Cannot", "14"].map(|answer| format!("{answer} with 1,000 lines"));
     let all = ["Agrees", "Cannot", "Unwritten", "4", "13", "14", "15"].map(str::to_string);
     for kind in all.iter().chain(&near) {
         let count = seen.get(kind).copied().unwrap_or(0);
