@@ -1,6 +1,6 @@
-//! Questions as long as they may be, and the one with the largest run known. The long ones have 256
-//! clauses of three constraints in eight figures, and are read without fault, since no clause keeps
-//! two constraints.
+//! Questions as long as they may be, the one with the largest run known, and one at the limit of
+//! lines. The long ones have 256 clauses of three constraints in eight figures, and are read
+//! without fault, since no clause keeps two constraints.
 
 use crate::problem::{at_most, below, no, yes, Problem, Term};
 
@@ -36,6 +36,20 @@ pub fn run(more: Option<i32>) -> Problem {
     let lowers = both(20).map(|j| at_most(&[-1, j], 0));
     uppers
         .chain(lowers)
+        .fold(Problem::new(0, 2), |problem, term| problem.clause([term]))
+}
+
+/// x + y ≤ 100i for i from the count of uppers down to 1, -y ≤ -j for j from 0 to 39, -x ≤ 1,000
+/// less k for k from 0 to 40. y costs less than x and goes first, and then 23 uppers take all 1,024
+/// lines, and 24 a line too many; in rising order 23 do. No clause or result is weaker than an
+/// earlier one.
+pub fn limit(uppers: i32) -> Problem {
+    let uppers = (1..=uppers).rev().map(|i| at_most(&[1, 1], 100 * i));
+    let of_y = (0..40).map(|j| at_most(&[0, -1], -j));
+    let of_x = (0..41).map(|k| at_most(&[-1], 1_000 - k));
+    uppers
+        .chain(of_y)
+        .chain(of_x)
         .fold(Problem::new(0, 2), |problem, term| problem.clause([term]))
 }
 

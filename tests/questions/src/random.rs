@@ -43,6 +43,45 @@ impl Random {
         problem
     }
 
+    /// A problem of two to eight figures and at most four marks, each constraint with at most three of
+    /// the figures; one in ten has more clauses than twenty.
+    pub fn sparse_problem(&mut self) -> Problem {
+        let mut problem = Problem::new(self.between(0, 4) as u8, self.between(2, 8) as u8);
+        let size = match self.between(0, 7) {
+            0 => 30_000,
+            1 => 1_000,
+            _ => 3,
+        };
+        let clauses = match self.once_in(10) {
+            true => self.between(21, 40),
+            false => self.between(4, 20),
+        };
+        for _ in 0..clauses {
+            let mut terms = Vec::new();
+            if problem.booleans > 0 && self.once_in(3) {
+                terms.push(self.literal(problem.booleans));
+            }
+            for _ in 0..1 + i64::from(self.once_in(12)) {
+                terms.push(self.sparse_constraint(problem.rationals, size));
+            }
+            problem.clauses.push(terms);
+        }
+        problem
+    }
+
+    fn sparse_constraint(&mut self, rationals: u8, size: i64) -> Term {
+        let mut coefficients = vec![0; usize::from(rationals)];
+        for _ in 0..self.between(1, 3) {
+            let place = self.between(0, i64::from(rationals) - 1) as usize;
+            coefficients[place] = self.between(-size, size) as i32;
+        }
+        Term::Constraint {
+            strict: self.once_in(4),
+            coefficients,
+            bound: self.between(-2 * size, 4 * size) as i32,
+        }
+    }
+
     /// A problem up to every limit but for its number of clauses, which is at most this; one amount
     /// in four is at its limit, and one constraint in twelve has no coefficient.
     pub fn dense_problem(&mut self, clauses: i64) -> Problem {

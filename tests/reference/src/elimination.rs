@@ -1,9 +1,10 @@
 //! The elimination: loading, then one round for every figure and every mark, each pairing the
 //! lines with it positive and the lines with it negative, after the published rules of Davis and
-//! Putnam and of Fourier and Motzkin. 01's "The book" and "The course".
+//! Putnam and of Fourier and Motzkin. 01's "The book" and "The course", with the figures in the
+//! order of 02's (vii), "Cheapest figure first".
 
 use crate::normalize::{normalize, split, Body};
-use crate::problem::{Constraint, Literals, Problem, Relation, MAX_AMOUNT};
+use crate::problem::{Constraint, Literals, Problem, Relation, MAX_AMOUNT, MAX_RATIONALS};
 use std::collections::HashSet;
 
 pub const MAX_STEPS: usize = 1_024;
@@ -48,22 +49,15 @@ pub enum End {
     OutOfSteps,
 }
 
-/// A course that has ended: the lines it holds and the pairs it has tried.
+/// A course that has ended: the lines it holds, the pairs it has tried, and what each turn it came
+/// to has taken.
 pub struct Elimination {
     pub steps: Vec<Step>,
     pub pairs: u64,
+    pub taken: Vec<Variable>,
     pub end: End,
     /// The lines once more, where a hash is asked for.
     bodies: Option<HashSet<Body>>,
-}
-
-/// The figure or mark of a turn; none from turn 40 on.
-pub fn round_variable(round: usize) -> Option<Variable> {
-    match round {
-        0..=7 => Some(Variable::Rational(round)),
-        8..=39 => Some(Variable::Boolean(round - 8)),
-        _ => None,
-    }
 }
 
 impl Body {
@@ -92,11 +86,10 @@ impl Body {
         }
     }
 
-    /// The turn the line belongs to: the earliest whose variable it contains. An empty line
-    /// belongs to none.
-    pub fn round(&self) -> Option<usize> {
-        (0..ROUNDS)
-            .find(|&round| round_variable(round).map_or(false, |variable| self.sign(variable) != 0))
+    /// The turn the line belongs to: the earliest of those taken whose variable it contains. None
+    /// if it contains none of them; an empty line never does.
+    pub fn round(&self, taken: &[Variable]) -> Option<usize> {
+        taken.iter().position(|&variable| self.sign(variable) != 0)
     }
 }
 
@@ -186,25 +179,34 @@ pub enum Search {
     Hashed,
 }
 
+/// Which of the remaining figures a turn takes: the cheapest, by 02's (vii), or the one with the
+/// lowest number, as it was before.
+#[derive(Clone, Copy, Debug, PartialEq, Eq)]
+pub enum Order {
+    Cheapest,
+    Rising,
+}
+
 /// Runs the course of a problem to its end.
-pub fn eliminate(problem: &Problem, search: Search) -> Elimination {
+pub fn eliminate(problem: &Problem, order: Order, search: Search) -> Elimination {
     let mut elimination = Elimination {
         steps: Vec::new(),
         pairs: 0,
+        taken: Vec::new(),
         end: End::Saturated,
         bodies: match search {
             Search::Plain => None,
             Search::Hashed => Some(HashSet::new()),
         },
     };
-    if let Err(end) = elimination.run(problem) {
+    if let Err(end) = elimination.run(problem, order) {
         elimination.end = end;
     }
     elimination
 }
 
 impl Elimination {
-    fn run(&mut self, problem: &Problem) -> Result<(), End> {
+    fn run(&mut self, problem: &Problem, order: Order) -> Result<(), End> {
         for part in split(problem) {
             let origin = Origin::Loaded {
                 clause: part.clause,
@@ -212,17 +214,15 @@ impl Elimination {
             };
             self.add(origin, part.body)?;
         }
-        (0..ROUNDS).try_for_each(|round| self.round(round))
+        (0..ROUNDS).try_for_each(|_| self.round(problem.rationals, order))
     }
 
     /// Pairs the turn's lines; no result belongs to the turn, so these are known at its start.
-    fn round(&mut self, round: usize) -> Result<(), End> {
-        let variable = match round_variable(round) {
-            Some(variable) => variable,
-            None => return Ok(()),
-        };
-        let uppers = self.members(round, variable, 1);
-        let lowers = self.members(round, variable, -1);
+    fn round(&mut self, rationals: usize, order: Order) -> Result<(), End> {
+        let variable = self.next(rationals, order);
+        let uppers = self.members(variable, 1);
+        let lowers = self.members(variable, -1);
+        self.taken.push(variable);
         for &first in &uppers {
             for &second in &lowers {
                 self.pair(variable, first, second)?;
@@ -231,9 +231,35 @@ impl Elimination {
         Ok(())
     }
 
-    /// The numbers of the turn's lines with its variable in this sign.
-    fn members(&self, round: usize, variable: Variable, sign: i64) -> Vec<usize> {
-        let belongs = |body: &Body| body.round() == Some(round) && body.sign(variable) == sign;
+    /// What the next turn takes. Figures that the question does not have are in no line; they come
+    /// behind its own, so that the marks' turns stay 8 to 39.
+    fn next(&self, rationals: usize, order: Order) -> Variable {
+        let own = (0..rationals).map(Variable::Rational);
+        let mut remaining = own.filter(|figure| !self.taken.contains(figure));
+        let figure = match order {
+            // Of several with the least cost this gives the first.
+            Order::Cheapest => remaining.min_by_key(|&figure| self.cost(figure)),
+            Order::Rising => remaining.next(),
+        };
+        match (figure, self.taken.len()) {
+            (Some(figure), _) => figure,
+            (None, turn) if turn < MAX_RATIONALS => Variable::Rational(turn),
+            (None, turn) => Variable::Boolean(turn - MAX_RATIONALS),
+        }
+    }
+
+    /// U × L - U - L, the pairs less the lines. It is signed: one upper alone costs -1, a figure in
+    /// no line 0.
+    fn cost(&self, figure: Variable) -> i64 {
+        let count = |sign| self.members(figure, sign).len() as i64;
+        let (uppers, lowers) = (count(1), count(-1));
+        uppers * lowers - uppers - lowers
+    }
+
+    /// The numbers of the lines that contain nothing already taken, and this in this sign.
+    fn members(&self, variable: Variable, sign: i64) -> Vec<usize> {
+        let belongs =
+            |body: &Body| body.round(&self.taken).is_none() && body.sign(variable) == sign;
         (0..self.steps.len())
             .filter(|&number| belongs(&self.steps[number].body))
             .collect()

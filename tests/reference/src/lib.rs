@@ -1,5 +1,6 @@
-//! The second solver: document 01 written once more, in plain Rust and from its text alone, to
-//! judge the proved one from outside. Every call here takes any bytes and buffers of any length.
+//! The second solver: document 01 with 02's request (vii), written once more, in plain Rust and
+//! from their text alone, to judge the proved one from outside. Every call here takes any bytes and
+//! buffers of any length.
 
 pub mod big;
 mod checker;
@@ -12,7 +13,7 @@ mod print;
 mod problem;
 
 pub use checker::{check_book, check_sheet, Checked};
-pub use elimination::Search;
+pub use elimination::{Order, Search};
 pub use evidence::{hand_back, Part};
 pub use print::print;
 pub use problem::{read, Fault, Problem};
@@ -45,11 +46,20 @@ pub enum Answer {
 
 /// Solves a question; book and sheet are left as 01's "What each call says" has them.
 pub fn solve(question: &[u8], book: &mut [u8], sheet: &mut [u8]) -> Answer {
-    solve_by(Search::Plain, question, book, sheet)
+    run(Order::Cheapest, Search::Plain, question, book, sheet)
 }
 
 /// The same, with a choice how equal lines are looked for.
 pub fn solve_by(search: Search, question: &[u8], book: &mut [u8], sheet: &mut [u8]) -> Answer {
+    run(Order::Cheapest, search, question, book, sheet)
+}
+
+/// The same, with a choice which figures go first: in rising order, as before 02's (vii), too.
+pub fn solve_in(order: Order, question: &[u8], book: &mut [u8], sheet: &mut [u8]) -> Answer {
+    run(order, Search::Plain, question, book, sheet)
+}
+
+fn run(order: Order, search: Search, question: &[u8], book: &mut [u8], sheet: &mut [u8]) -> Answer {
     let refused = |number, place| Answer::Refused {
         number,
         place,
@@ -62,7 +72,10 @@ pub fn solve_by(search: Search, question: &[u8], book: &mut [u8], sheet: &mut [u
         return refused(2, 0);
     }
     match read(question) {
-        Ok(problem) => answer(&problem, &eliminate(&problem, search), book, sheet),
+        Ok(problem) => {
+            let course = eliminate(&problem, order, search);
+            answer(&problem, &course, book, sheet)
+        }
         Err(Fault { number, place }) => refused(number, place),
     }
 }
@@ -70,7 +83,7 @@ pub fn solve_by(search: Search, question: &[u8], book: &mut [u8], sheet: &mut [u
 /// The answer after the course, written into full-size buffers.
 fn answer(problem: &Problem, course: &Elimination, book: &mut [u8], sheet: &mut [u8]) -> Answer {
     let found = match course.end {
-        End::Saturated => model(problem, &course.steps),
+        End::Saturated => model(problem, course),
         End::Empty => None,
         End::Overflow => return refuse(14, course, book),
         End::OutOfSteps => return refuse(15, course, book),

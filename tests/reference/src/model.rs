@@ -1,8 +1,8 @@
 //! The model of a saturated proof: the turns are walked backwards, each giving its mark or
-//! figure a value by the value rule. 01's "The sheet".
+//! figure a value by the value rule. 01's "The sheet", and the order that 02's (vii) has taken.
 
 use crate::big::Big;
-use crate::elimination::{round_variable, Step, Variable, ROUNDS};
+use crate::elimination::{Elimination, Step, Variable};
 use crate::fraction::Fraction;
 use crate::problem::{Constraint, Literals, Problem, Relation, MAX_AMOUNT, MAX_RATIONALS};
 use std::cmp::Ordering;
@@ -22,8 +22,8 @@ struct Limit {
 }
 
 /// The sheet's 64 bytes, or none for "unwritten".
-pub fn model(problem: &Problem, steps: &[Step]) -> Option<[u8; MODEL_LENGTH]> {
-    let assignment = walk(steps)?;
+pub fn model(problem: &Problem, course: &Elimination) -> Option<[u8; MODEL_LENGTH]> {
+    let assignment = walk(course)?;
     let values = &assignment.rationals[..problem.rationals];
     let denominator = common_denominator(values);
     let numerators = values
@@ -60,22 +60,22 @@ fn numerator_over(value: &Fraction, denominator: &Big) -> Big {
 }
 
 /// Walks the turns backwards; none once a gathered bound or value is beyond the limit.
-fn walk(steps: &[Step]) -> Option<Assignment> {
+fn walk(course: &Elimination) -> Option<Assignment> {
     let mut assignment = Assignment {
         booleans: 0,
         rationals: std::array::from_fn(|_| Fraction::from(0)),
     };
-    for round in (0..ROUNDS).rev() {
-        let own = |step: &&Step| step.body.round() == Some(round);
-        let members: Vec<&Step> = steps.iter().filter(own).collect();
-        match round_variable(round) {
-            Some(Variable::Rational(i)) => {
+    for (round, &variable) in course.taken.iter().enumerate().rev() {
+        let own = |step: &&Step| step.body.round(&course.taken) == Some(round);
+        let members: Vec<&Step> = course.steps.iter().filter(own).collect();
+        match variable {
+            Variable::Rational(i) => {
                 assignment.rationals[i] = rational_value(i, &members, &assignment)?;
             }
-            Some(Variable::Boolean(i)) if is_forced(i, &members, &assignment) => {
+            Variable::Boolean(i) if is_forced(i, &members, &assignment) => {
                 assignment.booleans |= 1 << i;
             }
-            _ => {}
+            Variable::Boolean(_) => {}
         }
     }
     Some(assignment)

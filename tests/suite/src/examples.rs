@@ -1,18 +1,20 @@
-//! Examples 1 to 12 of document 01, each variant, with all that 01 states of them; and what the
-//! program prints for some.
+//! Examples 1 to 12 of document 01, each variant, with all that 01 states of them, and what 02's
+//! (vii) states of the last; a pair at the limit of lines in its place; and what the program prints
+//! for some.
 
 use crate::buffers::{read_sheet, solve_filled, Solved};
 use crate::report::{equal, Group, Outcome, Sums};
 use crate::solver::Solver;
+use questions::largest;
 use questions::problem::{at_most, below, no, yes, Problem};
 use reference::{print, Answer, Checked, Verdict};
 
-/// An example and what 01 states of it.
+/// An example and what is stated of it.
 struct Example {
     name: &'static str,
     problem: Problem,
     answer: Answer,
-    /// The marks and figures, where 01 names them.
+    /// The marks and figures, where they are stated.
     values: Option<Values>,
 }
 
@@ -133,7 +135,7 @@ fn examples_1_to_6() -> Vec<Example> {
 
 fn examples_7_to_12() -> Vec<Example> {
     let unwritten = verdict(Verdict::Unwritten, 2, 0);
-    let full = refused(15, 1_024, 960);
+    let figures_12 = &[(39, 1), (61, 1)];
     vec![
         example("example 7", example_7(-4), cannot(5, 2)),
         example("example 7, -y at most -3", example_7(-3), agrees(4, 2))
@@ -143,22 +145,36 @@ fn examples_7_to_12() -> Vec<Example> {
         example("example 10", example_10(3), refused(14, 2, 1)),
         example("example 10, y for 3y", example_10(1), agrees(3, 1)),
         example("example 11", example_11(), unwritten),
-        example("example 12", example_12(24), agrees(1_024, 960)).with(&[], &[(39, 1), (61, 1)]),
-        example("example 12, i = 25 too", example_12(25), full),
+        example("example 12", example_12(24), agrees(64, 0)).with(&[], figures_12),
+        example("example 12, i = 25 too", example_12(25), agrees(65, 0)).with(&[], figures_12),
     ]
+}
+
+/// "the testers make a new pair at the limit": each figure gets its greatest lower, x before y.
+fn at_the_limit() -> Vec<Example> {
+    let full = refused(15, 1_024, 920);
+    vec![
+        example("at the limit", largest::limit(23), agrees(1_024, 38_640))
+            .with(&[], &[(-960, 1), (39, 1)]),
+        example("at the limit, one upper more", largest::limit(24), full),
+    ]
+}
+
+fn examples() -> impl Iterator<Item = Example> {
+    let document = examples_1_to_6().into_iter().chain(examples_7_to_12());
+    document.chain(at_the_limit())
 }
 
 /// The examples' questions, with their answers.
 pub fn questions() -> Vec<(&'static str, Vec<u8>, Answer)> {
-    let examples = examples_1_to_6().into_iter().chain(examples_7_to_12());
     let question = |example: Example| (example.name, example.problem.encode(), example.answer);
-    examples.map(question).collect()
+    examples().map(question).collect()
 }
 
 /// Runs the examples.
 pub fn run(solver: Solver, sums: &mut Sums) {
     let mut group = solver.group("examples 1 to 12");
-    for example in examples_1_to_6().into_iter().chain(examples_7_to_12()) {
+    for example in examples() {
         group.case(example.name, || check_example(solver, &example));
     }
     group.finish(sums);
@@ -215,6 +231,15 @@ fn check_values(problem: &Problem, solved: &Solved, values: &Values) -> Outcome 
 /// Compares what is printed.
 pub fn run_printed(sums: &mut Sums) {
     let book_7 = "cannot 5 2\nlines 5\n0 0 0 0\n0 0 1 0\n0 0 2 0\n1 0 0 1\n1 1 3 2\n";
+    // y from lines 0 and 1 gives x ≤ 6, which line 3 contradicts.
+    let book_of_y =
+        "cannot 7 5\nlines 7\n0 0 0 0\n0 0 1 0\n0 0 2 0\n0 0 3 0\n0 0 4 0\n1 1 0 1\n1 0 5 3\n";
+    let y_first = Problem::new(0, 2)
+        .clause([at_most(&[1, 1], 10)])
+        .clause([at_most(&[0, -1], -4)])
+        .clause([at_most(&[-1], -1)])
+        .clause([at_most(&[-1], -7)])
+        .clause([at_most(&[1], 9)]);
     let book_8 = "cannot 3 1\nlines 3\n0 0 0 0\n0 0 1 0\n2 0 0 1\n";
     let marks = Problem::new(2, 2)
         .clause([yes(0)])
@@ -228,6 +253,7 @@ pub fn run_printed(sums: &mut Sums) {
             "agrees 2 1\nmarks 0\nfigures 1\n9 2\n",
         ),
         ("example 7", example_7(-4), book_7),
+        ("the cheapest figure first", y_first, book_of_y),
         ("by a mark", example_8(), book_8),
         (
             "marks",
@@ -238,7 +264,7 @@ pub fn run_printed(sums: &mut Sums) {
         ("unwritten", example_11(), "unwritten 2 0\n"),
         ("a fault", Problem::new(17, 0), "refused 5 0 0\n"),
         ("wide", example_10(3), "refused 14 2 1\n"),
-        ("full", example_12(25), "refused 15 1024 960\n"),
+        ("full", largest::limit(24), "refused 15 1024 920\n"),
     ];
     let mut group = Group::new("printed output");
     for (name, problem, expected) in cases {

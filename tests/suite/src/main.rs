@@ -13,6 +13,7 @@ mod lengths;
 mod program;
 mod reading;
 mod report;
+mod rising;
 mod solver;
 mod solving;
 mod vectors;
@@ -35,6 +36,7 @@ fn main() -> ExitCode {
     reading::run(&mut sums);
     checks::run(&mut sums);
     solving::run(&mut sums);
+    rising::run(&mut sums);
     program::run(&mut sums);
     println!("{} passed, {} failed", sums.passed, sums.failed);
     match sums.failed {

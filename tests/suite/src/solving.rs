@@ -12,6 +12,8 @@ use std::collections::BTreeMap;
 
 const SEED: u64 = 7;
 const RANDOM: usize = 200_000;
+/// How often each kind of answer must come at least.
+const OFTEN: usize = 20;
 const LENGTHS: [usize; 8] = [0, 1, 63, 64, 65, 65_535, 65_536, 65_600];
 
 pub fn run(sums: &mut Sums) {
@@ -44,7 +46,7 @@ fn compare_lengths(question: &[u8], book: usize, sheet: usize, fill: u8) -> Resu
 }
 
 /// What is handed back after a verdict is accepted by the proved checks.
-fn check_part(question: &[u8], answer: &Answer, part: Part) -> Outcome {
+pub fn check_part(question: &[u8], answer: &Answer, part: Part) -> Outcome {
     let checked = match (answer, part) {
         (
             Answer::Verdict {
@@ -91,7 +93,7 @@ fn solve_examples(sums: &mut Sums) {
     group.finish(sums);
 }
 
-/// Random questions of all kinds. Each answer must come.
+/// Random questions of all kinds. Each answer must come, near the limit of lines too.
 fn solve_random(sums: &mut Sums) {
     let mut group = Group::new("solving: random questions");
     let mut random = Random::new(SEED);
@@ -99,28 +101,37 @@ fn solve_random(sums: &mut Sums) {
     for number in 0..RANDOM {
         let question = question(&mut random);
         group.case(&format!("number {number}"), || {
-            let answer = match compare(&question, number as u8)? {
-                Answer::Verdict { verdict, .. } => format!("{verdict:?}"),
-                Answer::Refused { number, .. } => number.to_string(),
+            let (answer, lines) = match compare(&question, number as u8)? {
+                Answer::Verdict { verdict, lines, .. } => (format!("{verdict:?}"), lines),
+                Answer::Refused { number, place, .. } if number >= 14 => {
+                    (number.to_string(), place)
+                }
+                Answer::Refused { number, .. } => (number.to_string(), 0),
             };
-            *seen.entry(answer).or_insert(0_usize) += 1;
+            let near = (lines >= 1_000).then(|| format!("{answer} with 1,000 lines"));
+            for kind in near.into_iter().chain([answer]) {
+                *seen.entry(kind).or_insert(0_usize) += 1;
+            }
             Ok(())
         });
     }
-    for answer in ["Agrees", "Cannot", "Unwritten", "4", "13", "14", "15"] {
-        let count = seen.get(answer).copied().unwrap_or(0);
-        group.case(answer, || {
-            demand(count >= 20, &format!("came {count} times only"))
+    let near = ["Agrees", "Cannot", "14"].map(|answer| format!("{answer} with 1,000 lines"));
+    let all = ["Agrees", "Cannot", "Unwritten", "4", "13", "14", "15"].map(str::to_string);
+    for kind in all.iter().chain(&near) {
+        let count = seen.get(kind).copied().unwrap_or(0);
+        group.case(kind, || {
+            demand(count >= OFTEN, &format!("came {count} times only"))
         });
     }
     group.finish(sums);
 }
 
-/// Small ones, large amounts, many lines, many links, damaged ones.
-fn question(random: &mut Random) -> Vec<u8> {
+/// Small ones, large amounts, many figures, many lines, many links, damaged ones.
+pub fn question(random: &mut Random) -> Vec<u8> {
     let mut question = match random.between(0, 99) {
         0 => many_lines(random).encode(),
         1..=9 => random.dense_problem(6).encode(),
+        10..=24 => random.sparse_problem().encode(),
         _ => random.problem().encode(),
     };
     if random.once_in(10) {
@@ -133,19 +144,32 @@ fn question(random: &mut Random) -> Vec<u8> {
     question
 }
 
-/// Uppers and lowers whose pairs all differ, near the 1,024 lines.
+/// Near the 1,024 lines: uppers and lowers of one figure whose pairs mostly differ, and lowers of
+/// another, which make it the costlier one and contradict no result or the first; or the last upper
+/// gives a wide one.
 fn many_lines(random: &mut Random) -> Problem {
-    let (uppers, lowers) = (random.between(20, 34), random.between(20, 34));
-    let mut problem = Problem::new(0, 2);
-    for i in 1..=uppers {
-        problem = problem.clause([at_most(
-            &[1, 1 + random.between(0, 1) as i32],
-            100 * i as i32,
-        )]);
+    let cheap = random.between(0, 2) as usize;
+    let costly = (cheap + random.between(1, 2) as usize) % 3;
+    let term = |of_cheap: i32, of_costly: i32, bound: i32| {
+        let mut row = [0; 3];
+        row[cheap] = of_cheap;
+        row[costly] = of_costly;
+        vec![at_most(&row, bound)]
+    };
+    let uppers = random.between(20, 44) as i32;
+    // All clauses and pairs are (uppers + 2) × (lowers + 1) - 1 lines.
+    let lowers = 1_025 / (uppers + 2) - 1 + random.between(-1, 2) as i32;
+    let most = [1_000, -1_000_000][random.between(0, 1) as usize];
+    let mut problem = Problem::new(0, 3);
+    let clauses = &mut problem.clauses;
+    for i in (1..=uppers).rev() {
+        clauses.push(term(1, 1 + random.between(0, 1) as i32, 100 * i));
     }
-    for j in 0..lowers {
-        problem = problem.clause([at_most(&[-1], -(j as i32))]);
+    if random.once_in(4) {
+        clauses.push(term(1, 3, 1_000_000_000));
     }
+    clauses.extend((0..lowers).map(|j| term(-1, 0, 1 - j)));
+    clauses.extend((0..=lowers).map(|k| term(0, -1, most - k)));
     problem
 }
 
