@@ -2,12 +2,15 @@
 
 use jemuling::{
     check_book, check_sheet, hand_back, solve, Answer, Checked, Part, Refusal, Verdict, BOOK_BYTES,
-    SHEET_BYTES,
+    LINE_BYTES, SHEET_BYTES,
 };
-use notation::{decode, explain_book, explain_sheet, show_clause, Failure, Names, Question};
+use notation::{
+    decode, explain_book, explain_order, explain_sheet, show_clause, Failure, Names, Question,
+};
 
-/// Solves a question: its clauses, the answer, the sheet or the book line by line, and what the
-/// check says of it. A question at fault is refused before the names are asked for.
+/// Solves a question: its clauses, the answer, the order in which the figures were taken, the sheet
+/// or the book line by line, and what the check says of it. A question at fault is refused before
+/// the names are asked for.
 pub fn explain(
     bytes: &[u8],
     names: impl Fn(&Question) -> Result<Names, Failure>,
@@ -20,6 +23,10 @@ pub fn explain(
     }
     let question = decode(bytes).map_err(Failure::Said)?;
     let names = names(&question)?;
+    let order = match solved.answer {
+        Answer::Verdict(_, lines) => explain_order(&question, &book[..lines * LINE_BYTES], &names),
+        Answer::Refused(_) => String::new(),
+    };
     let shown = match (solved.answer, hand_back(solved.answer, &book, &sheet)) {
         (Answer::Verdict(Verdict::Agrees, _), Part::Sheet(sheet)) => {
             let checked = checked(check_sheet(bytes, sheet), "sheet");
@@ -32,7 +39,8 @@ pub fn explain(
         _ => Ok(String::new()),
     };
     let shown = shown.map_err(Failure::Said)?;
-    Ok(format!("{}{said}\n{shown}", clauses(&question, &names)))
+    let clauses = clauses(&question, &names);
+    Ok(format!("{clauses}{said}\n{order}{shown}"))
 }
 
 fn clauses(question: &Question, names: &Names) -> String {

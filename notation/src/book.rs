@@ -4,7 +4,8 @@ use crate::names::Names;
 use crate::question::{Clause, Condition, Literal, Question, Relation, FIGURES};
 use crate::show::show_clause;
 
-const LINE: usize = 64;
+/// The bytes of a line.
+pub const LINE: usize = 64;
 
 /// The first lines of a book, all whole ones if no count is given.
 pub fn explain_book(
@@ -114,6 +115,7 @@ fn half(bytes: &[u8], at: usize) -> usize {
     usize::from(u16::from_le_bytes([bytes[at], bytes[at + 1]]))
 }
 
-fn word(bytes: &[u8], at: usize) -> i32 {
+/// Four bytes as a signed number.
+pub fn word(bytes: &[u8], at: usize) -> i32 {
     i32::from_le_bytes([bytes[at], bytes[at + 1], bytes[at + 2], bytes[at + 3]])
 }

@@ -52,7 +52,7 @@ fn one_to_nine_are_those_of_the_c_tests() {
 }
 
 #[test]
-fn they_are_answered_as_the_paper_says() {
+fn they_are_answered_as_the_papers_say() {
     let answers = [
         ("example_01", "agrees 0 0"),
         ("example_02", "cannot 1 0"),
@@ -67,10 +67,10 @@ fn they_are_answered_as_the_paper_says() {
         ("example_10", "refused 14 2 1"),
         ("example_10_variant", "agrees 3 1"),
         ("example_11", "unwritten 2 0"),
-        ("example_12", "agrees 1024 960"),
-        ("example_12_variant", "refused 15 1024 960"),
-        ("payment", "agrees 38 42"),
-        ("payment_missing", "cannot 30 30"),
+        ("example_12", "agrees 64 0"),
+        ("example_12_variant", "agrees 65 0"),
+        ("payment", "agrees 32 32"),
+        ("payment_missing", "cannot 28 28"),
     ];
     assert_eq!(answers.len(), texts().len());
     for (name, answer) in answers {
