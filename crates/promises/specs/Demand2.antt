@@ -3,7 +3,7 @@ use mathlib.Core.Path.{_≡_}
 use mathlib.Core.Logic.{_↔_}
 use mathlib.Core.List.{List, []}
 use mathlib.Core.Option.{some}
-use Prim.Native.Nat.{ℕ, _+_, _-_, _≤_}
+use Prim.Native.Nat.{ℕ, _+_, _-_, _≤_, _<_}
 use lib.Dec.{T}
 use lib.ListN.{length, getElem?, take}
 use Rattle.rules_types.specs.declared.answers.Checked.the-variants.{Accepted}
@@ -16,7 +16,8 @@ use Rattle.rules.specs.Lines.{Line, Variable}
 use Rattle.rules.specs.Split.{partsOf, splitsOf}
 use Rattle.rules.specs.Resolve.{resolve}
 use Rattle.rules.specs.Steps.{Step}
-use Rattle.rules.specs.Elimination.{Stops, State, orderOf, drops, covered, roundPairs, loadableOf, elimination}
+use Rattle.rules.specs.Elimination.{Stops, State, running, orderAfter, orderOf, drops, covered, roundPairs, loadableOf}
+use Rattle.rules.specs.Elimination.{chosenRun, elimination}
 use Rattle.rules.specs.Needs.{stepsOf}
 use Rattle.rules.specs.Calls.{sound, read, solve, proofChecked, modelChecked, evidence}
 use Rattle.theory_lists.specs.All.{All, Any}
@@ -32,6 +33,8 @@ use Rattle.theory_splitting.specs.Count.{splits-number}
 use Rattle.theory_splitting.specs.Reading.{posed-well-formed}
 use Rattle.theory_elimination.specs.Sound.{Sound}
 use Rattle.theory_elimination.specs.Origins.{Each, Justified, Fresh, Distinct}
+use Rattle.theory_elimination.specs.Chosen.{IsRunning, order-kept}
+use Rattle.theory_elimination.specs.Cheapest.{Cheapest, beforeRound, problem-cheapest}
 use Rattle.theory_elimination.specs.InOrder.{InOrder, round-in-order}
 use Rattle.theory_elimination.specs.Exactly.{Exactly}
 use Rattle.theory_elimination.specs.Loaded.{AllLoaded}
@@ -66,6 +69,11 @@ pub record Demand2 (edition : ℕ) (input : List ℕ) (p : Problem) : Type 0 whe
   -- the words of that: a round for each variable, "turns 0 to 7 belong to the figures and 8 to 39 to the marks"; the order of a round's
   -- pairs; which line an earlier one drops; every part before the end is loaded
   pub rounds : Ordered (orderOf p)
+  -- (vii): "At each figure turn take the remaining figure with the least U × L - U - L", of the lines held where the elimination comes to the
+  -- turn, with or without limits; and "the order taken is kept with the run", which walks back in it where it ends without an empty line
+  pub cheapest : (stops : Stops) (t : ℕ) → t < p .rationals → (steps : List Step) (n : ℕ)
+      → beforeRound stops p t ≡ running steps n → Cheapest (p .rationals) (orderOf p) t steps
+  pub kept : (stops : Stops) → IsRunning (elimination stops p) → orderAfter (chosenRun stops p .taken) ≡ orderOf p
   pub inOrder : (v : Variable) (t : ℕ) (steps : List Step) → InOrder (orderOf p) v t steps (roundPairs (orderOf p) v t steps)
   pub dropping : (earlier l : Line) → T (drops earlier l) ↔ (earlier ≡ l)
   pub covering : (l : Line) (steps : List Step) → T (covered l steps) ↔ Any (λ s. T (drops (s .line) l)) steps
@@ -90,6 +98,8 @@ demand2 edition input q e = let p = inEdition edition q in record {
   exactly = elimination-is p;
   only = elimination-only p;
   rounds = problem-ordered p (posed-well-formed edition input q e .rationals);
+  cheapest = λ stops. problem-cheapest stops p;
+  kept = λ stops. order-kept stops p;
   inOrder = round-in-order (orderOf p);
   dropping = drops-exactly;
   covering = covered-exactly;

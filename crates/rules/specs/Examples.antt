@@ -1,13 +1,15 @@
--- Document 01's starred examples 1 to 10, each variant, computed from the problem's bytes.
+-- Document 01's starred examples 1 to 10, each variant, and questions that tell readings of request (vii) apart, computed from the problem's
+-- bytes.
 use mathlib.Core.Path.{_≡_, refl}
 use mathlib.Core.Bool.{false}
-use mathlib.Core.List.{List, [], _∷_, map}
-use Prim.Native.Nat.{ℕ}
-use lib.IntN.{pos, negsuc}
+use mathlib.Core.List.{List, [], _∷_, _++_, map}
+use Prim.Native.Nat.{ℕ, _+_, _*_}
+use lib.IntN.{ℤ, pos, negsuc, negℤ}
 use Rattle.rules_types.specs.declared.answers.Refusal.the-variants as refusal
 use Rattle.rules_types.specs.declared.answers.Answer.the-variants.{Refused}
 use Rattle.rules.specs.Lines.{rational, boolean}
-use Rattle.rules.specs.Steps.{loaded, resolved}
+use Rattle.rules.specs.Lists.{tabulate}
+use Rattle.rules.specs.Steps.{Origin, loaded, resolved}
 use Rattle.rules_types.specs.Terms.{standard}
 use Rattle.rules.specs.Print.{ascii, printed}
 use Rattle.rules.specs.Write.{atMost, below, clauseOf, alone, problemOf}
@@ -108,8 +110,114 @@ tenWithY =
       shows = satisfiable 3 1 (loaded 0 0 ∷ loaded 1 0 ∷ resolved (rational 0) 0 1 ∷ []) [] (pos 0 ∷ pos 0 ∷ pos 0 ∷ []) 1;
     }
 
+-- ---- request (vii): the order of the rational variables, where the starred examples would let a wrong reading pass
+abbrev xy : ℤ → ℤ → ℤ → List ℕ
+xy x y bound = alone (atMost (x ∷ y ∷ []) bound)
+
+abbrev xyz : ℤ → ℤ → ℤ → ℤ → List ℕ
+xyz x y z bound = alone (atMost (x ∷ y ∷ z ∷ []) bound)
+
+abbrev minus : ℤ
+minus = negsuc 0
+
+-- these clauses are the lines
+abbrev loadedOnly : ℕ → List Origin
+loadedOnly n = tabulate n (λ c. loaded c 0)
+
+-- "among the lines without a figure already taken": -y + z ≤ 0; -x - z ≤ 0; y ≤ 3; z ≤ 2. All cost -1, so x goes first; then z costs -2, as
+-- -x - z ≤ 0 counts no more, and goes before y
+abbrev untaken : Example
+untaken =
+    record {
+      input = problemOf 0 3 (xyz (pos 0) minus (pos 1) (pos 0) ∷ xyz minus (pos 0) minus (pos 0) ∷ xyz (pos 0) (pos 1) (pos 0) (pos 3)
+          ∷ xyz (pos 0) (pos 0) (pos 1) (pos 2) ∷ []);
+      shows = satisfiable 4 0 (loadedOnly 4) [] (negsuc 1 ∷ pos 3 ∷ pos 2 ∷ []) 1;
+    }
+
+-- "U × L - U - L", not U × L: x + y ≤ 5; -x ≤ -1. Both cost -1, so x goes first, and its pair is tried
+abbrev notTheProduct : Example
+notTheProduct =
+    record {
+      input = problemOf 0 2 (xy (pos 1) (pos 1) (pos 5) ∷ xy minus (pos 0) minus ∷ []);
+      shows = satisfiable 3 1 (loaded 0 0 ∷ loaded 1 0 ∷ resolved (rational 0) 0 1 ∷ []) [] (pos 1 ∷ pos 4 ∷ []) 1;
+    }
+
+-- below 0, too: x + y ≤ 5; x ≤ 6; -x ≤ 0; -x ≤ -1. x costs 0 and y -1, so y goes first
+abbrev belowZero : Example
+belowZero =
+    record {
+      input = problemOf 0 2 (xy (pos 1) (pos 1) (pos 5) ∷ xy (pos 1) (pos 0) (pos 6) ∷ xy minus (pos 0) (pos 0) ∷ xy minus (pos 0) minus ∷ []);
+      shows = satisfiable 4 2 (loadedOnly 4) [] (pos 1 ∷ pos 4 ∷ []) 1;
+    }
+
+-- and below 0 is the cheaper: y ≤ 2; -y ≤ -1; x - y ≤ 0; y ≤ 3. x costs -1 and y 0
+abbrev belowZeroIsLess : Example
+belowZeroIsLess =
+    record {
+      input = problemOf 0 2 (xy (pos 0) (pos 1) (pos 2) ∷ xy (pos 0) minus minus ∷ xy (pos 1) minus (pos 0) ∷ xy (pos 0) (pos 1) (pos 3) ∷ []);
+      shows = satisfiable 4 2 (loadedOnly 4) [] (pos 1 ∷ pos 1 ∷ []) 1;
+    }
+
+-- "At each figure turn", not once: -z ≤ -1; -x + z ≤ 0; y ≤ 3; -y - z ≤ 0. All cost -1, so x goes first; then z costs -2 and y -1
+abbrev eachRound : Example
+eachRound =
+    record {
+      input = problemOf 0 3 (xyz (pos 0) (pos 0) minus minus ∷ xyz minus (pos 0) (pos 1) (pos 0) ∷ xyz (pos 0) (pos 1) (pos 0) (pos 3)
+          ∷ xyz (pos 0) minus minus (pos 0) ∷ []);
+      shows = satisfiable 4 0 (loadedOnly 4) [] (pos 1 ∷ pos 3 ∷ pos 1 ∷ []) 1;
+    }
+
+-- results count as well: x - y ≤ 1; -x - z ≤ 1; z ≤ 2. Behind x, -y - z ≤ 2 makes y and z cost -1 each, and y goes before z
+abbrev withResults : Example
+withResults =
+    record {
+      input = problemOf 0 3 (xyz (pos 1) minus (pos 0) (pos 1) ∷ xyz minus (pos 0) minus (pos 1) ∷ xyz (pos 0) (pos 0) (pos 1) (pos 2) ∷ []);
+      shows = satisfiable 4 1 (loaded 0 0 ∷ loaded 1 0 ∷ loaded 2 0 ∷ resolved (rational 0) 0 1 ∷ []) [] (negsuc 2 ∷ negsuc 3 ∷ pos 2 ∷ []) 1;
+    }
+
+-- "ties to the lower number": x + y ≤ 1. x goes first, so the walk sets it last
+abbrev ties : Example
+ties = record {
+  input = problemOf 0 2 (xy (pos 1) (pos 1) (pos 1) ∷ []);
+  shows = satisfiable 1 0 (loadedOnly 1) [] (pos 1 ∷ pos 0 ∷ []) 1;
+}
+
+-- "a line belongs to the earliest turn in that order", and the walk goes backwards in it: x ≤ -1; -x + y ≤ 0; y ≤ 0. y goes first
+abbrev walkedBack : Example
+walkedBack =
+    record {
+      input = problemOf 0 2 (xy (pos 1) (pos 0) minus ∷ xy minus (pos 1) (pos 0) ∷ xy (pos 0) (pos 1) (pos 0) ∷ []);
+      shows = satisfiable 3 0 (loadedOnly 3) [] (minus ∷ minus ∷ []) 1;
+    }
+
+abbrev walkedBackInIt : Example
+walkedBackInIt =
+    record {
+      input = problemOf 0 2 (xy (pos 1) minus (pos 0) ∷ xy (pos 0) minus minus ∷ []);
+      shows = satisfiable 2 0 (loadedOnly 2) [] (pos 0 ∷ pos 1 ∷ []) 1;
+    }
+
+-- a book names the figure, not its turn: y ≤ -1; -y ≤ 0. y costs -1 and x, which stands in no line, 0
+abbrev named : Example
+named =
+    record {
+      input = problemOf 0 2 (xy (pos 0) (pos 1) minus ∷ xy (pos 0) minus (pos 0) ∷ []);
+      shows = unsatisfiable 3 1 (loaded 0 0 ∷ loaded 1 0 ∷ resolved (rational 1) 0 1 ∷ []);
+    }
+
+-- 12. x + y ≤ 100i for i from 1 to 24; -x ≤ -j for j from 0 to 39: with request (vii) agrees, 64, 0, x = 39, y = 61; with i = 25 too, 65, 0.
+abbrev twelve : ℕ → Example
+twelve n =
+    record {
+      input = problemOf 0 2 (tabulate n (λ i. xy (pos 1) (pos 1) (pos (100 * (i + 1)))) ++ tabulate 40 (λ j. xy minus (pos 0) (negℤ (pos j))));
+      shows = satisfiable (n + 40) 0 (loadedOnly (n + 40)) [] (pos 39 ∷ pos 61 ∷ []) 1;
+    }
+
 abbrev table : List Example
-table = one ∷ two ∷ three ∷ four ∷ five ∷ six ∷ seven ∷ sevenWithThree ∷ eight ∷ nine ∷ ten ∷ tenWithY ∷ []
+table =
+    one ∷ two ∷ three ∷ four ∷ five ∷ six ∷ seven ∷ sevenWithThree ∷ eight ∷ nine ∷ ten ∷ tenWithY
+    ∷ untaken ∷ notTheProduct ∷ belowZero ∷ belowZeroIsLess ∷ eachRound ∷ withResults ∷ ties ∷ walkedBack ∷ walkedBackInIt ∷ named
+    ∷ twelve 24 ∷ twelve 25 ∷ []
 
 -- the tabled result
 pub starred : map (λ e. shown (e .input)) table ≡ map (λ e. e .shows) table

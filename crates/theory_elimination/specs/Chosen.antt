@@ -80,7 +80,7 @@ pub record Extends (taken longer : List ℕ) : Type 0 where
   pub more : List ℕ
   pub is : longer ≡ taken ++ more
 
-extends-self : (taken : List ℕ) → Extends taken taken
+pub extends-self : (taken : List ℕ) → Extends taken taken
 extends-self taken = record { more = []; is = sym (append-nil taken) }
 
 extends-next : (taken longer : List ℕ) (f : ℕ) → Extends (taken ++ (f ∷ [])) longer → Extends taken longer
@@ -107,7 +107,7 @@ after-begins taken longer e =
           ∙ append-assoc (map rational taken) (map rational (e .more ++ behind)) marks;
     }
 
-begins-shorter : (taken longer : List ℕ) (variables : List Variable) → Extends taken longer → Begins longer variables → Begins taken variables
+pub begins-shorter : (taken longer : List ℕ) (variables : List Variable) → Extends taken longer → Begins longer variables → Begins taken variables
 begins-shorter taken longer variables e b = record {
   rest = map rational (e .more) ++ b .rest;
   is = b .is ∙ ap (λ (l : List ℕ). map rational l ++ b .rest) (e .is)
@@ -116,7 +116,7 @@ begins-shorter taken longer variables e b = record {
 }
 
 module _ (taken : List ℕ) (f : ℕ) (variables : List Variable) (b : Begins (taken ++ (f ∷ [])) variables) where
-  next-is : variables ≡ map rational taken ++ (rational f ∷ b .rest)
+  pub next-is : variables ≡ map rational taken ++ (rational f ∷ b .rest)
   next-is = b .is ∙ ap (λ (l : List Variable). l ++ b .rest) (map-append rational taken (f ∷ []))
       ∙ append-assoc (map rational taken) (rational f ∷ []) (b .rest)
 

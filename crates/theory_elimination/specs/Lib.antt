@@ -6,6 +6,7 @@ pub mod Induction
 pub mod WithinLimits
 pub mod Stopped
 pub mod Chosen
+pub mod Cheapest
 pub mod Resolvents
 pub mod Prefix
 pub mod Longer

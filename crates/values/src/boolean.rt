@@ -31,7 +31,7 @@ fn without_boolean(line: Line, i: usize) -> Line
     rest
 }
 
-// A line of the variable's round makes it yes.
+// A line of the variable's round makes it yes. The variable is asked for first: few lines have it.
 fn forces(line: Line, order: Order, i: usize, model: Model) -> bool
     requires { ⌜ Ordered (variablesOf order) ⌝ }
     requires { ⌜ i < allBooleans ⌝ }
@@ -39,10 +39,10 @@ fn forces(line: Line, order: Order, i: usize, model: Model) -> bool
     requires { ⌜ InRange model ⌝ }
     ensures { λ t. ⌜ t ≡ forces (variablesOf order) (assignment model) i (meaning line) ⌝ }
 {
-    if line.round(order) != boolean_round(i) {
+    if !line.has_positive_boolean(i) {
         return false;
     }
-    if !line.has_positive_boolean(i) {
+    if line.round(order) != boolean_round(i) {
         return false;
     }
     let rest = without_boolean(line, i);
