@@ -74,7 +74,8 @@ module _ (side : Variable → rules.Line → Bool) (taken : List ℕ) where
   unfolding count filter one
   count-next steps s f =
       ap length (filter-append (counts f) steps (s ∷ []))
-      ∙ length-append (filter (counts f) steps) (filter (counts f) (s ∷ [])) ∙ ap (λ (n : ℕ). length (filter (counts f) steps) + n) (by (counts f s))
+      ∙ length-append (filter (counts f) steps) (filter (counts f) (s ∷ []))
+      ∙ ap (λ (n : ℕ). length (filter (counts f) steps) + n) (by (counts f s))
     where
       by : (b : Bool) → length {A = Step} (elim b [ true ↦ s ∷ [] | false ↦ [] ]) ≡ one b
       by true = refl
@@ -129,8 +130,8 @@ module _ (taken : List ℕ) (proof : List ℕ) where
   unfolding stepsIn
   next-step i = tabulate-snoc i (λ k. stepFrom (stepAt proof k))
 
-  count-at : (side : Variable → rules.Line → Bool) (i f : ℕ) → count side taken (stepsIn proof (suc i)) f
-      ≡ count side taken (stepsIn proof i) f + one (without taken (meaning (lineAt proof i)) && side (rational f) (meaning (lineAt proof i)))
+  count-at : (side : Variable → rules.Line → Bool) (i f : ℕ) → let m = meaning (lineAt proof i) in
+      count side taken (stepsIn proof (suc i)) f ≡ count side taken (stepsIn proof i) f + one (without taken m && side (rational f) m)
   unfolding stepFrom lineAt
   count-at side i f =
       ap (λ (ss : List Step). count side taken ss f) (next-step i)
@@ -154,7 +155,8 @@ module _ (taken : List ℕ) (proof : List ℕ) where
   counted-past i c w h f l =
       let m = meaning (lineAt proof i) in
       let next : (side : Variable → rules.Line → Bool) → count side taken (stepsIn proof (suc i)) f ≡ count side taken (stepsIn proof i) f =
-      (λ side. count-at side i f ∙ ap (λ (b : Bool). count side taken (stepsIn proof i) f + one (b && side (rational f) m)) w ∙ omega arith) in
+      (λ side. count-at side i f
+      ∙ ap (λ (b : Bool). count side taken (stepsIn proof i) f + one (b && side (rational f) m)) w ∙ omega arith) in
       (h f l .0 ∙ sym (next positively), h f l .1 ∙ sym (next negatively))
 
   pub counted-within : (i : ℕ) (c : Counts) → Counted taken (stepsIn proof i) c → Within i c

@@ -69,8 +69,8 @@ pub record Demand2 (edition : ℕ) (input : List ℕ) (p : Problem) : Type 0 whe
   -- the words of that: a round for each variable, "turns 0 to 7 belong to the figures and 8 to 39 to the marks"; the order of a round's
   -- pairs; which line an earlier one drops; every part before the end is loaded
   pub rounds : Ordered (orderOf p)
-  -- (vii): "At each figure turn take the remaining figure with the least U × L - U - L", of the lines held where the elimination comes to the
-  -- turn, with or without limits; and "the order taken is kept with the run", which walks back in it where it ends without an empty line
+  -- (vii): "At each figure turn take the remaining figure with the least U × L - U - L", of the lines held where the elimination comes to
+  -- the turn, with or without limits; and "the order taken is kept with the run", for the walk where it ends without an empty line
   pub cheapest : (stops : Stops) (t : ℕ) → t < p .rationals → (steps : List Step) (n : ℕ)
       → beforeRound stops p t ≡ running steps n → Cheapest (p .rationals) (orderOf p) t steps
   pub kept : (stops : Stops) → IsRunning (elimination stops p) → orderAfter (chosenRun stops p .taken) ≡ orderOf p

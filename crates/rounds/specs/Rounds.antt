@@ -13,8 +13,8 @@ use Rattle.rules_types.specs.Limits as limit
 use Rattle.rules.specs.Lines as rules
 use Rattle.rules.specs.Lines.{rational}
 use Rattle.rules.specs.Steps.{Step}
-use Rattle.rules.specs.Elimination.{State, running, empty, overflow, outOfSteps, Run, limited, orderBy, orderAfter, rationalsAfter, remaining}
-use Rattle.rules.specs.Elimination.{pick, roundPairs, tryAll, chosenRounds, otherRounds}
+use Rattle.rules.specs.Elimination.{State, running, empty, overflow, outOfSteps, Run, limited, orderBy, remaining, rationalsAfter}
+use Rattle.rules.specs.Elimination.{orderAfter, pick, roundPairs, tryAll, chosenRounds, otherRounds}
 use Rattle.theory_lists.specs.Tests.{split}
 use Rattle.theory_lists.specs.Places.{place-below}
 use Rattle.theory_saturation.specs.Rounds.{At, at-unique, at-drop}
@@ -115,7 +115,8 @@ module _ (r : ℕ) (small : r ≤ limit.rationals) {limits : Limits} {start : Li
         let d = by (p .progress) g (at .ahead) in
         record { reaches = record { is = d .0; leads = at .leads }; order-is = at .took .is ∙ ap rationalsAfter (d .1) }
       where
-        by : (x : Progress) → isRunning x ≡ false → Ahead (limited limits) r whole (at .taken) t (stateOf x (stepsIn proof (p .steps)) (p .pairs))
+        by : (x : Progress) → isRunning x ≡ false
+            → Ahead (limited limits) r whole (at .taken) t (stateOf x (stepsIn proof (p .steps)) (p .pairs))
             → (stateOf x (stepsIn proof (p .steps)) (p .pairs) ≡ otherRounds (limited limits) r whole) × (at .taken ≡ whole .taken)
         by Running g a = absurd (let z : _≡_ {A = ℕ} 0 1 = cc in omega arith)
         by Empty g a = ahead-ended (limited limits) r whole (at .taken) t empty (stepsIn proof (p .steps)) (p .pairs) a
@@ -146,8 +147,10 @@ module _ (r : ℕ) (small : r ≤ limit.rationals) {limits : Limits} {start : Li
           let next = at .taken ++ (f ∷ []) in
           let rest = remaining limit.rationals next in
           let here : getD (o .rationals) t 0 ≡ f =
-          ap (λ (fs : List ℕ). getD fs t 0) (is ∙ append-assoc (at .taken) (f ∷ []) rest) ∙ getD-at (at .taken) f rest 0 t (taken-so-many h) in
-          let long : length (o .rationals) ≡ limit.rationals = ap length is ∙ after-count next (taken-more r limit.rationals next small apart) in
+          ap (λ (fs : List ℕ). getD fs t 0) (is ∙ append-assoc (at .taken) (f ∷ []) rest)
+          ∙ getD-at (at .taken) f rest 0 t (taken-so-many h) in
+          let long : length (o .rationals) ≡ limit.rationals =
+          ap length is ∙ after-count next (taken-more r limit.rationals next small apart) in
           subst (λ (g : ℕ). At (orderBy (o .rationals)) t (rational g)) here (rational-at (o .rationals) t (omega (arith, long)))
 
       chosen-here : t < r → Chose
@@ -157,7 +160,8 @@ module _ (r : ℕ) (small : r ≤ limit.rationals) {limits : Limits} {start : Li
           let next = at .taken ++ (f ∷ []) in
           let is : o .rationals ≡ rationalsAfter next = for .0 h
           ∙ ap (λ (taken : List ℕ). rationalsAfter (taken ++ (pick r taken steps ∷ []))) (front h) in
-          let k : Took r next o = record { is = is; apart = taken-next r (at .taken) steps (at .took .apart) (omega (arith, taken-so-many h)) } in
+          let apart = taken-next r (at .taken) steps (at .took .apart) (omega (arith, taken-so-many h)) in
+          let k : Took r next o = record { is = is; apart = apart } in
           record {
             taken = next;
             took = k;

@@ -22,10 +22,11 @@ use Rattle.rules.specs.Normalize.{membersOf, reduced, settled, settledAl
 use Rattle.rules.specs.Split.{chain, parts, partsOf, splitsOf, overSplit}
 use Rattle.rules.specs.Resolve.{combination, combinationOf, oneOf, resolvent, resolve}
 use Rattle.rules.specs.Steps.{Origin, header, headerBytes, relationByte, mask, row, lineBytes, encodeStep, encodeProof}
-use Rattle.rules.specs.Elimination.{orderBy, remaining, rationalsAfter, orderAfter, roundOf, overflows, limited, unlimited, placed, drops, covered}
-use Rattle.rules.specs.Elimination.{select, pairUp, sideOf, roundPairs, partSteps, loadable, loadableOf, add, load, tried, tryAll}
-use Rattle.rules.specs.Elimination.{without, count, costOf, cost, cheapest, pick, rounds, eliminate, chosenRounds, otherRounds, chosenRun}
-use Rattle.rules.specs.Elimination.{elimination, orderOf}
+use Rattle.rules.specs.Elimination.{orderBy, remaining, rationalsAfter, orderAfter, roundOf, overflows, limited, unlimited}
+use Rattle.rules.specs.Elimination.{placed, drops, covered, select, pairUp, sideOf, roundPairs, partSteps, loadable, loadableOf}
+use Rattle.rules.specs.Elimination.{add, load, tried, tryAll}
+use Rattle.rules.specs.Elimination.{without, count, costOf, cost, cheapest, pick, rounds, eliminate, chosenRounds}
+use Rattle.rules.specs.Elimination.{otherRounds, chosenRun, elimination, orderOf}
 use Rattle.rules.specs.Values.{reduce, quotient, less, midpoint, plus, beyond, tighter, value, boundOf, boundsOf, gather, tightest}
 use Rattle.rules.specs.Values.{rationalValue, withoutBoolean, booleanValue, withRational, withBoolean, assign, exceeds, start}
 use Rattle.rules.specs.Values.{walkFrom, walk}
@@ -45,15 +46,16 @@ unfolding any all filter concat same tabulate put gcdWithin gcd gcdAll lcm sum s
     constraint clause end problem literalHolds constraintHolds clauseHolds noBooleans including excluding union meet someYes aLiteralHolds
     theConstraintHolds lineHolds coefficient positively negatively contains noConstraint isEmpty sameConstraint sameLine membersOf reduced
     settled settledAll normalClause settledLine normalLine chain parts partsOf splitsOf overSplit combination combinationOf oneOf
-    resolvent resolve header headerBytes relationByte mask row lineBytes encodeStep encodeProof orderBy remaining rationalsAfter orderAfter roundOf
-    overflows limited unlimited placed drops covered select pairUp sideOf roundPairs partSteps loadable loadableOf add load tried tryAll
-    without count costOf cost cheapest pick rounds eliminate chosenRounds otherRounds chosenRun elimination orderOf reduce quotient less midpoint plus beyond tighter value boundOf boundsOf gather tightest rationalValue
-    withoutBoolean booleanValue withRational withBoolean assign exceeds start walkFrom walk booleanByte encodeModel tooLarge written model
-    pairable derived variableNamed resolventNamed lineAmong statedLine followed followedLines endsEmpty withEmptyEnd checkProof
-    checkClauses withinSplits read noModel concluded outcome lent said proofAfter modelAfter solve wholeSteps proofChecked modelChecked
-    evidence evidenceBytes ascii digitsWithin decimal signedDecimal printLine printStep printProof printModel printRefusal printed stepsOf
-    pairsOf needs listed triedResolvents roundResolvents resolvents refusalNumber verdictNumber answerNumber answerValue checkedNumber
-    checkedValue evidenceNumber evidenceLength
+    resolvent resolve header headerBytes relationByte mask row lineBytes encodeStep encodeProof orderBy remaining rationalsAfter
+    orderAfter roundOf overflows limited unlimited placed drops covered select pairUp sideOf roundPairs partSteps loadable loadableOf add
+    load tried tryAll without count costOf cost cheapest pick rounds eliminate chosenRounds otherRounds chosenRun elimination orderOf
+    reduce quotient less midpoint plus beyond tighter value boundOf boundsOf gather tightest rationalValue withoutBoolean booleanValue
+    withRational withBoolean assign exceeds start walkFrom walk booleanByte encodeModel tooLarge written model pairable derived
+    variableNamed resolventNamed lineAmong statedLine followed followedLines endsEmpty withEmptyEnd checkProof checkClauses withinSplits
+    read noModel concluded outcome lent said proofAfter modelAfter solve wholeSteps proofChecked modelChecked evidence evidenceBytes ascii
+    digitsWithin decimal signedDecimal printLine printStep printProof printModel printRefusal printed stepsOf pairsOf needs listed
+    triedResolvents roundResolvents resolvents refusalNumber verdictNumber answerNumber answerValue checkedNumber checkedValue
+    evidenceNumber evidenceLength
 definitions = tt
 
 -- the answer with its pairs; the lines' origins; and the model's booleans, numerators and denominator (0 without a model)

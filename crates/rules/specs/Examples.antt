@@ -1,5 +1,5 @@
--- Document 01's starred examples 1 to 10, each variant, and questions that tell readings of request (vii) apart, computed from the problem's
--- bytes.
+-- Document 01's starred examples 1 to 10, each variant, and questions that tell readings of request (vii) apart, computed from the
+-- problem's bytes.
 use mathlib.Core.Path.{_≡_, refl}
 use mathlib.Core.Bool.{false}
 use mathlib.Core.List.{List, [], _∷_, _++_, map}
@@ -146,7 +146,8 @@ notTheProduct =
 abbrev belowZero : Example
 belowZero =
     record {
-      input = problemOf 0 2 (xy (pos 1) (pos 1) (pos 5) ∷ xy (pos 1) (pos 0) (pos 6) ∷ xy minus (pos 0) (pos 0) ∷ xy minus (pos 0) minus ∷ []);
+      input = problemOf 0 2
+          (xy (pos 1) (pos 1) (pos 5) ∷ xy (pos 1) (pos 0) (pos 6) ∷ xy minus (pos 0) (pos 0) ∷ xy minus (pos 0) minus ∷ []);
       shows = satisfiable 4 2 (loadedOnly 4) [] (pos 1 ∷ pos 4 ∷ []) 1;
     }
 
@@ -154,7 +155,8 @@ belowZero =
 abbrev belowZeroIsLess : Example
 belowZeroIsLess =
     record {
-      input = problemOf 0 2 (xy (pos 0) (pos 1) (pos 2) ∷ xy (pos 0) minus minus ∷ xy (pos 1) minus (pos 0) ∷ xy (pos 0) (pos 1) (pos 3) ∷ []);
+      input = problemOf 0 2
+          (xy (pos 0) (pos 1) (pos 2) ∷ xy (pos 0) minus minus ∷ xy (pos 1) minus (pos 0) ∷ xy (pos 0) (pos 1) (pos 3) ∷ []);
       shows = satisfiable 4 2 (loadedOnly 4) [] (pos 1 ∷ pos 1 ∷ []) 1;
     }
 
@@ -171,8 +173,10 @@ eachRound =
 abbrev withResults : Example
 withResults =
     record {
-      input = problemOf 0 3 (xyz (pos 1) minus (pos 0) (pos 1) ∷ xyz minus (pos 0) minus (pos 1) ∷ xyz (pos 0) (pos 0) (pos 1) (pos 2) ∷ []);
-      shows = satisfiable 4 1 (loaded 0 0 ∷ loaded 1 0 ∷ loaded 2 0 ∷ resolved (rational 0) 0 1 ∷ []) [] (negsuc 2 ∷ negsuc 3 ∷ pos 2 ∷ []) 1;
+      input = problemOf 0 3
+          (xyz (pos 1) minus (pos 0) (pos 1) ∷ xyz minus (pos 0) minus (pos 1) ∷ xyz (pos 0) (pos 0) (pos 1) (pos 2) ∷ []);
+      shows = satisfiable 4 1 (loaded 0 0 ∷ loaded 1 0 ∷ loaded 2 0 ∷ resolved (rational 0) 0 1 ∷ []) []
+          (negsuc 2 ∷ negsuc 3 ∷ pos 2 ∷ []) 1;
     }
 
 -- "ties to the lower number": x + y ≤ 1. x goes first, so the walk sets it last
@@ -205,11 +209,13 @@ named =
       shows = unsatisfiable 3 1 (loaded 0 0 ∷ loaded 1 0 ∷ resolved (rational 1) 0 1 ∷ []);
     }
 
--- 12. x + y ≤ 100i for i from 1 to 24; -x ≤ -j for j from 0 to 39: with request (vii) agrees, 64, 0, x = 39, y = 61; with i = 25 too, 65, 0.
+-- 12. x + y ≤ 100i for i from 1 to 24; -x ≤ -j for j from 0 to 39. With request (vii): agrees, 64, 0, x = 39, y = 61; with i = 25 too,
+-- 65, 0
 abbrev twelve : ℕ → Example
 twelve n =
     record {
-      input = problemOf 0 2 (tabulate n (λ i. xy (pos 1) (pos 1) (pos (100 * (i + 1)))) ++ tabulate 40 (λ j. xy minus (pos 0) (negℤ (pos j))));
+      input = problemOf 0 2
+          (tabulate n (λ i. xy (pos 1) (pos 1) (pos (100 * (i + 1)))) ++ tabulate 40 (λ j. xy minus (pos 0) (negℤ (pos j))));
       shows = satisfiable (n + 40) 0 (loadedOnly (n + 40)) [] (pos 39 ∷ pos 61 ∷ []) 1;
     }
 

@@ -83,7 +83,8 @@ module _ (limits : Limits) (p : Problem) (w : WellFormed p) (few : limits .steps
         origins = subst (λ (state : State). Each (Justified (orderOf p) parts) [] (stepsOf state)) ordered
             (elimination-origins (orderOf p) parts (limited limits));
         pairs = each-pairable (problem-ordered p (w .rationals)) [] steps tt
-            (subst (λ (state : State). All (λ s. Sound (s .line)) (stepsOf state)) ordered (elimination-sound p w (limited limits) (orderOf p)));
+            (subst (λ (state : State). All (λ s. Sound (s .line)) (stepsOf state)) ordered
+            (elimination-sound p w (limited limits) (orderOf p)));
         few = omega (arith, held);
         last = subst EndsRight ordered (elimination-ends (limited limits) (orderOf p) parts);
       }

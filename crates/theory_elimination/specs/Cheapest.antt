@@ -23,10 +23,11 @@ use Rattle.theory_lists.specs.All.{All, all-any, all-map, any-yes}
 use Rattle.theory_lists.specs.Distinct.{Rising}
 use Rattle.theory_integers.specs.Order.{≤-refl, ≤-reflexive, ≤-trans, ≤-antisym, ≤-<-trans, <⇒≤, <⇒≢}
 use Rattle.theory_saturation.specs.Rounds.{At}
-use Rattle.theory_saturation.specs.Taken.{Taken, remaining-rising, remaining-all, remaining-has, remaining-count, pick-all, taken-next, none-taken}
+use Rattle.theory_saturation.specs.Taken.{Taken, remaining-rising, remaining-all, remaining-has, remaining-count, pick-all, none-taken}
+use Rattle.theory_saturation.specs.Taken.{taken-next}
 use Rattle.theory_elimination.specs.States.{rounds-ended}
-use Rattle.theory_elimination.specs.Chosen.{Extends, Begins, run-extends, begins-shorter, next-is, next-drop, next-pairs, after-begins}
-use Rattle.theory_elimination.specs.Chosen.{problem-follows, extends-self}
+use Rattle.theory_elimination.specs.Chosen.{Begins, extends-self, begins-shorter, after-begins, next-is, next-drop, next-pairs}
+use Rattle.theory_elimination.specs.Chosen.{run-extends, problem-follows}
 
 -- ---- no dearer than another, and of the same cost no higher
 pub record NoDearer (price : ℕ → ℤ) (f g : ℕ) : Type 0 where
@@ -34,7 +35,8 @@ pub record NoDearer (price : ℕ → ℤ) (f g : ℕ) : Type 0 where
   pub first : price f ≡ price g → f ≤ g
 
 module _ (price : ℕ → ℤ) where
-  cheapest-least : (f : ℕ) (fs : List ℕ) → Rising (f ∷ fs) → NoDearer price (cheapest price f fs) f × All (NoDearer price (cheapest price f fs)) fs
+  cheapest-least : (f : ℕ) (fs : List ℕ) → Rising (f ∷ fs)
+      → NoDearer price (cheapest price f fs) f × All (NoDearer price (cheapest price f fs)) fs
   unfolding cheapest
   cheapest-least f [] r = (record { least = ≤-refl (price f); first = λ e. omega arith }, tt)
   cheapest-least f (g ∷ gs) r =
@@ -90,7 +92,8 @@ module _ (r : ℕ) (variables : List Variable) where
       let is = next-is taken f variables b in
       record {
         taken = taken;
-        before = ap (take (length taken)) is ∙ take-at (map rational taken) (rational f ∷ b .rest) (length taken) (length-map taken rational);
+        before = ap (take (length taken)) is
+            ∙ take-at (map rational taken) (rational f ∷ b .rest) (length taken) (length-map taken rational);
         variable = f;
         place = subst⁻¹ (λ (vs : List Variable). At vs (length taken) (rational f)) is (at-behind taken f (b .rest));
         own = new .0;
@@ -142,7 +145,8 @@ module _ (r : ℕ) (variables : List Variable) where
         ∙ e in
         let more : length next + d ≡ t + suc d = omega (arith, long) in
         subst (λ (u : ℕ). Cheapest r variables u steps) more
-        (run-cheapest d k next state (taken-next r taken held apart (omega (arith, few))) (omega (arith, few, long)) (omega arith) b steps n on)
+        (run-cheapest d k next state (taken-next r taken held apart (omega (arith, few))) (omega (arith, few, long)) (omega arith) b steps n
+        on)
 
 -- ---- of a problem
 -- its elimination before round t

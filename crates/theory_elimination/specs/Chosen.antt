@@ -86,9 +86,6 @@ extends-self taken = record { more = []; is = sym (append-nil taken) }
 extends-next : (taken longer : List ℕ) (f : ℕ) → Extends (taken ++ (f ∷ [])) longer → Extends taken longer
 extends-next taken longer f e = record { more = f ∷ e .more; is = e .is ∙ append-assoc taken (f ∷ []) (e .more) }
 
-extends-trans : (a b c : List ℕ) → Extends a b → Extends b c → Extends a c
-extends-trans a b c e f = record { more = e .more ++ f .more; is = f .is ∙ ap (λ (l : List ℕ). l ++ f .more) (e .is) ∙ append-assoc a (e .more) (f .more) }
-
 -- an order whose first rounds are those of these rational variables
 pub record Begins (taken : List ℕ) (variables : List Variable) : Type 0 where
   pub rest : List Variable
@@ -107,7 +104,8 @@ after-begins taken longer e =
           ∙ append-assoc (map rational taken) (map rational (e .more ++ behind)) marks;
     }
 
-pub begins-shorter : (taken longer : List ℕ) (variables : List Variable) → Extends taken longer → Begins longer variables → Begins taken variables
+pub begins-shorter : (taken longer : List ℕ) (variables : List Variable) → Extends taken longer → Begins longer variables
+    → Begins taken variables
 begins-shorter taken longer variables e b = record {
   rest = map rational (e .more) ++ b .rest;
   is = b .is ∙ ap (λ (l : List ℕ). map rational l ++ b .rest) (e .is)
@@ -175,7 +173,8 @@ module _ (stops : Stops) (r : ℕ) where
       let long : length next ≡ suc t = omega (arith, length-append taken (f ∷ [])) in
       let more : length next + k ≡ t + suc k = omega (arith, long) in
       ap (λ (vs : List Variable). rounds stops variables t vs (running steps n)) (next-drop taken f variables begun)
-      ∙ ap (λ (ps : List Pair). rounds stops variables (suc t) (drop (suc t) variables) (tryAll stops (rational f) ps (running steps n))) same
+      ∙ ap (λ (ps : List Pair). rounds stops variables (suc t) (drop (suc t) variables)
+      (tryAll stops (rational f) ps (running steps n))) same
       ∙ ap (λ (u : ℕ). rounds stops variables u (drop u variables) state) (sym long)
       ∙ chosen-is k next state variables b
       ∙ ap (λ (u : ℕ). rounds stops variables u (drop u variables) (run .state)) more

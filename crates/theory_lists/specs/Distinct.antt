@@ -173,4 +173,5 @@ rising-distinct (a ∷ s) h = (none s (h .0), rising-distinct s (h .1))
   where
     none : (t : List ℕ) → All (λ m. a < m) t → T (not (any (eqb a) t))
     none [] f = tt
-    none (m ∷ t) f = let k : a < m = f .0 in nor (eqb a m) (any (eqb a) t) (no-eqb {a = a} {b = m} (λ e. absurd (omega (arith, e)))) (none t (f .1))
+    none (m ∷ t) f = let k : a < m = f .0 in
+        nor (eqb a m) (any (eqb a) t) (no-eqb {a = a} {b = m} (λ e. absurd (omega (arith, e)))) (none t (f .1))

@@ -14,8 +14,8 @@ use Rattle.rules.specs.Lists.{any, filter, tabulate}
 use Rattle.rules.specs.Problem.{Problem}
 use Rattle.rules.specs.Lines.{rational}
 use Rattle.rules.specs.Steps.{Step}
-use Rattle.rules.specs.Elimination.{Stops, State, running, ended, orderBy, remaining, rationalsAfter, orderAfter, cost, cheapest, pick, roundPairs, tryAll}
-use Rattle.rules.specs.Elimination.{unlimited, chosenRounds, loadableOf, load, chosenRun, orderOf}
+use Rattle.rules.specs.Elimination.{Stops, State, running, ended, orderBy, remaining, rationalsAfter, orderAfter, cost, cheapest, pick}
+use Rattle.rules.specs.Elimination.{roundPairs, tryAll, unlimited, chosenRounds, loadableOf, load, chosenRun, orderOf}
 use Rattle.theory_lists.specs.Tests.{split, or-l, or-r}
 use Rattle.theory_lists.specs.All.{All, all-append, all-map, filter-all, yes-any}
 use Rattle.theory_lists.specs.Tabulated.{length-tabulate, all-tabulate, any-tabulate}
@@ -139,9 +139,11 @@ rising-ordered = subst (λ (fs : List ℕ). Ordered (orderBy fs)) rising-after (
 cheapest-all : (P : ℕ → Type 0) (price : ℕ → ℤ) (f : ℕ) (fs : List ℕ) → P f → All P fs → P (cheapest price f fs)
 unfolding cheapest
 cheapest-all P price f [] h k = h
-cheapest-all P price f (g ∷ gs) h k = by (ltZ (price g) (price f)) (cheapest-all P price g gs (k .0) (k .1)) (cheapest-all P price f gs h (k .1))
+cheapest-all P price f (g ∷ gs) h k =
+    by (ltZ (price g) (price f)) (cheapest-all P price g gs (k .0) (k .1)) (cheapest-all P price f gs h (k .1))
   where
-    by : (b : Bool) → P (cheapest price g gs) → P (cheapest price f gs) → P (elim b [ true ↦ cheapest price g gs | false ↦ cheapest price f gs ])
+    by : (b : Bool) → P (cheapest price g gs) → P (cheapest price f gs)
+        → P (elim b [ true ↦ cheapest price g gs | false ↦ cheapest price f gs ])
     by true x y = x
     by false x y = y
 
@@ -156,7 +158,8 @@ pick-all P r taken steps = by (remaining r taken)
     by [] h k = absurd (omega arith)
     by (f ∷ fs) h k = cheapest-all P (cost taken steps) f fs (k .0) (k .1)
 
-pub taken-next : (r : ℕ) (taken : List ℕ) (steps : List Step) → Taken r taken → length taken < r → Taken r (taken ++ (pick r taken steps ∷ []))
+pub taken-next : (r : ℕ) (taken : List ℕ) (steps : List Step) → Taken r taken → length taken < r
+    → Taken r (taken ++ (pick r taken steps ∷ []))
 unfolding any
 taken-next r taken steps t h =
     let some-left : 0 < length (remaining r taken) = omega (arith, remaining-count r taken t) in

@@ -56,9 +56,12 @@ module _ (c : tie.After-counted Inv-loop μ-loop) where
   s = c .before .before
 
   abbrev price : ℕ → ℤ
-  price j = cost (take (s .args .t) (s .args .order .rationals)) (stepsIn (s .args .proof .now) (s .args .m)) (getD (s .args .order .rationals) j 0)
+  price j =
+      let fs = s .args .order .rationals in
+      cost (take (s .args .t) fs) (stepsIn (s .args .proof .now) (s .args .m)) (getD fs j 0)
 
-  priced : (j f : ℕ) (z : ℤ) → f ≡ getD (s .args .order .rationals) j 0 → f < limit.rationals → z ≡ costAt (c .counted .result) f → z ≡ price j
+  priced : (j f : ℕ) (z : ℤ) → f ≡ getD (s .args .order .rationals) j 0 → f < limit.rationals → z ≡ costAt (c .counted .result) f
+      → z ≡ price j
   priced j f z e k h =
       let taken = take (s .args .t) (s .args .order .rationals) in
       let steps = stepsIn (s .args .proof .now) (s .args .m) in
@@ -84,9 +87,11 @@ loop-holds c =
     let r = c .before in
     let k = r .before in
     let s = k .before .before in (
-      looked-first (s .args .order .rationals) (s .args .t) (s .pre .1 .1 .1 .1 .1) (row s) (s .args .r) (s .pre .1 .1 .0) (s .pre .1 .1 .1 .0)
+      looked-first (s .args .order .rationals) (s .args .t) (s .pre .1 .1 .1 .1 .1) (row s) (s .args .r) (s .pre .1 .1 .0)
+          (s .pre .1 .1 .1 .0)
           (s .pre .1 .1 .1 .1 .0) (stepsIn (s .args .proof .now) (s .args .m)),
-      ap (ofZ w64) (priced k (s .args .t) (r .rational .result) (c .cost .result) (r .rational .ensures .0) (r .rational .ensures .1) (c .cost .ensures)),
+      ap (ofZ w64) (priced k (s .args .t) (r .rational .result) (c .cost .result) (r .rational .ensures .0) (r .rational .ensures .1)
+          (c .cost .ensures)),
     )
 
 rational-requires-2 : tie.Need-rational-requires-2 Inv-loop μ-loop
@@ -114,12 +119,14 @@ module _ (c : tie.After-cost2 Inv-loop μ-loop) where
       let r = c .before .rational2 in
       priced tallied (at .loop .j) (r .result) (c .cost2 .result) (r .ensures .0) (r .ensures .1) (c .cost2 .ensures)
 
-  compared : ltZ (toZ w64 (ofZ w64 (c .cost2 .result))) (toZ w64 (at .loop .least)) ≡ ltZ (price tallied (at .loop .j)) (price tallied (at .loop .best))
+  compared : ltZ (toZ w64 (ofZ w64 (c .cost2 .result))) (toZ w64 (at .loop .least))
+      ≡ ltZ (price tallied (at .loop .j)) (price tallied (at .loop .best))
   compared =
       let s = tallied .before .before in
       let b = at .loop .best in
       let r = c .before .rational2 in
-      let ranged = rational-ranged (s .args .order) (row s) (ordered s) b (omega (arith, at .loop .inv .0 .before, at .loop .inv .0 .within)) in
+      let l = at .loop .inv .0 in
+      let ranged = rational-ranged (s .args .order) (row s) (ordered s) b (omega (arith, l .before, l .within)) in
       let one : toZ w64 (ofZ w64 (c .cost2 .result)) ≡ price tallied (at .loop .j) =
       ap (λ (z : ℤ). toZ w64 (ofZ w64 z)) here ∙ toZ-ofZ (fits tallied (at .loop .j) (r .result) (r .ensures .0) (r .ensures .1)) in
       let other : toZ w64 (at .loop .least) ≡ price tallied b =
@@ -166,7 +173,8 @@ returns c =
     let s = c .before .before .before .before .before .before .before in
     let e : l .j ≡ s .args .r = omega (arith, l .inv .0 .within) in
     c .moved .ensures
-    ∙ looked-last (s .args .order .rationals) (s .args .t) (s .pre .1 .1 .1 .1 .1) (row s) (s .args .r) (s .pre .1 .1 .0) (s .pre .1 .1 .1 .0)
+    ∙ looked-last (s .args .order .rationals) (s .args .t) (s .pre .1 .1 .1 .1 .1) (row s) (s .args .r) (s .pre .1 .1 .0)
+    (s .pre .1 .1 .1 .0)
     (s .pre .1 .1 .1 .1 .0) (stepsIn (s .args .proof .now) (s .args .m)) (l .best) (rw e at (l .inv .0))
 
 pub choose-spec : {M : Type 1} → statement M

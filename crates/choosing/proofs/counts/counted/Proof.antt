@@ -53,7 +53,8 @@ with-requires : tie.Need-with-requires Inv-loop μ-loop
 with-requires c κs =
     let l = c .before .before .before .before in
     let s = l .before .before in
-    let few = counted-within (take (s .args .t) (s .args .order .rationals)) (s .args .proof .now) (l .loop .i) (l .loop .counts) (l .loop .inv .1) in
+    let taken = take (s .args .t) (s .args .order .rationals) in
+    let few = counted-within taken (s .args .proof .now) (l .loop .i) (l .loop .counts) (l .loop .inv .1) in
     (shaped (c .before .before), λ f k. (omega (arith, few f k .0, s .pre .1 .0), omega (arith, few f k .1, s .pre .1 .0)))
 
 add-i : tie.Need-add-i Inv-loop μ-loop
@@ -64,11 +65,13 @@ loop-less c = search needs
 
 -- the line's round, and that of what it stands for
 line-round : (c : tie.After-round Inv-loop μ-loop) → let l = c .before .before .before in
-    c .round .result ≡ roundOf (orderBy (l .before .before .args .order .rationals)) (meaning (lineAt (l .before .before .args .proof .now) (l .loop .i)))
+    let a = l .before .before .args in
+    c .round .result ≡ roundOf (orderBy (a .order .rationals)) (meaning (lineAt (a .proof .now) (l .loop .i)))
 unfolding variablesOf
 line-round c =
     let l = c .before .before .before in
-    c .round .ensures ∙ ap (λ (line : Line). roundOf (orderBy (l .before .before .args .order .rationals)) (meaning line)) (c .before .line-at .ensures)
+    c .round .ensures
+    ∙ ap (λ (line : Line). roundOf (orderBy (l .before .before .args .order .rationals)) (meaning line)) (c .before .line-at .ensures)
 
 loop-again : tie.Need-loop-again Inv-loop μ-loop
 loop-again c =
@@ -97,8 +100,9 @@ returns c =
     let l = c .before .loop in
     let s = c .before .before .before in
     let e : l .i ≡ s .args .m = omega arith in
-    let all : Counted (take (s .args .t) (s .args .order .rationals)) (stepsIn (s .args .proof .now) (s .args .m)) (l .counts) = rw e at (l .inv .1) in
-    (counted-within (take (s .args .t) (s .args .order .rationals)) (s .args .proof .now) (s .args .m) (l .counts) all, all)
+    let taken = take (s .args .t) (s .args .order .rationals) in
+    let all : Counted taken (stepsIn (s .args .proof .now) (s .args .m)) (l .counts) = rw e at (l .inv .1) in
+    (counted-within taken (s .args .proof .now) (s .args .m) (l .counts) all, all)
 
 pub counted-spec : {M : Type 1} → statement M
 counted-spec =

@@ -104,9 +104,10 @@ returns-4 c =
     let f = c .before .before .before .before in
     let t = f .before .before .before in
     let k = t .before .before .before .before .before in
+    let order = k .eliminate .ensures .1 ∙ order-is (formed k) (k .eliminate .ensures .0) (t .enum-told4 .given .1) in
     rw (f .saturated .ensures .1)
     (leaves-saturated (formed k) (k .eliminate .ensures .0) (k .before .before .before .before .before .before .args .model .now) _ _
-    (t .enum-told4 .given .1) (rw (k .eliminate .ensures .1 ∙ order-is (formed k) (k .eliminate .ensures .0) (t .enum-told4 .given .1)) at (f .saturated .ensures .0)))
+    (t .enum-told4 .given .1) (rw order at (f .saturated .ensures .0)))
 
 pub decide-spec : {M : Type 1} → statement M
 decide-spec =

@@ -27,7 +27,8 @@ unfolding costAt costOf
 returns c =
     let s = c .before .before .before in
     let few = s .pre .1 (s .args .f) (s .pre .0) in
-    rw (c .cost-of .ensures) (toZ-ofZ (cost-fits (getD (s .args .t1 .uppers) (s .args .f) 0) (getD (s .args .t1 .lowers) (s .args .f) 0) (few .0) (few .1)))
+    rw (c .cost-of .ensures)
+    (toZ-ofZ (cost-fits (getD (s .args .t1 .uppers) (s .args .f) 0) (getD (s .args .t1 .lowers) (s .args .f) 0) (few .0) (few .1)))
 
 pub cost-spec : {M : Type 1} → statement M
 cost-spec =
