@@ -1,6 +1,6 @@
 -- Handing back, with the solver's own answer and what it left in the buffers: a part that is not empty is accepted. It follows from the
 -- demands and from what handing back does, whoever meets them.
-use mathlib.Core.Path.{_≡_, refl, sym, ap, _∙_, subst}
+use mathlib.Core.Path.{_≡_, refl, subst}
 use mathlib.Core.Logic.{_⊎_, inl, inr, ⊎-elim}
 use mathlib.Core.List.{List}
 use Prim.Native.Nat.{ℕ, _*_, _≤_}

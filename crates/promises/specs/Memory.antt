@@ -16,7 +16,7 @@ use Rattle.rules_types.specs.declared.terms.Terms.{Terms}
 use Rattle.rules_types.specs.Limits as limit
 use Rattle.rules.specs.Problem.{Problem, inEdition}
 use Rattle.rules.specs.Steps.{Step}
-use Rattle.rules.specs.Elimination.{limited, State, running, ended, empty, overflow, outOfSteps, orderOf, loadableOf, elimination}
+use Rattle.rules.specs.Elimination.{limited, State, running, ended, empty, overflow, outOfSteps, orderOf, elimination}
 use Rattle.rules.specs.Needs.{stepsOf}
 use Rattle.rules.specs.Values.{walk}
 use Rattle.rules.specs.Calls.{Reading, faulty, sound, Outcome, faulted, stopped, decided, read, noModel, concluded, lent, said, proofAfter}

@@ -8,7 +8,7 @@ use Rattle.rules.specs.Problem.{Problem}
 use Rattle.rules.specs.Meaning.{Assignment, Satisfies}
 use Rattle.rules.specs.Lines.{Line, Variable, lineHolds}
 use Rattle.rules.specs.Steps.{Step}
-use Rattle.rules.specs.Elimination.{Stops, orderOf, loadableOf, elimination}
+use Rattle.rules.specs.Elimination.{Stops, loadableOf, elimination}
 use Rattle.rules.specs.Needs.{stepsOf}
 use Rattle.theory_lists.specs.Tests.{clash}
 use Rattle.theory_lists.specs.All.{All, all-any, all-both, all-append, append-all}

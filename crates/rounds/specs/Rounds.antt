@@ -28,7 +28,7 @@ use Rattle.steps.specs.Held.{stepsIn}
 use Rattle.placing.specs.declared.point.Progress.{Progress}
 use Rattle.placing.specs.declared.point.Progress.the-variants.{Running, Empty, Overflow, OutOfSteps}
 use Rattle.placing.specs.declared.point.Point.{Point}
-use Rattle.placing.specs.Point.{stateOf, stateAt, Standing, Leads, leads-none, leads-trans, isRunning, ended-stays, Reaches}
+use Rattle.placing.specs.Point.{stateOf, stateAt, Standing, Leads, leads-none, leads-trans, isRunning, Reaches}
 use Rattle.rounds.specs.Round.{afterRound}
 use Rattle.rounds.specs.Ahead.{Ahead, ahead-start, ahead-chosen, ahead-other, ahead-ended, ahead-done}
 

@@ -3,14 +3,13 @@
 use mathlib.Core.Path.{_≡_, refl, sym, ap, _∙_, subst, subst⁻¹}
 use mathlib.Core.Bool.{Bool, true, false, not}
 use mathlib.Core.List.{List, [], _∷_, _++_, map}
-use mathlib.Core.Logic.{⊎-elim}
 use Prim.Native.Nat.{ℕ, zero, suc, _+_, _≤_, _<_}
 use native.Mathlib.Omega.{arith}
 use lib.IntN.{ℤ}
 use lib.Signed.{ltZ, _≤ℤ_, _<ℤ_, ltZ-yes, ltZ-no}
 use lib.Dec.{T, eqb}
 use lib.ListN.{length, length-append, length-map, take, drop}
-use lib.Seq.{take-at, take-suc, drop-cons}
+use lib.Seq.{take-at}
 use mir.Facts.{eqb-yes}
 use Rattle.rules.specs.Lists.{any}
 use Rattle.rules.specs.Problem.{Problem}
@@ -18,8 +17,8 @@ use Rattle.rules.specs.Lines.{Variable, rational}
 use Rattle.rules.specs.Steps.{Step}
 use Rattle.rules.specs.Elimination.{Stops, unlimited, State, running, ended, remaining, orderAfter, cost, cheapest, pick, Pair, roundPairs}
 use Rattle.rules.specs.Elimination.{tryAll, load, loadableOf, rounds, chosenRounds, chosenRun, orderOf}
-use Rattle.theory_lists.specs.Tests.{split, of-true, of-false}
-use Rattle.theory_lists.specs.All.{All, all-any, all-map, any-yes}
+use Rattle.theory_lists.specs.Tests.{of-true, of-false}
+use Rattle.theory_lists.specs.All.{All, all-any, any-yes}
 use Rattle.theory_lists.specs.Distinct.{Rising}
 use Rattle.theory_integers.specs.Order.{≤-refl, ≤-reflexive, ≤-trans, ≤-antisym, ≤-<-trans, <⇒≤, <⇒≢}
 use Rattle.theory_saturation.specs.Rounds.{At}

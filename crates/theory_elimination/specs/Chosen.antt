@@ -2,18 +2,18 @@
 -- under any stops it takes the order of the elimination without limits, as far as it comes.
 use mathlib.Core.Path.{_≡_, refl, sym, ap, _∙_, subst, subst⁻¹}
 use mathlib.Core.Bool.{Bool, true, false, _&&_, _||_}
-use mathlib.Core.Logic.{_⊎_, inl, inr, ⊎-elim}
+use mathlib.Core.Logic.{_⊎_, ⊎-elim}
 use mathlib.Core.List.{List, [], _∷_, _++_, map, append-assoc, append-nil}
 use Prim.Native.Nat.{ℕ, zero, suc, _+_}
 use native.Mathlib.Omega.{arith}
-use lib.Dec.{T, eqb}
+use lib.Dec.{eqb}
 use lib.ListN.{length, length-append, drop}
 use Rattle.rules.specs.Problem.{Problem}
 use Rattle.rules.specs.Lists.{tabulate}
 use Rattle.rules_types.specs.Limits as limit
 use Rattle.rules.specs.Lines.{Line, Variable, rational, boolean, positively, negatively, contains}
 use Rattle.rules.specs.Steps.{Step}
-use Rattle.rules.specs.Elimination.{Stops, unlimited, State, running, ended, empty, overflow, outOfSteps, Run, Numbered, Pair, roundOf}
+use Rattle.rules.specs.Elimination.{Stops, unlimited, State, running, ended, Run, Pair, roundOf}
 use Rattle.rules.specs.Elimination.{select, sideOf, roundPairs, orderBy, remaining, rationalsAfter, orderAfter, orderOf, pick, load}
 use Rattle.rules.specs.Elimination.{loadableOf, tryAll, rounds, eliminate, chosenRounds, otherRounds, chosenRun, elimination}
 use Rattle.theory_lists.specs.All.{map-append}

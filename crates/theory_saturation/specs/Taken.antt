@@ -12,10 +12,9 @@ use lib.ListN.{length, length-append}
 use Rattle.rules_types.specs.Limits as limit
 use Rattle.rules.specs.Lists.{any, filter, tabulate}
 use Rattle.rules.specs.Problem.{Problem}
-use Rattle.rules.specs.Lines.{rational}
 use Rattle.rules.specs.Steps.{Step}
 use Rattle.rules.specs.Elimination.{Stops, State, running, ended, orderBy, remaining, rationalsAfter, orderAfter, cost, cheapest, pick}
-use Rattle.rules.specs.Elimination.{roundPairs, tryAll, unlimited, chosenRounds, loadableOf, load, chosenRun, orderOf}
+use Rattle.rules.specs.Elimination.{unlimited, chosenRounds, loadableOf, load, chosenRun, orderOf}
 use Rattle.theory_lists.specs.Tests.{split, or-l, or-r}
 use Rattle.theory_lists.specs.All.{All, all-append, all-map, filter-all, yes-any}
 use Rattle.theory_lists.specs.Tabulated.{length-tabulate, all-tabulate, any-tabulate}
@@ -179,8 +178,7 @@ run-taken stops r (suc k) taken (running steps n) t h =
     let f = pick r taken steps in
     let next = taken ++ (f ∷ []) in
     let more : length next + k ≤ r = omega (arith, length-append taken (f ∷ [])) in
-    run-taken stops r k next (tryAll stops (rational f) (roundPairs (orderAfter next) (rational f) (length taken) steps) (running steps n))
-    (taken-next r taken steps t (omega arith)) more
+    run-taken stops r k next _ (taken-next r taken steps t (omega arith)) more
 
 -- the order that an elimination under any stops takes
 pub run-ordered : (stops : Stops) (p : Problem) → p .rationals ≤ limit.rationals → Ordered (orderAfter (chosenRun stops p .taken))

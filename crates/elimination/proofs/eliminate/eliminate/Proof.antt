@@ -1,7 +1,5 @@
 -- `eliminate` meets its contract. Assumes nothing.
-use mathlib.Core.Path.{_≡_, ap, _∙_}
-use mathlib.Core.List.{List}
-use Prim.Native.Nat.{ℕ}
+use mathlib.Core.Path.{ap, _∙_}
 use native.Mathlib.Omega.{arith}
 use Rattle.rules.specs.Elimination.{orderBy, rationalsAfter, orderAfter, loadableOf}
 use Rattle.theory_splitting.specs.Reading.{read-well-formed}
