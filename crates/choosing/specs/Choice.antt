@@ -15,8 +15,8 @@ use Rattle.rules.specs.Steps.{Step}
 use Rattle.rules.specs.Elimination.{remaining, rationalsAfter, cost, cheapest, pick}
 use Rattle.theory_lists.specs.All.{filter-append}
 use Rattle.theory_lists.specs.Tabulated.{tabulate-front}
-use Rattle.theory_lists.specs.Distinct.{other, Distinct, without-place, rising-distinct}
-use Rattle.theory_saturation.specs.Taken.{Taken, remaining-rising, remaining-count, remaining-next}
+use Rattle.theory_lists.specs.Distinct.{other, AllDistinct, without-place, ascending-distinct}
+use Rattle.theory_saturation.specs.Taken.{Taken, remaining-ascending, remaining-count, remaining-next}
 use Rattle.lines.specs.Order.{movedTo}
 
 -- ---- those of the problem stand first among all that remain
@@ -117,8 +117,8 @@ module _ (fs : List ℕ) (t : ℕ) (is : fs ≡ rationalsAfter (take t fs)) (lon
           let here : getD xs k 0 ≡ g = getD-drop t fs k 0 ∙ ap (λ (i : ℕ). getD fs i 0) at in
           let left : filter (other g) xs ≡ take k xs ++ drop (suc best) fs =
           ap (λ (f : ℕ). filter (other f) xs) (sym here)
-          ∙ without-place xs k (subst⁻¹ Distinct (behind (omega arith)) (rising-distinct (remaining limit.rationals taken)
-          (remaining-rising limit.rationals taken))) (omega (arith, long, length-drop t fs))
+          ∙ without-place xs k (subst⁻¹ AllDistinct (behind (omega arith)) (ascending-distinct (remaining limit.rationals taken)
+          (remaining-ascending limit.rationals taken))) (omega (arith, long, length-drop t fs))
           ∙ ap (λ (ys : List ℕ). take k xs ++ ys) (drop-drop (suc k) t fs ∙ ap (λ (i : ℕ). drop i fs) next) in
           sym (append-assoc taken (g ∷ []) (remaining limit.rationals (taken ++ (g ∷ [])))
           ∙ ap (λ (ys : List ℕ). taken ++ (g ∷ ys)) (remaining-next limit.rationals taken g

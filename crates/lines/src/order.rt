@@ -48,7 +48,7 @@ impl Order {
         }
     }
 
-    // The rational variable of round `from` goes first, in round `to`; those between come one round later.
+    // The rational variable of round `from` gets round `to`, an earlier one; those from there on come one round later.
     pub fn moved(self, from: usize, to: usize) -> Order
         requires { ⌜ to ≤ from ⌝ }
         requires { ⌜ from < rationals ⌝ }

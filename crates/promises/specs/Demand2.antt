@@ -35,6 +35,7 @@ use Rattle.theory_elimination.specs.Sound.{Sound}
 use Rattle.theory_elimination.specs.Origins.{Each, Justified, Fresh, Distinct}
 use Rattle.theory_elimination.specs.Chosen.{IsRunning, order-kept}
 use Rattle.theory_elimination.specs.Cheapest.{Cheapest, beforeRound, problem-cheapest}
+use Rattle.theory_elimination.specs.Costs.{Costs, costs}
 use Rattle.theory_elimination.specs.InOrder.{InOrder, round-in-order}
 use Rattle.theory_elimination.specs.Exactly.{Exactly}
 use Rattle.theory_elimination.specs.Loaded.{AllLoaded}
@@ -70,9 +71,11 @@ pub record Demand2 (edition : ℕ) (input : List ℕ) (p : Problem) : Type 0 whe
   -- pairs; which line an earlier one drops; every part before the end is loaded
   pub rounds : Ordered (orderOf p)
   -- (vii): "At each figure turn take the remaining figure with the least U × L - U - L", of the lines held where the elimination comes to
-  -- the turn, with or without limits; and "the order taken is kept with the run", for the walk where it ends without an empty line
+  -- the turn, with or without limits; which lines U and L count; and "the order taken is kept with the run", for the walk where it ends
+  -- without an empty line
   pub cheapest : (stops : Stops) (t : ℕ) → t < p .rationals → (steps : List Step) (n : ℕ)
       → beforeRound stops p t ≡ running steps n → Cheapest (p .rationals) (orderOf p) t steps
+  pub costs : (taken : List ℕ) (steps : List Step) (f : ℕ) → Costs taken steps f
   pub kept : (stops : Stops) → IsRunning (elimination stops p) → orderAfter (chosenRun stops p .taken) ≡ orderOf p
   pub inOrder : (v : Variable) (t : ℕ) (steps : List Step) → InOrder (orderOf p) v t steps (roundPairs (orderOf p) v t steps)
   pub dropping : (earlier l : Line) → T (drops earlier l) ↔ (earlier ≡ l)
@@ -99,6 +102,7 @@ demand2 edition input q e = let p = inEdition edition q in record {
   only = elimination-only p;
   rounds = problem-ordered p (posed-well-formed edition input q e .rationals);
   cheapest = λ stops. problem-cheapest stops p;
+  costs = costs;
   kept = λ stops. order-kept stops p;
   inOrder = round-in-order (orderOf p);
   dropping = drops-exactly;

@@ -65,7 +65,7 @@ pub data State : Type 0 where
   running : List Step → ℕ → State
   ended : End → List Step → ℕ → State
 
--- with the rational variables that it took, in order
+-- an elimination at a point with the rational variables that it took, in order
 pub record Run : Type 0 where
   pub taken : List ℕ
   pub state : State
@@ -136,7 +136,7 @@ unfoldable pub cheapest : (ℕ → ℤ) → ℕ → List ℕ → ℕ
 cheapest price f [] = f
 cheapest price f (g ∷ gs) = elim (ltZ (price g) (price f)) [ true ↦ cheapest price g gs | false ↦ cheapest price f gs ]
 
--- "take the remaining figure", of r figures
+-- "take the remaining figure", of r figures; where none remains, none is asked for
 unfoldable pub pick : ℕ → List ℕ → List Step → ℕ
 pick r taken steps = elim (remaining r taken) [ [] ↦ 0 | f ∷ fs ↦ cheapest (cost taken steps) f fs ]
 

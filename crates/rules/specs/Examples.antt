@@ -1,5 +1,5 @@
--- Document 01's starred examples 1 to 10, each variant, and questions that tell readings of request (vii) apart, computed from the
--- problem's bytes.
+-- Document 01's starred examples 1 to 10, each variant; example 12 and questions that tell readings of request (vii) apart; computed from
+-- the problem's bytes.
 use mathlib.Core.Path.{_≡_, refl}
 use mathlib.Core.Bool.{false}
 use mathlib.Core.List.{List, [], _∷_, _++_, map}
@@ -15,7 +15,7 @@ use Rattle.rules.specs.Print.{ascii, printed}
 use Rattle.rules.specs.Write.{atMost, below, clauseOf, alone, problemOf}
 use Rattle.rules.specs.Compute.{definitions, Shown, bare, satisfiable, unsatisfiable, shown}
 
--- an example: a problem, and what document 01 says of it
+-- an example: a problem, and what the paper says of it
 pub record Example : Type 0 where
   pub input : List ℕ
   pub shows : Shown
@@ -110,7 +110,7 @@ tenWithY =
       shows = satisfiable 3 1 (loaded 0 0 ∷ loaded 1 0 ∷ resolved (rational 0) 0 1 ∷ []) [] (pos 0 ∷ pos 0 ∷ pos 0 ∷ []) 1;
     }
 
--- ---- request (vii): the order of the rational variables, where the starred examples would let a wrong reading pass
+-- ---- request (vii): the order of the rational variables, which the starred examples hardly tell
 abbrev xy : ℤ → ℤ → ℤ → List ℕ
 xy x y bound = alone (atMost (x ∷ y ∷ []) bound)
 
@@ -194,11 +194,21 @@ walkedBack =
       shows = satisfiable 3 0 (loadedOnly 3) [] (minus ∷ minus ∷ []) 1;
     }
 
+-- x - y ≤ 0; -y ≤ -1. y costs -2 and goes first; its value is taken from both lines, that of x from none
 abbrev walkedBackInIt : Example
 walkedBackInIt =
     record {
       input = problemOf 0 2 (xy (pos 1) minus (pos 0) ∷ xy (pos 0) minus minus ∷ []);
       shows = satisfiable 2 0 (loadedOnly 2) [] (pos 0 ∷ pos 1 ∷ []) 1;
+    }
+
+-- lines with literals, and with <, count: y ≤ -1; a or x - y < -1. x and y cost -1, so x goes first; if they did not, y would, and its pair
+-- be tried
+abbrev allKinds : Example
+allKinds =
+    record {
+      input = problemOf 1 2 (xy (pos 0) (pos 1) minus ∷ clauseOf (0 ∷ []) (below (pos 1 ∷ minus ∷ []) minus ∷ []) ∷ []);
+      shows = satisfiable 2 0 (loadedOnly 2) (false ∷ []) (negsuc 2 ∷ minus ∷ []) 1;
     }
 
 -- a book names the figure, not its turn: y ≤ -1; -y ≤ 0. y costs -1 and x, which stands in no line, 0
@@ -222,8 +232,8 @@ twelve n =
 abbrev table : List Example
 table =
     one ∷ two ∷ three ∷ four ∷ five ∷ six ∷ seven ∷ sevenWithThree ∷ eight ∷ nine ∷ ten ∷ tenWithY
-    ∷ untaken ∷ notTheProduct ∷ belowZero ∷ belowZeroIsLess ∷ eachRound ∷ withResults ∷ ties ∷ walkedBack ∷ walkedBackInIt ∷ named
-    ∷ twelve 24 ∷ twelve 25 ∷ []
+    ∷ untaken ∷ notTheProduct ∷ belowZero ∷ belowZeroIsLess ∷ eachRound ∷ withResults ∷ ties ∷ walkedBack ∷ walkedBackInIt
+    ∷ allKinds ∷ named ∷ twelve 24 ∷ twelve 25 ∷ []
 
 -- the tabled result
 pub starred : map (λ e. shown (e .input)) table ≡ map (λ e. e .shows) table

@@ -19,10 +19,11 @@ use Rattle.rules.specs.Elimination.{Stops, unlimited, State, running, ended, re
 use Rattle.rules.specs.Elimination.{tryAll, load, loadableOf, rounds, chosenRounds, chosenRun, orderOf}
 use Rattle.theory_lists.specs.Tests.{of-true, of-false}
 use Rattle.theory_lists.specs.All.{All, all-any, any-yes}
-use Rattle.theory_lists.specs.Distinct.{Rising}
+use Rattle.theory_lists.specs.Distinct.{Ascending}
 use Rattle.theory_integers.specs.Order.{≤-refl, ≤-reflexive, ≤-trans, ≤-antisym, ≤-<-trans, <⇒≤, <⇒≢}
 use Rattle.theory_saturation.specs.Rounds.{At}
-use Rattle.theory_saturation.specs.Taken.{Taken, remaining-rising, remaining-all, remaining-has, remaining-count, pick-all, none-taken}
+use Rattle.theory_saturation.specs.Order.{at-behind}
+use Rattle.theory_saturation.specs.Taken.{Taken, remaining-ascending, remaining-all, remaining-has, remaining-count, pick-all, none-taken}
 use Rattle.theory_saturation.specs.Taken.{taken-next}
 use Rattle.theory_elimination.specs.States.{rounds-ended}
 use Rattle.theory_elimination.specs.Chosen.{Begins, extends-self, begins-shorter, after-begins, next-is, next-drop, next-pairs}
@@ -34,7 +35,7 @@ pub record NoDearer (price : ℕ → ℤ) (f g : ℕ) : Type 0 where
   pub first : price f ≡ price g → f ≤ g
 
 module _ (price : ℕ → ℤ) where
-  cheapest-least : (f : ℕ) (fs : List ℕ) → Rising (f ∷ fs)
+  cheapest-least : (f : ℕ) (fs : List ℕ) → Ascending (f ∷ fs)
       → NoDearer price (cheapest price f fs) f × All (NoDearer price (cheapest price f fs)) fs
   unfolding cheapest
   cheapest-least f [] r = (record { least = ≤-refl (price f); first = λ e. omega arith }, tt)
@@ -73,9 +74,9 @@ pub record Cheapest (r : ℕ) (variables : List Variable) (t : ℕ) (steps : Lis
 pick-least : (r : ℕ) (taken : List ℕ) (steps : List Step) → 0 < length (remaining r taken)
     → All (NoDearer (cost taken steps) (pick r taken steps)) (remaining r taken)
 unfolding pick
-pick-least r taken steps h = by (remaining r taken) h (remaining-rising r taken)
+pick-least r taken steps h = by (remaining r taken) h (remaining-ascending r taken)
   where
-    by : (rest : List ℕ) → 0 < length rest → Rising rest
+    by : (rest : List ℕ) → 0 < length rest → Ascending rest
         → All (NoDearer (cost taken steps) (elim rest [ [] ↦ 0 | f ∷ fs ↦ cheapest (cost taken steps) f fs ])) rest
     by [] h k = absurd (omega arith)
     by (f ∷ fs) h k = cheapest-least (cost taken steps) f fs k
@@ -94,17 +95,14 @@ module _ (r : ℕ) (variables : List Variable) where
         before = ap (take (length taken)) is
             ∙ take-at (map rational taken) (rational f ∷ b .rest) (length taken) (length-map taken rational);
         variable = f;
-        place = subst⁻¹ (λ (vs : List Variable). At vs (length taken) (rational f)) is (at-behind taken f (b .rest));
+        place = subst⁻¹ (λ (vs : List Variable). At vs (length taken) (rational f)) is
+            (at-behind taken (rational f ∷ b .rest) 0 (length taken) (rational f) (omega arith) refl);
         own = new .0;
         remains = new .1;
         cheapest = λ g l k. all-any (NoDearer (cost taken steps) f) (λ h. T (eqb g h)) (remaining r taken)
             (λ h n e. subst⁻¹ (NoDearer (cost taken steps) f) (eqb-yes e) n) (pick-least r taken steps left)
             (any-yes (eqb g) (remaining r taken) (remaining-has r taken g l k));
       }
-    where
-      at-behind : (gs : List ℕ) (f : ℕ) (vs : List Variable) → At (map rational gs ++ (rational f ∷ vs)) (length gs) (rational f)
-      at-behind [] f vs = refl
-      at-behind (g ∷ gs) f vs = at-behind gs f vs
 
   module _ (stops : Stops) where
     -- and each one behind it: after d rounds of an order that begins as the run took

@@ -7,7 +7,8 @@ use mathlib.Core.List.{List, [], _∷_, _++_, map, append-assoc, append-nil}
 use Prim.Native.Nat.{ℕ, zero, suc, _+_}
 use native.Mathlib.Omega.{arith}
 use lib.Dec.{eqb}
-use lib.ListN.{length, length-append, drop}
+use lib.ListN.{length, length-append, length-map, drop}
+use lib.Seq.{drop-at}
 use Rattle.rules.specs.Problem.{Problem}
 use Rattle.rules.specs.Lists.{tabulate}
 use Rattle.rules_types.specs.Limits as limit
@@ -17,6 +18,7 @@ use Rattle.rules.specs.Elimination.{Stops, unlimited, State, running, ended, Ru
 use Rattle.rules.specs.Elimination.{select, sideOf, roundPairs, orderBy, remaining, rationalsAfter, orderAfter, orderOf, pick, load}
 use Rattle.rules.specs.Elimination.{loadableOf, tryAll, rounds, eliminate, chosenRounds, otherRounds, chosenRun, elimination}
 use Rattle.theory_lists.specs.All.{map-append}
+use Rattle.theory_saturation.specs.Rounds.{drop-next}
 use Rattle.theory_elimination.specs.States.{rounds-ended}
 use Rattle.theory_elimination.specs.Stopped.{Stopped, load-or, try-or}
 
@@ -118,19 +120,11 @@ module _ (taken : List ℕ) (f : ℕ) (variables : List Variable) (b : Begins (t
   next-is = b .is ∙ ap (λ (l : List Variable). l ++ b .rest) (map-append rational taken (f ∷ []))
       ∙ append-assoc (map rational taken) (rational f ∷ []) (b .rest)
 
-  drop-mapped : (gs : List ℕ) (vs : List Variable) → drop (length gs) (map rational gs ++ vs) ≡ vs
-  drop-mapped [] vs = refl
-  drop-mapped (g ∷ gs) vs = drop-mapped gs vs
-
-  drop-one : (gs : List ℕ) (v : Variable) (vs : List Variable) → drop (suc (length gs)) (map rational gs ++ (v ∷ vs)) ≡ vs
-  drop-one [] v vs = refl
-  drop-one (g ∷ gs) v vs = drop-one gs v vs
-
   pub next-drop : drop (length taken) variables ≡ rational f ∷ drop (suc (length taken)) variables
   next-drop =
-      ap (drop (length taken)) next-is ∙ drop-mapped taken (rational f ∷ b .rest)
-      ∙ ap (λ (vs : List Variable). rational f ∷ vs)
-      (sym (ap (drop (suc (length taken))) next-is ∙ drop-one taken (rational f) (b .rest)))
+      let here = ap (drop (length taken)) next-is
+      ∙ drop-at (map rational taken) (rational f ∷ b .rest) (length taken) (length-map taken rational) in
+      here ∙ ap (λ (vs : List Variable). rational f ∷ vs) (sym (drop-next variables (length taken) (rational f) (b .rest) here))
 
   pub next-pairs : (t : ℕ) (steps : List Step) → roundPairs variables (rational f) t steps
       ≡ roundPairs (map rational taken ++ (rational f ∷ [])) (rational f) t steps
@@ -144,9 +138,7 @@ module _ (stops : Stops) (r : ℕ) where
   run-extends (suc k) taken (ended e steps n) = extends-self taken
   run-extends (suc k) taken (running steps n) =
       let f = pick r taken steps in
-      let next = taken ++ (f ∷ []) in
-      let state = tryAll stops (rational f) (roundPairs (orderAfter next) (rational f) (length taken) steps) (running steps n) in
-      extends-next taken (chosenRounds stops r k next state .taken) f (run-extends k next state)
+      extends-next taken _ f (run-extends k (taken ++ (f ∷ [])) _)
 
   -- k rounds of any order that begins as it took
   pub chosen-is : (k : ℕ) (taken : List ℕ) (state : State) (variables : List Variable)

@@ -31,7 +31,7 @@ pub record InOrder (variables : List Variable) (v : Variable) (t : ℕ) (steps :
   pub increasing : Increasing ps
 
 -- ---- selected lines are numbered in order, and every line that passes is among them
-abbrev Rising : List Numbered → Type 0
+abbrev pub Rising : List Numbered → Type 0
 Rising [] = Unit {0}
 Rising (x ∷ xs) = All (λ y. x .number < y .number) xs × Rising xs
 
@@ -43,7 +43,7 @@ module _ (test : Line → Bool) where
       kept-one (λ x. n ≤ x .number) (record { number = n; line = s .line }) (select test (suc n) ss) (test (s .line)) (λ h. omega arith)
       (all-map (λ x. suc n ≤ x .number) (λ x. n ≤ x .number) (select test (suc n) ss) (λ x h. omega (arith, h)) (select-from (suc n) ss))
 
-  select-rising : (n : ℕ) (ss : List Step) → Rising (select test n ss)
+  pub select-rising : (n : ℕ) (ss : List Step) → Rising (select test n ss)
   unfolding select
   select-rising n [] = tt
   select-rising n (s ∷ ss) = by (test (s .line)) (select-from (suc n) ss) (select-rising (suc n) ss)
@@ -56,7 +56,7 @@ module _ (test : Line → Bool) where
       )
       by false h r = r
 
-  select-every : (n : ℕ) (ss : List Step) (i : ℕ) (l : Line) → LineAt ss i l → T (test l)
+  pub select-every : (n : ℕ) (ss : List Step) (i : ℕ) (l : Line) → LineAt ss i l → T (test l)
       → Any (λ (x : Numbered). x .number ≡ n + i) (select test n ss)
   unfolding select
   select-every n [] i l a h = absurd a

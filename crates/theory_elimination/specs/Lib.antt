@@ -17,6 +17,7 @@ pub mod Narrow
 pub mod Consistent
 pub mod PairBound
 pub mod InOrder
+pub mod Costs
 pub mod Grown
 pub mod Exactly
 pub mod OneLoop

@@ -1,4 +1,4 @@
--- Lists of numbers: none twice, or rising; and what a filter leaves of them.
+-- Lists of numbers: none twice, or ascending; and what a filter leaves of them.
 use mathlib.Core.Path.{_≡_, refl, sym, ap, _∙_, subst, subst⁻¹}
 use mathlib.Core.Bool.{Bool, true, false, not, _&&_, _||_}
 use mathlib.Core.Logic.{⊎-elim}
@@ -82,9 +82,9 @@ abbrev pub other : ℕ → ℕ → Bool
 other n m = not (eqb m n)
 
 -- ---- none twice
-abbrev pub Distinct : List ℕ → Type 0
-Distinct [] = Unit {0}
-Distinct (n ∷ s) = T (not (any (eqb n) s)) × Distinct s
+abbrev pub AllDistinct : List ℕ → Type 0
+AllDistinct [] = Unit {0}
+AllDistinct (n ∷ s) = T (not (any (eqb n) s)) × AllDistinct s
 
 not-not : (b : Bool) → T b → T (not (not b))
 not-not true h = tt
@@ -93,7 +93,7 @@ not-not false h = h
 eqb-sym : (a b : ℕ) → T (not (eqb a b)) → T (not (eqb b a))
 eqb-sym a b h = no-eqb {a = b} {b = a} (λ e. eqb-no {a = a} {b = b} h (sym e))
 
-pub distinct-append : (s t : List ℕ) → Distinct s → Distinct t → All (λ n. T (not (any (eqb n) s))) t → Distinct (s ++ t)
+pub distinct-append : (s t : List ℕ) → AllDistinct s → AllDistinct t → All (λ n. T (not (any (eqb n) s))) t → AllDistinct (s ++ t)
 unfolding any
 distinct-append [] t h k f = k
 distinct-append (a ∷ s) t h k f =
@@ -113,7 +113,7 @@ without-absent n (a ∷ s) h =
     let r = neither (eqb n a) (any (eqb n) s) h in
     filter-yes (other n) a s (eqb-sym n a (r .0)) ∙ ap (λ (l : List ℕ). a ∷ l) (without-absent n s (r .1))
 
-pub length-without : (n : ℕ) (s : List ℕ) → Distinct s → T (any (eqb n) s) → suc (length (filter (other n) s)) ≡ length s
+pub length-without : (n : ℕ) (s : List ℕ) → AllDistinct s → T (any (eqb n) s) → suc (length (filter (other n) s)) ≡ length s
 unfolding any filter
 length-without n [] h k = absurd k
 length-without n (a ∷ s) h k = ⊎-elim here (there (λ z. length-without n s (h .1) z)) (split (eqb n a))
@@ -137,39 +137,39 @@ none-at p [] k h l = absurd (omega arith)
 none-at p (a ∷ s) zero h l = neither (p a) (any p s) h .0
 none-at p (a ∷ s) (suc k) h l = none-at p s k (neither (p a) (any p s) h .1) (omega arith)
 
-pub without-place : (s : List ℕ) (k : ℕ) → Distinct s → k < length s → filter (other (getD s k 0)) s ≡ take k s ++ drop (suc k) s
+pub without-place : (s : List ℕ) (k : ℕ) → AllDistinct s → k < length s → filter (other (getD s k 0)) s ≡ take k s ++ drop (suc k) s
 without-place [] k h l = absurd (omega arith)
 without-place (a ∷ s) zero h l = filter-no (other a) a s (not-not (eqb a a) (eqb-refl a)) ∙ without-absent a s (h .0)
 without-place (a ∷ s) (suc k) h l =
     filter-yes (other (getD s k 0)) a s (none-at (eqb a) s k (h .0) (omega arith))
     ∙ ap (λ (t : List ℕ). a ∷ t) (without-place s k (h .1) (omega arith))
 
--- ---- rising
-abbrev pub Rising : List ℕ → Type 0
-Rising [] = Unit {0}
-Rising (n ∷ s) = All (λ m. n < m) s × Rising s
+-- ---- ascending
+abbrev pub Ascending : List ℕ → Type 0
+Ascending [] = Unit {0}
+Ascending (n ∷ s) = All (λ m. n < m) s × Ascending s
 
-pub rising-filter : (p : ℕ → Bool) (s : List ℕ) → Rising s → Rising (filter p s)
+pub ascending-filter : (p : ℕ → Bool) (s : List ℕ) → Ascending s → Ascending (filter p s)
 unfolding filter
-rising-filter p [] h = tt
-rising-filter p (a ∷ s) h = by (p a) (rising-filter p s (h .1))
+ascending-filter p [] h = tt
+ascending-filter p (a ∷ s) h = by (p a) (ascending-filter p s (h .1))
   where
-    by : (b : Bool) → Rising (filter p s) → Rising (elim b [ true ↦ a ∷ filter p s | false ↦ filter p s ])
+    by : (b : Bool) → Ascending (filter p s) → Ascending (elim b [ true ↦ a ∷ filter p s | false ↦ filter p s ])
     by true k = (filter-all (λ m. a < m) p s (all-map (λ m. a < m) (λ m. T (p m) → a < m) s (λ m z y. z) (h .0)), k)
     by false k = k
 
-pub rising-tabulate : (n : ℕ) (f : ℕ → ℕ) → ((i j : ℕ) → i < j → f i < f j) → Rising (tabulate n f)
+pub ascending-tabulate : (n : ℕ) (f : ℕ → ℕ) → ((i j : ℕ) → i < j → f i < f j) → Ascending (tabulate n f)
 unfolding tabulate
-rising-tabulate zero f h = tt
-rising-tabulate (suc n) f h = (
+ascending-tabulate zero f h = tt
+ascending-tabulate (suc n) f h = (
   all-tabulate (λ m. f 0 < m) n (λ i. f (suc i)) (λ i k. h 0 (suc i) (omega arith)),
-  rising-tabulate n (λ i. f (suc i)) (λ i j k. h (suc i) (suc j) (omega arith)),
+  ascending-tabulate n (λ i. f (suc i)) (λ i j k. h (suc i) (suc j) (omega arith)),
 )
 
-pub rising-distinct : (s : List ℕ) → Rising s → Distinct s
+pub ascending-distinct : (s : List ℕ) → Ascending s → AllDistinct s
 unfolding any
-rising-distinct [] h = tt
-rising-distinct (a ∷ s) h = (none s (h .0), rising-distinct s (h .1))
+ascending-distinct [] h = tt
+ascending-distinct (a ∷ s) h = (none s (h .0), ascending-distinct s (h .1))
   where
     none : (t : List ℕ) → All (λ m. a < m) t → T (not (any (eqb a) t))
     none [] f = tt

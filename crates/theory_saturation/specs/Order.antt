@@ -16,7 +16,7 @@ use Rattle.theory_lists.specs.Tests.{split, or-else}
 use Rattle.theory_lists.specs.All.{All}
 use Rattle.theory_lists.specs.Places.{place-below}
 use Rattle.theory_lists.specs.Tabulated.{length-tabulate}
-use Rattle.theory_lists.specs.Distinct.{Distinct}
+use Rattle.theory_lists.specs.Distinct.{AllDistinct}
 use Rattle.theory_saturation.specs.Rounds.{At, at-unique}
 use Rattle.theory_saturation.specs.Once.{names, Once}
 
@@ -75,7 +75,7 @@ at-front [] vs t h = absurd (omega arith)
 at-front (f ∷ fs) vs zero h = refl
 at-front (f ∷ fs) vs (suc t) h = at-front fs vs t (omega arith)
 
-at-behind : (fs : List ℕ) (vs : List Variable) (i t : ℕ) (v : Variable) → length fs + i ≡ t → At vs i v → At (map rational fs ++ vs) t v
+pub at-behind : (fs : List ℕ) (vs : List Variable) (i t : ℕ) (v : Variable) → length fs + i ≡ t → At vs i v → At (map rational fs ++ vs) t v
 at-behind [] vs i t v e a = let z : i ≡ t = omega arith in subst (λ (k : ℕ). At vs k v) z a
 at-behind (f ∷ fs) vs i zero v e a = absurd (omega arith)
 at-behind (f ∷ fs) vs i (suc t) v e a = at-behind fs vs i t v (omega arith) a
@@ -116,7 +116,8 @@ unfolding any names
 names-map f [] vs h = h
 names-map f (g ∷ fs) vs h = rw (names-map f fs vs h)
 
-once-by : (fs : List ℕ) (vs : List Variable) → ((f : ℕ) → any (names f) vs ≡ false) → Once vs → Distinct fs → Once (map rational fs ++ vs)
+once-by : (fs : List ℕ) (vs : List Variable) → ((f : ℕ) → any (names f) vs ≡ false) → Once vs → AllDistinct fs
+    → Once (map rational fs ++ vs)
 once-by [] vs h k d = k
 once-by (f ∷ fs) vs h k d = (subst⁻¹ (λ (b : Bool). T (not b)) (names-map f fs vs (h f)) (d .0), once-by fs vs h k (d .1))
 
@@ -132,7 +133,7 @@ place-of f (g ∷ fs) h = ⊎-elim (λ e. (0, omega arith, sym (eqb-yes e)))
     (λ e. let r = place-of f fs (or-else (eqb f g) (any (eqb f) fs) e h) in (suc (r .0), omega (arith, r .1), r .2)) (split (eqb f g))
 
 -- so many of them, none twice, below their number; so all of them
-pub ordered-by : (fs : List ℕ) → length fs ≡ limit.rationals → All (λ f. f < limit.rationals) fs → Distinct fs
+pub ordered-by : (fs : List ℕ) → length fs ≡ limit.rationals → All (λ f. f < limit.rationals) fs → AllDistinct fs
     → ((f : ℕ) → f < limit.rationals → T (any (eqb f) fs)) → Ordered (orderBy fs)
 unfolding orderBy
 ordered-by fs n b d e =

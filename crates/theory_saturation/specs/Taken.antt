@@ -18,20 +18,21 @@ use Rattle.rules.specs.Elimination.{unlimited, chosenRounds, loadableOf, load, 
 use Rattle.theory_lists.specs.Tests.{split, or-l, or-r}
 use Rattle.theory_lists.specs.All.{All, all-append, all-map, filter-all, yes-any}
 use Rattle.theory_lists.specs.Tabulated.{length-tabulate, all-tabulate, any-tabulate}
-use Rattle.theory_lists.specs.Distinct.{any-append, filter-agree, filter-both, filter-has, other, Distinct, distinct-append}
-use Rattle.theory_lists.specs.Distinct.{length-without, Rising, rising-filter, rising-tabulate, rising-distinct}
+use Rattle.theory_lists.specs.Distinct.{any-append, filter-agree, filter-both, filter-has, other, AllDistinct, distinct-append}
+use Rattle.theory_lists.specs.Distinct.{length-without, Ascending, ascending-filter, ascending-tabulate, ascending-distinct}
 use Rattle.theory_saturation.specs.Order.{Ordered, rising, ordered-by}
 
 -- apart, and below n
 pub record Taken (n : ℕ) (taken : List ℕ) : Type 0 where
   pub below : All (λ f. f < n) taken
-  pub distinct : Distinct taken
+  pub distinct : AllDistinct taken
 
 -- ---- those that remain
 module _ (n : ℕ) where
-  pub remaining-rising : (taken : List ℕ) → Rising (remaining n taken)
+  pub remaining-ascending : (taken : List ℕ) → Ascending (remaining n taken)
   unfolding remaining
-  remaining-rising taken = rising-filter (λ f. not (any (eqb f) taken)) (tabulate n (λ f. f)) (rising-tabulate n (λ f. f) (λ i j h. h))
+  remaining-ascending taken =
+      ascending-filter (λ f. not (any (eqb f) taken)) (tabulate n (λ f. f)) (ascending-tabulate n (λ f. f) (λ i j h. h))
 
   pub remaining-all : (taken : List ℕ) → All (λ f. f < n × T (not (any (eqb f) taken))) (remaining n taken)
   unfolding remaining
@@ -83,7 +84,7 @@ module _ (n : ℕ) where
   remaining-count [] t = omega (arith, ap length (every-one (tabulate n (λ f. f))), length-tabulate n (λ f. f))
   remaining-count (f ∷ taken) t =
       let more = remaining-count taken (record { below = t .below .1; distinct = t .distinct .1 }) in
-      let less = length-without f (remaining n taken) (rising-distinct (remaining n taken) (remaining-rising taken))
+      let less = length-without f (remaining n taken) (ascending-distinct (remaining n taken) (remaining-ascending taken))
       (remaining-has taken f (t .below .0) (t .distinct .0)) in
       omega (arith, more, less, ap length (remaining-cons taken f))
 
@@ -97,11 +98,11 @@ module _ (taken : List ℕ) (t : Taken limit.rationals taken) where
   unfolding rationalsAfter
   after-count = length-append taken (remaining limit.rationals taken) ∙ remaining-count limit.rationals taken t
 
-  pub after-distinct : Distinct (rationalsAfter taken)
+  pub after-distinct : AllDistinct (rationalsAfter taken)
   unfolding rationalsAfter
   after-distinct =
       let rest = remaining limit.rationals taken in
-      distinct-append taken rest (t .distinct) (rising-distinct rest (remaining-rising limit.rationals taken))
+      distinct-append taken rest (t .distinct) (ascending-distinct rest (remaining-ascending limit.rationals taken))
       (all-map (λ f. f < limit.rationals × T (not (any (eqb f) taken))) (λ f. T (not (any (eqb f) taken))) rest (λ f h. h .1)
       (remaining-all limit.rationals taken))
 

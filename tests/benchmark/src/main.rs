@@ -4,7 +4,7 @@
 mod solved;
 
 use questions::largest::{self, Kind};
-use reference::{Answer, Search};
+use reference::{Answer, Order, Search};
 use std::time::{Duration, Instant};
 
 /// The best of so many rounds of about this time.
@@ -40,8 +40,9 @@ fn checks() {
     let question = largest::question(32_768, Kind::Struck);
     let mut book = vec![0; 65_536];
     let mut sheet = [0; 64];
-    let answer = reference::solve(&question, &mut book, &mut sheet);
-    println!("pieces: solving says {answer:?}");
+    // In rising order, in which this question's course keeps its book.
+    let answer = reference::solve_in(Order::Rising, &question, &mut book, &mut sheet);
+    println!("pieces: solving in rising order says {answer:?}");
     repeat_lines(&mut book, 256);
     compare_books("pieces", &question, &book);
     let question = largest::run(None).encode();

@@ -41,7 +41,7 @@ pub fn run(more: Option<i32>) -> Problem {
 
 /// x + y ≤ 100i for i from the count of uppers down to 1, -y ≤ -j for j from 0 to 39, -x ≤ 1,000
 /// less k for k from 0 to 40. y costs less than x and goes first, and then 23 uppers take all 1,024
-/// lines, and 24 a line too many; in rising order 23 do. No clause or result is weaker than an
+/// lines, and 24 need a line more; in rising order 23 need one more already. No clause or result is weaker than an
 /// earlier one.
 pub fn limit(uppers: i32) -> Problem {
     let uppers = (1..=uppers).rev().map(|i| at_most(&[1, 1], 100 * i));

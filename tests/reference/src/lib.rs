@@ -18,7 +18,7 @@ pub use evidence::{hand_back, Part};
 pub use print::print;
 pub use problem::{read, Fault, Problem};
 
-use elimination::{eliminate, Elimination, End, Step, PROOF_LENGTH, STEP_LENGTH};
+use elimination::{eliminate, Elimination, End, Step, Variable, PROOF_LENGTH, STEP_LENGTH};
 use model::{model, MODEL_LENGTH};
 
 /// 01's verdicts: satisfiable, unsatisfiable, and satisfiable without a sheet.
@@ -57,6 +57,18 @@ pub fn solve_by(search: Search, question: &[u8], book: &mut [u8], sheet: &mut [u
 /// The same, with a choice which figures go first: in rising order, as before 02's (vii), too.
 pub fn solve_in(order: Order, question: &[u8], book: &mut [u8], sheet: &mut [u8]) -> Answer {
     run(order, Search::Plain, question, book, sheet)
+}
+
+/// The figures that a question's course takes, in their order, up to its end; none of a question
+/// at fault.
+pub fn figures_taken(question: &[u8]) -> Option<Vec<usize>> {
+    let problem = read(question).ok()?;
+    let course = eliminate(&problem, Order::Cheapest, Search::Plain);
+    let figure = |variable: &Variable| match *variable {
+        Variable::Rational(figure) if figure < problem.rationals => Some(figure),
+        _ => None,
+    };
+    Some(course.taken.iter().filter_map(figure).collect())
 }
 
 fn run(order: Order, search: Search, question: &[u8], book: &mut [u8], sheet: &mut [u8]) -> Answer {
