@@ -16,9 +16,10 @@
  * rest is divided by its greatest common divisor. A clause left with k
  * conditions is cut into k pieces by k - 1 links, marks of the solver's own.
  * These are the first lines of the book. The course then eliminates one figure
- * after the other, each time the one with the least U x L - U - L of its U
- * uppers and L lowers, and then the marks, by combining two lines at a time;
- * the result of such a pair, tidied, is a line of the book too. What tidying drops
+ * after the other, each time the remaining one with the least U x L - U - L,
+ * which is positive in U and negative in L of the lines without a figure
+ * eliminated before, and then the marks, by combining two lines at a time; the
+ * result of such a pair, tidied, is a line of the book too. What tidying drops
  * and what equals an earlier line is left out. A line with nothing in it ends
  * the course: the clauses contradict each other. Without one, a value for each
  * mark and figure is worked out backwards from the lines.
