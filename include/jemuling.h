@@ -20,9 +20,11 @@
  * which is positive in U and negative in L of the lines without a figure
  * eliminated before, and then the marks, by combining two lines at a time; the
  * result of such a pair, tidied, is a line of the book too. What tidying drops
- * and what equals an earlier line is left out. A line with nothing in it ends
- * the course: the clauses contradict each other. Without one, a value for each
- * mark and figure is worked out backwards from the lines.
+ * is left out, and so is what an earlier line covers: one with no other
+ * literals, and with no condition or the same coefficients and a bound that is
+ * smaller, or equal under a relation at least as strict. A line with nothing in
+ * it ends the course: the clauses contradict each other. Without one, a value
+ * for each mark and figure is worked out backwards from the lines.
  *
  * A question, a book and a sheet are bytes that the caller owns and lends for
  * the time of one call. No call keeps a pointer or any state, allocates,

@@ -1,6 +1,7 @@
 -- Sets of Boolean variables as numbers: variable i is a member if digit i is 1.
 use mathlib.Core.Path.{_≡_, refl, sym, ap, _∙_}
 use mathlib.Core.Bool.{Bool, true, false, not, cond, _||_, _&&_}
+use mathlib.Core.Logic.{_↔_}
 use mathlib.Core.List.{[], _∷_}
 use Prim.Native.Nat.{ℕ, zero, suc, _+_, _*_, _-_, _/_, _%_, _^_, _≤_, _<_, max, min}
 use native.Mathlib.Nat.{mod-lt, pow-succ', div-one, div-div-eq-div-mul}
@@ -8,12 +9,13 @@ use native.Mathlib.Omega.{arith}
 use lib.Pow.{pow-mono}
 use borrow.Author.Tests.{eq-eqb, ne-eqb}
 use lib.Dec.{T, eqb, eqb→eq}
-use lib.ListN.{length, getD}
-use lib.Bits.{bitOr, bitAnd, or-step, or-zero-r, and-step, and-lt}
+use mir.Facts.{and-yes, yes-and}
+use lib.ListN.{length, getD, drop}
+use lib.Bits.{bitOr, bitAnd, or-step, or-zero-r, or-lt, and-step, and-lt}
 use Rattle.rules_types.specs.Limits as limit
 use Rattle.theory_lists.specs.Tests.{tests-agree, of-true}
 use Rattle.rules.specs.Lists.{any}
-use Rattle.rules.specs.Lines.{Booleans, union, meet, including, excluding}
+use Rattle.rules.specs.Lines.{Booleans, union, meet, subset, including, excluding}
 use Rattle.rules.specs.Steps.{mask}
 
 -- the lowest k digits, the lowest first
@@ -116,6 +118,37 @@ meet-any (suc k) a b =
 -- a common member
 pub meet-bits : (k a b : ℕ) → a < 2 ^ k → b < 2 ^ k → meet (bits k a) (bits k b) ≡ not (eqb (bitAnd a b) 0)
 meet-bits k a b h l = meet-any k a b ∙ any-bits k (bitAnd a b) (and-lt k a b h l)
+
+-- every member of the first is one of the second
+subset-union : (k a b : ℕ) → T (subset (bits k a) (bits k b)) ↔ (union (bits k a) (bits k b) ≡ bits k b)
+unfolding bits subset union
+subset-union zero a b = ((λ h. refl), λ e. tt)
+subset-union (suc k) a b =
+    let s = bits k (a / 2) in
+    let t = bits k (b / 2) in
+    let r = subset-union k (a / 2) (b / 2) in
+    let p = eqb (a % 2) 1 in
+    let q = eqb (b % 2) 1 in (
+      λ h. let g = and-yes (not p || q) (subset s t) h in (λ i. or-is p q (g .0) i ∷ r .0 (g .1) i),
+      λ e. yes-and (not p || q) (subset s t) (is-or p q (ap (λ (l : Booleans). getD l 0 false) e)) (r .1 (ap (drop 1) e)),
+    )
+  where
+    or-is : (p q : Bool) → T (not p || q) → p || q ≡ q
+    or-is true true h = refl
+    or-is true false h = absurd h
+    or-is false q h = refl
+
+    is-or : (p q : Bool) → p || q ≡ q → T (not p || q)
+    is-or true true e = tt
+    is-or true false e = of-true false (sym e)
+    is-or false q e = tt
+
+pub subset-bits : (k a b : ℕ) → a < 2 ^ k → b < 2 ^ k → subset (bits k a) (bits k b) ≡ eqb (bitOr a b) b
+subset-bits k a b h l =
+    let m = or-lt k a b h l in
+    agree (subset (bits k a) (bits k b)) (bitOr a b) b
+    (λ t. sym (mask-bits k (bitOr a b) m) ∙ ap mask (sym (union-bits k a b) ∙ subset-union k a b .0 t) ∙ mask-bits k b l)
+    (λ e. subset-union k a b .1 (union-bits k a b ∙ ap (bits k) e))
 
 -- without one member: its power is taken away, or is not there
 pub shifted : (n i : ℕ) → n / 2 ^ suc i ≡ n / 2 / 2 ^ i

@@ -6,7 +6,7 @@ ghost use Prim.Native.Nat.{_<_};
 ghost use lib.Count.{trailingZeros};
 ghost use lib.ListN.{getD};
 ghost use Rattle.rules_types.specs.Limits.{allBooleans};
-ghost use Rattle.rules.specs.Lines.{including, excluding, meet};
+ghost use Rattle.rules.specs.Lines.{including, excluding, meet, subset};
 ghost use Rattle.masks.specs.Mask.{bits};
 
 // Every variable.
@@ -52,4 +52,11 @@ pub fn meets(a: u32, b: u32) -> bool
     ensures { λ r. ⌜ r ≡ meet (bits allBooleans a) (bits allBooleans b) ⌝ }
 {
     (a & b) != 0
+}
+
+// Whether every member of the first is one of the second.
+pub fn subset(a: u32, b: u32) -> bool
+    ensures { λ r. ⌜ r ≡ subset (bits allBooleans a) (bits allBooleans b) ⌝ }
+{
+    (a | b) == b
 }

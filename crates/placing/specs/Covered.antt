@@ -1,36 +1,28 @@
--- Whether a step from number i on drops a line.
+-- Whether one of the first steps drops a line, from the last of them back.
 use mathlib.Core.Path.{_≡_, refl, ap, _∙_}
-use mathlib.Core.Bool.{Bool, false, _||_}
-use mathlib.Core.List.{List}
-use Prim.Native.Nat.{ℕ, _+_, _≤_, _<_}
-use native.Mathlib.Omega.{arith}
-use lib.ListN.{drop}
+use mathlib.Core.Bool.{Bool, false, _||_, or-false}
+use mathlib.Core.List.{List, [], _∷_}
+use Prim.Native.Nat.{ℕ, suc}
 use Rattle.rules.specs.Lists.{any, tabulate}
 use Rattle.rules.specs.Lines.{Line}
 use Rattle.rules.specs.Steps.{Step}
 use Rattle.rules.specs.Elimination.{drops, covered}
-use Rattle.theory_lists.specs.Tabulated.{length-tabulate, getD-tabulate}
-use Rattle.theory_lists.specs.Scan.{any-next, any-end}
+use Rattle.theory_lists.specs.Distinct.{any-append}
+use Rattle.theory_lists.specs.Tabulated.{tabulate-snoc}
 use Rattle.lines.specs.Line.{meaning}
 use Rattle.steps.specs.Places.{stepAt}
 use Rattle.steps.specs.Lines.{lineAt}
-use Rattle.steps.specs.Held.{stepFrom, stepsIn, length-stepsIn}
+use Rattle.steps.specs.Held.{stepFrom, stepsIn}
 
-unfoldable pub coveredFrom : ℕ → Line → List ℕ → ℕ → Bool
-coveredFrom i l proof n = any (λ s. drops (s .line) l) (drop i (stepsIn proof n))
+module _ (l : Line) (proof : List ℕ) where
+  pub covered-none : covered l (stepsIn proof 0) ≡ false
+  unfolding covered stepsIn any tabulate
+  covered-none = refl
 
-module _ (l : Line) (proof : List ℕ) (n : ℕ) where
-  pub covered-all : covered l (stepsIn proof n) ≡ coveredFrom 0 l proof n
-  unfolding covered coveredFrom
-  covered-all = refl
-
-  pub covered-next : (i : ℕ) → i < n → coveredFrom i l proof n ≡ drops (meaning (lineAt proof i)) l || coveredFrom (i + 1) l proof n
-  unfolding coveredFrom stepsIn stepFrom lineAt
-  covered-next i h =
+  pub covered-last : (i : ℕ) → covered l (stepsIn proof (suc i)) ≡ covered l (stepsIn proof i) || drops (meaning (lineAt proof i)) l
+  unfolding covered stepsIn stepFrom lineAt any
+  covered-last i =
       let f : ℕ → Step = λ k. stepFrom (stepAt proof k) in
-      any-next (f i) (λ s. drops (s .line) l) (tabulate n f) i (omega (arith, length-tabulate n f))
-      ∙ ap (λ (s : Step). drops (s .line) l || any (λ s. drops (s .line) l) (drop (i + 1) (tabulate n f))) (getD-tabulate n f i (f i) h)
-
-  pub covered-none : (i : ℕ) → n ≤ i → i ≤ n → coveredFrom i l proof n ≡ false
-  unfolding coveredFrom
-  covered-none i h k = any-end (λ s. drops (s .line) l) (stepsIn proof n) i (omega (arith, length-stepsIn proof n))
+      let dropping : Step → Bool = λ s. drops (s .line) l in
+      ap (any dropping) (tabulate-snoc i f) ∙ any-append dropping (tabulate i f) (f i ∷ [])
+      ∙ ap (λ (t : Bool). any dropping (tabulate i f) || t) (or-false (dropping (f i)))

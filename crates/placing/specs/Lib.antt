@@ -1,3 +1,3 @@
-pub mod Same
+pub mod Tight
 pub mod Covered
 pub mod Point

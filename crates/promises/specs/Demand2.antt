@@ -23,7 +23,7 @@ use Rattle.rules.specs.Calls.{sound, read, solve, proofChecked, modelChecked, e
 use Rattle.theory_lists.specs.All.{All, Any}
 use Rattle.theory_saturation.specs.Order.{Ordered}
 use Rattle.theory_saturation.specs.Taken.{problem-ordered}
-use Rattle.theory_saturation.specs.Drops.{drops-exactly, covered-exactly}
+use Rattle.theory_saturation.specs.Drops.{Subsumes, drops-exactly, covered-exactly}
 use Rattle.theory_bytes.specs.Bytes.{AllBytes}
 use Rattle.theory_splitting.specs.EveryPart.{EveryPart, every-part}
 use Rattle.theory_resolution.specs.Result.{IsResolvent, resolve-is}
@@ -68,7 +68,7 @@ pub record Demand2 (edition : ℕ) (input : List ℕ) (p : Problem) : Type 0 whe
   pub exactly : (stops : Stops) → Exactly stops (orderOf p) (loadableOf p) (elimination stops p)
   pub only : (stops : Stops) (other : State) → Exactly stops (orderOf p) (loadableOf p) other → other ≡ elimination stops p
   -- the words of that: a round for each variable, "turns 0 to 7 belong to the figures and 8 to 39 to the marks"; the order of a round's
-  -- pairs; which line an earlier one drops; every part before the end is loaded
+  -- pairs; which lines an earlier one drops, those that (viii) names and no others; every part before the end is loaded
   pub rounds : Ordered (orderOf p)
   -- (vii): "At each figure turn take the remaining figure with the least U × L - U - L", of the lines held where the elimination comes to
   -- the turn, with or without limits; which lines U and L count; and "the order taken is kept with the run", for the walk where it ends
@@ -78,7 +78,7 @@ pub record Demand2 (edition : ℕ) (input : List ℕ) (p : Problem) : Type 0 whe
   pub costs : (taken : List ℕ) (steps : List Step) (f : ℕ) → Costs taken steps f
   pub kept : (stops : Stops) → IsRunning (elimination stops p) → orderAfter (chosenRun stops p .taken) ≡ orderOf p
   pub inOrder : (v : Variable) (t : ℕ) (steps : List Step) → InOrder (orderOf p) v t steps (roundPairs (orderOf p) v t steps)
-  pub dropping : (earlier l : Line) → T (drops earlier l) ↔ (earlier ≡ l)
+  pub dropping : (earlier l : Line) → T (drops earlier l) ↔ Subsumes earlier l
   pub covering : (l : Line) (steps : List Step) → T (covered l steps) ↔ Any (λ s. T (drops (s .line) l)) steps
   pub loaded : (stops : Stops) → AllLoaded stops (loadableOf p) (elimination stops p)
   -- "The check accepts a book exactly if its lines follow and the last is empty, a sheet exactly if every clause holds,"

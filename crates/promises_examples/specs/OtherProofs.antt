@@ -1,10 +1,10 @@
--- Three proofs that are not the elimination, and are not exactly its candidates: lines in another order, a line after the end, and pairs
--- that were not tried.
+-- Five proofs that are not the elimination, and are not exactly its candidates: lines in another order, a line after the end, pairs that
+-- were not tried, a weaker line kept, and one left out that is not weaker.
 use mathlib.Core.Path.{_≡_, ap}
 use mathlib.Core.List.{List, [], _∷_, _++_, map}
 use Prim.Native.Nat.{ℕ}
 use native.Mathlib.Omega.{arith}
-use lib.IntN.{pos, negsuc}
+use lib.IntN.{ℤ, pos, negsuc}
 use lib.ListN.{length, getD, take, drop}
 use Rattle.rules_types.specs.Limits.{standard}
 use Rattle.rules.specs.Problem.{Problem}
@@ -63,4 +63,26 @@ unfolding definitions
 pairs-not-tried h =
     let other = ended empty (stepsOf (ours four)) 3 in
     let e : _≡_ {A = ℕ} 3 1 = ap pairsOf (elimination-only four (limited standard) other h) in
+    omega arith
+
+-- ---- two bounds of x, in this order
+abbrev bounded : ℤ → ℤ → Problem
+bounded a b = problemFrom (problemOf 0 1 (alone (atMost (pos 1 ∷ []) a) ∷ alone (atMost (pos 1 ∷ []) b) ∷ []))
+
+-- x ≤ 0; x ≤ 1, both of them kept
+pub weaker-line-kept : Exact (bounded (pos 0) (pos 1)) (running (loadableOf (bounded (pos 0) (pos 1))) 0) → ⊥
+unfolding definitions
+weaker-line-kept h =
+    let p = bounded (pos 0) (pos 1) in
+    let other = running (loadableOf p) 0 in
+    let e : _≡_ {A = ℕ} 2 1 = ap (λ (s : State). length (stepsOf s)) (elimination-only p (limited standard) other h) in
+    omega arith
+
+-- x ≤ 1; x ≤ 0, the first alone
+pub stronger-line-left-out : Exact (bounded (pos 1) (pos 0)) (running (take 1 (loadableOf (bounded (pos 1) (pos 0)))) 0) → ⊥
+unfolding definitions
+stronger-line-left-out h =
+    let p = bounded (pos 1) (pos 0) in
+    let other = running (take 1 (loadableOf p)) 0 in
+    let e : _≡_ {A = ℕ} 1 2 = ap (λ (s : State). length (stepsOf s)) (elimination-only p (limited standard) other h) in
     omega arith

@@ -8,7 +8,7 @@ use native.Mathlib.Omega.{arith}
 use lib.Dec.{eqb}
 use lib.ListN.{length, drop, drop-of-length-le}
 use Rattle.rules_types.specs.Limits.{rationals, stepBytes}
-use Rattle.rules_types.specs.Layout.{stepCoefficients, stepPositive, stepNegative}
+use Rattle.rules_types.specs.Layout.{stepCoefficients}
 use Rattle.rules.specs.Bytes.{fromUnsigned, fieldAt}
 use Rattle.rules.specs.Lines as rules
 use Rattle.rules.specs.Lines.{coefficient, positively, negatively}
@@ -19,9 +19,9 @@ use Rattle.lines.specs.declared.order.VariableRound.{VariableRound}
 use Rattle.lines.specs.Order.{variableOf, variablesOf}
 use Rattle.lines.specs.Line.{meaning, Shaped}
 use Rattle.lines.specs.Forms.{coefficient-is}
-use Rattle.steps.specs.Decoding.{decoded, getD-amountsAt}
-use Rattle.steps.specs.Places.{stepAt, HasStep, field-stepAt}
+use Rattle.steps.specs.Places.{stepAt, HasStep}
 use Rattle.steps.specs.Lines.{lineAt}
+use Rattle.steps.specs.Fields.{coefficient-bytes}
 use Rattle.steps.specs.Held.{stepFrom, stepsIn, length-stepsIn}
 
 -- positive, an upper bound, or negative
@@ -34,21 +34,9 @@ unfoldable pub chosen : Bool → VariableRound → rules.Line → Bool
 chosen upper current l = onSide upper (variableOf (current .variable)) l && eqb (roundOf (variablesOf (current .order)) l) (current .number)
 
 -- ---- by their bytes
-module _ (proof : List ℕ) (i : ℕ) (room : HasStep proof i) where
-  pub coefficient-bytes : Shaped (lineAt proof i) → (f : ℕ) → f < rationals
-      → fromUnsigned (fieldAt (stepBytes * i + (stepCoefficients + 4 * f)) 4 proof) ≡ coefficient f (meaning (lineAt proof i) .constraint)
-  unfolding lineAt decoded
-  coefficient-bytes h f l =
-      ap fromUnsigned (sym (field-stepAt proof i room (stepCoefficients + 4 * f) 4 (omega arith)))
-      ∙ sym (coefficient-is (lineAt proof i) h f ∙ getD-amountsAt rationals stepCoefficients f (stepAt proof i) l)
-
-  pub positive-bytes : fieldAt (stepBytes * i + stepPositive) 4 proof ≡ lineAt proof i .positive
-  unfolding lineAt decoded
-  positive-bytes = sym (field-stepAt proof i room stepPositive 4 (omega arith))
-
-  pub negative-bytes : fieldAt (stepBytes * i + stepNegative) 4 proof ≡ lineAt proof i .negative
-  unfolding lineAt decoded
-  negative-bytes = sym (field-stepAt proof i room stepNegative 4 (omega arith))
+pub coefficient-side : (proof : List ℕ) (i : ℕ) → HasStep proof i → Shaped (lineAt proof i) → (f : ℕ) → f < rationals
+    → fromUnsigned (fieldAt (stepBytes * i + (stepCoefficients + 4 * f)) 4 proof) ≡ coefficient f (meaning (lineAt proof i) .constraint)
+coefficient-side proof i room h f l = coefficient-bytes proof i room f l ∙ sym (coefficient-is (lineAt proof i) h f)
 
 -- ---- from number to number
 -- a line of the proof with its number

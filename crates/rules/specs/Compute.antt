@@ -17,14 +17,14 @@ use Rattle.rules.specs.Problem.{fault, got, after, repeat, byte, number,
 use Rattle.rules.specs.Problem.{end, problem}
 use Rattle.rules.specs.Meaning.{literalHolds, constraintHolds, clauseHolds}
 use Rattle.rules.specs.Lines.{noBooleans, including, excluding, union, meet, someYes, aLiteralHolds, theConstraintHolds, lineHolds}
-use Rattle.rules.specs.Lines.{coefficient, positively, negatively, contains, noConstraint, isEmpty, sameConstraint, sameLine}
+use Rattle.rules.specs.Lines.{coefficient, positively, negatively, contains, noConstraint, isEmpty, subset}
 use Rattle.rules.specs.Normalize.{membersOf, reduced, settled, settledAll, normalClause, settledLine, normalLine}
 use Rattle.rules.specs.Split.{chain, parts, partsOf, splitsOf, overSplit}
 use Rattle.rules.specs.Resolve.{combination, combinationOf, oneOf, resolvent, resolve}
 use Rattle.rules.specs.Steps.{Origin, header, headerBytes, relationByte, mask, row, lineBytes, encodeStep, encodeProof}
 use Rattle.rules.specs.Elimination.{orderBy, remaining, rationalsAfter, orderAfter, roundOf, overflows, limited, unlimited}
-use Rattle.rules.specs.Elimination.{placed, drops, covered, select, pairUp, sideOf, roundPairs, partSteps, loadable, loadableOf}
-use Rattle.rules.specs.Elimination.{add, load, tried, tryAll}
+use Rattle.rules.specs.Elimination.{placed, asTight, drops, covered, select, pairUp, sideOf, roundPairs, partSteps, loadable}
+use Rattle.rules.specs.Elimination.{loadableOf, add, load, tried, tryAll}
 use Rattle.rules.specs.Elimination.{without, count, costOf, cost, cheapest, pick, rounds, eliminate, chosenRounds}
 use Rattle.rules.specs.Elimination.{otherRounds, chosenRun, elimination, orderOf}
 use Rattle.rules.specs.Values.{reduce, quotient, less, midpoint, plus, beyond, tighter, value, boundOf, boundsOf, gather, tightest}
@@ -44,11 +44,10 @@ unfoldable abbrev pub definitions : Unit {0}
 unfolding any all filter concat same tabulate put gcdWithin gcd gcdAll lcm sum scale combine related isPositive isNegative isZero equal
     toBytes fromBytes fromUnsigned toUnsigned amountBytes fieldAt padded after repeat byte number tested field inRange amount literal
     constraint clause end problem literalHolds constraintHolds clauseHolds noBooleans including excluding union meet someYes aLiteralHolds
-    theConstraintHolds lineHolds coefficient positively negatively contains noConstraint isEmpty sameConstraint sameLine membersOf reduced
-    settled settledAll normalClause settledLine normalLine chain parts partsOf splitsOf overSplit combination combinationOf oneOf
-    resolvent resolve header headerBytes relationByte mask row lineBytes encodeStep encodeProof orderBy remaining rationalsAfter
-    orderAfter roundOf overflows limited unlimited placed drops covered select pairUp sideOf roundPairs partSteps loadable loadableOf add
-    load tried tryAll without count costOf cost cheapest pick rounds eliminate chosenRounds otherRounds chosenRun elimination orderOf
+    theConstraintHolds lineHolds coefficient positively negatively contains noConstraint isEmpty subset membersOf reduced settled
+    settledAll normalClause settledLine normalLine chain parts partsOf splitsOf overSplit combination combinationOf oneOf resolvent
+    resolve header headerBytes relationByte mask row lineBytes encodeStep encodeProof orderBy remaining rationalsAfter orderAfter roundOf
+    overflows limited unlimited placed asTight drops covered select pairUp sideOf roundPairs partSteps loadable loadableOf add load tried tryAll without count costOf cost cheapest pick rounds eliminate chosenRounds otherRounds chosenRun elimination orderOf
     reduce quotient less midpoint plus beyond tighter value boundOf boundsOf gather tightest rationalValue withoutBoolean booleanValue
     withRational withBoolean assign exceeds start walkFrom walk booleanByte encodeModel tooLarge written model pairable derived
     variableNamed resolventNamed lineAmong statedLine followed followedLines endsEmpty withEmptyEnd checkProof checkClauses withinSplits

@@ -1,5 +1,5 @@
 -- The elimination ("the course"): loading, then a round ("turn") for each variable, to its end or to the first event that ends it.
-use mathlib.Core.Bool.{Bool, true, false, not, _&&_}
+use mathlib.Core.Bool.{Bool, true, false, not, _&&_, _||_}
 use mathlib.Core.List.{List, [], _∷_, _++_, map}
 use mathlib.Core.Option.{Option, none, some}
 use Prim.Native.Nat.{ℕ, zero, suc, _+_, _*_}
@@ -9,9 +9,10 @@ use lib.Dec.{eqb, leb}
 use lib.ListN.{length, drop}
 use Rattle.rules_types.specs.declared.limits.Limits.{Limits}
 use Rattle.rules_types.specs.Limits as limit
-use Rattle.rules.specs.Lists.{any, filter, tabulate}
-use Rattle.rules.specs.Problem.{Clause, Problem, inRange}
-use Rattle.rules.specs.Lines.{Line, Variable, rational, boolean, positively, negatively, contains, isEmpty, sameLine}
+use Rattle.rules.specs.Lists.{any, filter, same, tabulate}
+use Rattle.rules.specs.Arithmetic.{equal}
+use Rattle.rules.specs.Problem.{Constraint, Clause, Problem, inRange}
+use Rattle.rules.specs.Lines.{Line, Variable, rational, boolean, positively, negatively, contains, isEmpty, subset}
 use Rattle.rules.specs.Split.{partsOf, splitsOf}
 use Rattle.rules.specs.Resolve.{resolve}
 use Rattle.rules.specs.Steps.{Step, loaded, resolved, row}
@@ -79,9 +80,17 @@ placed false false true blank s steps n = ended outOfSteps steps n
 placed false false false true s steps n = ended empty (steps ++ (s ∷ [])) n
 placed false false false false s steps n = running (steps ++ (s ∷ [])) n
 
--- which earlier line drops it: "dropped if it equals an earlier line in relation, marks, coefficients and bound"
+-- "either no condition, or equal coefficients with a bound that is smaller, or equal under a relation at least as strict"
+unfoldable pub asTight : Option Constraint → Option Constraint → Bool
+asTight none d = true
+asTight (some c) none = false
+asTight (some c) (some d) = same equal (c .coefficients) (d .coefficients)
+    && (ltZ (c .bound) (d .bound) || equal (c .bound) (d .bound) && (c .strict || not (d .strict)))
+
+-- which earlier line drops it: one that "has a subset of its literals in each sign" and is as tight; one that equals it does
 unfoldable pub drops : Line → Line → Bool
-drops earlier l = sameLine earlier l
+drops earlier l = subset (earlier .positive) (l .positive) && subset (earlier .negative) (l .negative)
+    && asTight (earlier .constraint) (l .constraint)
 
 -- one of these lines does
 unfoldable pub covered : Line → List Step → Bool
@@ -161,7 +170,7 @@ module _ (stops : Stops) where
   unfoldable pub add : Bool → Step → List Step → ℕ → State
   add overflowing s steps n = placed overflowing (covered (s .line) steps) (stops .atSteps (length steps)) (isEmpty (s .line)) s steps n
 
-  -- "Pieces load in order." "Loading drops equal lines too."
+  -- "Pieces load in order." "Loading does the same": an earlier line drops a part too
   unfoldable pub load : List Step → State → State
   load [] state = state
   load (s ∷ ss) (ended e steps n) = ended e steps n

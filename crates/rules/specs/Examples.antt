@@ -1,7 +1,7 @@
--- Document 01's starred examples 1 to 10, each variant; example 12 and questions that tell readings of request (vii) apart; computed from
--- the problem's bytes.
+-- Document 01's starred examples 1 to 10, each variant; example 12 and questions that tell readings of requests (vii) and (viii) apart;
+-- computed from the problem's bytes.
 use mathlib.Core.Path.{_≡_, refl}
-use mathlib.Core.Bool.{false}
+use mathlib.Core.Bool.{true, false}
 use mathlib.Core.List.{List, [], _∷_, _++_, map}
 use Prim.Native.Nat.{ℕ, _+_, _*_}
 use lib.IntN.{ℤ, pos, negsuc, negℤ}
@@ -151,12 +151,12 @@ belowZero =
       shows = satisfiable 4 2 (loadedOnly 4) [] (pos 1 ∷ pos 4 ∷ []) 1;
     }
 
--- and below 0 is the cheaper: y ≤ 2; -y ≤ -1; x - y ≤ 0; y ≤ 3. x costs -1 and y 0
+-- and below 0 is the cheaper: y ≤ 3; -y ≤ -1; x - y ≤ 0; y ≤ 2. x costs -1 and y 0
 abbrev belowZeroIsLess : Example
 belowZeroIsLess =
     record {
       input = problemOf 0 2
-          (xy (pos 0) (pos 1) (pos 2) ∷ xy (pos 0) minus minus ∷ xy (pos 1) minus (pos 0) ∷ xy (pos 0) (pos 1) (pos 3) ∷ []);
+          (xy (pos 0) (pos 1) (pos 3) ∷ xy (pos 0) minus minus ∷ xy (pos 1) minus (pos 0) ∷ xy (pos 0) (pos 1) (pos 2) ∷ []);
       shows = satisfiable 4 2 (loadedOnly 4) [] (pos 1 ∷ pos 1 ∷ []) 1;
     }
 
@@ -219,21 +219,127 @@ named =
       shows = unsatisfiable 3 1 (loaded 0 0 ∷ loaded 1 0 ∷ resolved (rational 1) 0 1 ∷ []);
     }
 
--- 12. x + y ≤ 100i for i from 1 to 24; -x ≤ -j for j from 0 to 39. With request (vii): agrees, 64, 0, x = 39, y = 61; with i = 25 too,
--- 65, 0
+-- ---- request (viii): which line an earlier one drops
+-- "a subset of its literals": a or b; a; a or not c. The second drops the third, the first not the second
+abbrev subsets : Example
+subsets =
+    record {
+      input = problemOf 3 0 (clauseOf (0 ∷ 1 ∷ []) [] ∷ clauseOf (0 ∷ []) [] ∷ clauseOf (0 ∷ 130 ∷ []) [] ∷ []);
+      shows = satisfiable 2 0 (loadedOnly 2) (true ∷ false ∷ false ∷ []) [] 1;
+    }
+
+-- "in each sign": a; not a or b. The result is b; neither a nor not a or b has its literals
+abbrev eachSign : Example
+eachSign =
+    record {
+      input = problemOf 2 0 (clauseOf (0 ∷ []) [] ∷ clauseOf (128 ∷ 1 ∷ []) [] ∷ []);
+      shows = satisfiable 3 1 (loaded 0 0 ∷ loaded 1 0 ∷ resolved (boolean 0) 0 1 ∷ []) (true ∷ true ∷ []) [] 1;
+    }
+
+-- "either no condition": a; a or x ≤ 1; b or x ≤ 1; b. The first drops the second, the third, which has one, not the fourth, which has none
+abbrev bareLines : Example
+bareLines =
+    record {
+      input = problemOf 2 1 (clauseOf (0 ∷ []) [] ∷ clauseOf (0 ∷ []) (atMost (pos 1 ∷ []) (pos 1) ∷ [])
+          ∷ clauseOf (1 ∷ []) (atMost (pos 1 ∷ []) (pos 1) ∷ []) ∷ clauseOf (1 ∷ []) [] ∷ []);
+      shows = satisfiable 3 0 (loaded 0 0 ∷ loaded 2 0 ∷ loaded 3 0 ∷ []) (true ∷ true ∷ []) (pos 0 ∷ []) 1;
+    }
+
+abbrev xyBelow : ℤ → ℤ → ℤ → List ℕ
+xyBelow x y bound = alone (below (x ∷ y ∷ []) bound)
+
+-- "a bound that is smaller", by its sign, whatever the relations and of lowers too: x ≤ -2; x < 1; -y ≤ 1; -y ≤ -2. The first drops the
+-- second
+abbrev smaller : Example
+smaller =
+    record {
+      input = problemOf 0 2 (xy (pos 1) (pos 0) (negsuc 1) ∷ xyBelow (pos 1) (pos 0) (pos 1)
+          ∷ xy (pos 0) minus (pos 1) ∷ xy (pos 0) minus (negsuc 1) ∷ []);
+      shows = satisfiable 3 0 (loaded 0 0 ∷ loaded 2 0 ∷ loaded 3 0 ∷ []) [] (negsuc 1 ∷ pos 2 ∷ []) 1;
+    }
+
+-- "or equal under a relation at least as strict": x < 1; x ≤ 1; y ≤ 1; y < 1. The first drops the second
+abbrev asStrict : Example
+asStrict =
+    record {
+      input = problemOf 0 2 (xyBelow (pos 1) (pos 0) (pos 1) ∷ xy (pos 1) (pos 0) (pos 1)
+          ∷ xy (pos 0) (pos 1) (pos 1) ∷ xyBelow (pos 0) (pos 1) (pos 1) ∷ []);
+      shows = satisfiable 3 0 (loaded 0 0 ∷ loaded 2 0 ∷ loaded 3 0 ∷ []) [] (pos 0 ∷ pos 0 ∷ []) 1;
+    }
+
+-- "equal coefficients", as normalized: 2x ≤ 3; x ≤ 2; 4x ≤ 10. The third is 2x ≤ 5, which the first drops; the second it does not
+abbrev asNormalized : Example
+asNormalized =
+    record {
+      input = problemOf 0 1
+          (alone (atMost (pos 2 ∷ []) (pos 3)) ∷ alone (atMost (pos 1 ∷ []) (pos 2)) ∷ alone (atMost (pos 4 ∷ []) (pos 10)) ∷ []);
+      shows = satisfiable 2 0 (loadedOnly 2) [] (pos 3 ∷ []) 2;
+    }
+
+-- "Loading does the same", part by part: x ≤ 0; x ≤ 0 or y ≤ 0
+abbrev partsToo : Example
+partsToo =
+    record {
+      input = problemOf 0 2 (xy (pos 1) (pos 0) (pos 0)
+          ∷ clauseOf [] (atMost (pos 1 ∷ pos 0 ∷ []) (pos 0) ∷ atMost (pos 0 ∷ pos 1 ∷ []) (pos 0) ∷ []) ∷ []);
+      shows = satisfiable 2 0 (loaded 0 0 ∷ loaded 1 1 ∷ []) [] (pos 0 ∷ pos 0 ∷ []) 1;
+    }
+
+-- split variables are literals: x ≤ 0 or -x ≤ -1; x ≤ 1. The first part has one, so it does not drop x ≤ 1
+abbrev splitVariables : Example
+splitVariables =
+    record {
+      input = problemOf 0 1 (clauseOf [] (atMost (pos 1 ∷ []) (pos 0) ∷ atMost (minus ∷ []) minus ∷ [])
+          ∷ alone (atMost (pos 1 ∷ []) (pos 1)) ∷ []);
+      shows = satisfiable 3 2 (loaded 0 0 ∷ loaded 0 1 ∷ loaded 1 0 ∷ []) [] (pos 0 ∷ []) 1;
+    }
+
+-- "an earlier line" is any: a; not a or c; b or d; not b or c. The resolvent by a is c, and drops the one by b, c or d
+abbrev byResolvents : Example
+byResolvents =
+    record {
+      input = problemOf 4 0
+          (clauseOf (0 ∷ []) [] ∷ clauseOf (128 ∷ 2 ∷ []) [] ∷ clauseOf (1 ∷ 3 ∷ []) [] ∷ clauseOf (129 ∷ 2 ∷ []) [] ∷ []);
+      shows = satisfiable 5 2 (loadedOnly 4 ++ (resolved (boolean 0) 0 1 ∷ [])) (true ∷ true ∷ true ∷ false ∷ []) [] 1;
+    }
+
+-- a resolvent that is dropped had its pair: x + y ≤ 5; y ≤ 2; -x ≤ 0; -y ≤ 0. The resolvent by x is y ≤ 5
+abbrev pairsCount : Example
+pairsCount =
+    record {
+      input = problemOf 0 2
+          (xy (pos 1) (pos 1) (pos 5) ∷ xy (pos 0) (pos 1) (pos 2) ∷ xy minus (pos 0) (pos 0) ∷ xy (pos 0) minus (pos 0) ∷ []);
+      shows = satisfiable 4 2 (loadedOnly 4) [] (pos 0 ∷ pos 0 ∷ []) 1;
+    }
+
+-- overflowing is asked first: a or b; a or x + y ≤ 1,000,000,000; b or -x ≤ 1. The first would drop a or b or y ≤ 1,000,000,001
+abbrev overflowFirst : Example
+overflowFirst =
+    record {
+      input = problemOf 2 2 (clauseOf (0 ∷ 1 ∷ []) [] ∷ clauseOf (0 ∷ []) (atMost (pos 1 ∷ pos 1 ∷ []) (pos 1000000000) ∷ [])
+          ∷ clauseOf (1 ∷ []) (atMost (minus ∷ pos 0 ∷ []) (pos 1) ∷ []) ∷ []);
+      shows = bare (record { answer = Refused refusal.Overflow 3; pairs = 1 }) [];
+    }
+
+-- 12. x + y ≤ 100i for i from 1 to 24; -x ≤ -j for j from 0 to 39. With requests (vii) and (viii) 41 lines are loaded, x + y ≤ 100 and
+-- all -x ≤ -j; x and y cost -1, x goes first: agrees, 81, 40; so it does with i = 25
 abbrev twelve : ℕ → Example
 twelve n =
     record {
       input = problemOf 0 2
           (tabulate n (λ i. xy (pos 1) (pos 1) (pos (100 * (i + 1)))) ++ tabulate 40 (λ j. xy minus (pos 0) (negℤ (pos j))));
-      shows = satisfiable (n + 40) 0 (loadedOnly (n + 40)) [] (pos 39 ∷ pos 61 ∷ []) 1;
+      shows = satisfiable 81 40 (loaded 0 0 ∷ tabulate 40 (λ j. loaded (n + j) 0) ++ tabulate 40 (λ j. resolved (rational 0) 0 (1 + j)))
+          [] (pos 39 ∷ pos 61 ∷ []) 1;
     }
 
 abbrev table : List Example
 table =
     one ∷ two ∷ three ∷ four ∷ five ∷ six ∷ seven ∷ sevenWithThree ∷ eight ∷ nine ∷ ten ∷ tenWithY
     ∷ untaken ∷ notTheProduct ∷ belowZero ∷ belowZeroIsLess ∷ eachRound ∷ withResults ∷ ties ∷ walkedBack ∷ walkedBackInIt
-    ∷ allKinds ∷ named ∷ twelve 24 ∷ twelve 25 ∷ []
+    ∷ allKinds ∷ named
+    ∷ subsets ∷ eachSign ∷ bareLines ∷ smaller ∷ asStrict ∷ asNormalized ∷ partsToo ∷ splitVariables
+    ∷ byResolvents ∷ pairsCount ∷ overflowFirst
+    ∷ twelve 24 ∷ twelve 25 ∷ []
 
 -- the tabled result
 pub starred : map (λ e. shown (e .input)) table ≡ map (λ e. e .shows) table

@@ -1,13 +1,13 @@
 -- A line's content, its variables, and when it holds: of one type for loaded parts, resolvents and what a proof states.
-use mathlib.Core.Bool.{Bool, true, false, not, _&&_, _||_, Bool·beq}
+use mathlib.Core.Bool.{Bool, true, false, not, _&&_, _||_}
 use mathlib.Core.List.{List, [], _∷_}
 use mathlib.Core.Option.{Option, none, some}
-use Prim.Native.Nat.{ℕ, suc, _+_}
+use Prim.Native.Nat.{ℕ, suc}
 use lib.IntN.{ℤ, pos}
 use lib.ListN.{getD, replicate, set}
 use Rattle.rules_types.specs.Limits as limit
-use Rattle.rules.specs.Lists.{any, same}
-use Rattle.rules.specs.Arithmetic.{isPositive, isNegative, equal}
+use Rattle.rules.specs.Lists.{any}
+use Rattle.rules.specs.Arithmetic.{isPositive, isNegative}
 use Rattle.rules.specs.Problem.{Constraint}
 use Rattle.rules.specs.Meaning.{Assignment, constraintHolds}
 
@@ -34,6 +34,12 @@ unfoldable pub meet : Booleans → Booleans → Bool
 meet [] t = false
 meet (a ∷ s) [] = false
 meet (a ∷ s) (b ∷ t) = a && b || meet s t
+
+-- every member of the first is one of the second
+unfoldable pub subset : Booleans → Booleans → Bool
+subset [] t = true
+subset (a ∷ s) [] = not a && subset s []
+subset (a ∷ s) (b ∷ t) = (not a || b) && subset s t
 
 -- positive Boolean variables, negative Boolean variables, and at most one constraint
 pub record Line : Type 0 where
@@ -88,15 +94,3 @@ noConstraint (some c) = false
 
 unfoldable pub isEmpty : Line → Bool
 isEmpty l = not (any (λ a. a) (l .positive)) && not (any (λ a. a) (l .negative)) && noConstraint (l .constraint)
-
--- "equals an earlier line in relation, marks, coefficients and bound"
-unfoldable pub sameConstraint : Option Constraint → Option Constraint → Bool
-sameConstraint none none = true
-sameConstraint none (some d) = false
-sameConstraint (some c) none = false
-sameConstraint (some c) (some d) = equal (c .bound) (d .bound) && Bool·beq (c .strict) (d .strict)
-    && same equal (c .coefficients) (d .coefficients)
-
-unfoldable pub sameLine : Line → Line → Bool
-sameLine l m = sameConstraint (l .constraint) (m .constraint) && same Bool·beq (l .positive) (m .positive)
-    && same Bool·beq (l .negative) (m .negative)

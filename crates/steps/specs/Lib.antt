@@ -3,4 +3,5 @@ pub mod Encoding
 pub mod Decoding
 pub mod Places
 pub mod Lines
+pub mod Fields
 pub mod Held

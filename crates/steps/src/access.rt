@@ -39,15 +39,15 @@ pub fn origin_at(proof: &[u8], i: usize) -> Origin
     }
 }
 
-fn relation_at(proof: &[u8], i: usize) -> u8
+pub fn relation_at(proof: &[u8], i: usize) -> u8
     requires { ⌜ HasStep (now proof) i ⌝ }
     ensures { λ r. ⌜ r ≡ fieldAt (stepBytes * i + stepRelation) 1 (now (proof .entry)) ⌝ }
 {
     u8_at(proof, Limits::STEP_BYTES * i + STEP_RELATION)
 }
 
-// Four bytes as a set of Boolean variables.
-fn mask_at(s: &[u8], at: usize) -> u32
+// Four bytes as a word.
+fn word_at(s: &[u8], at: usize) -> u32
     requires { do ⌜ at + 4 ≤ (← ⟦s.len()⟧) ⌝ }
     ensures { λ r. ⌜ r ≡ fieldAt at 4 (now (s .entry)) ⌝ }
 {
@@ -58,14 +58,23 @@ pub fn positive_at(proof: &[u8], i: usize) -> u32
     requires { ⌜ HasStep (now proof) i ⌝ }
     ensures { λ r. ⌜ r ≡ fieldAt (stepBytes * i + stepPositive) 4 (now (proof .entry)) ⌝ }
 {
-    mask_at(proof, Limits::STEP_BYTES * i + STEP_POSITIVE)
+    word_at(proof, Limits::STEP_BYTES * i + STEP_POSITIVE)
 }
 
 pub fn negative_at(proof: &[u8], i: usize) -> u32
     requires { ⌜ HasStep (now proof) i ⌝ }
     ensures { λ r. ⌜ r ≡ fieldAt (stepBytes * i + stepNegative) 4 (now (proof .entry)) ⌝ }
 {
-    mask_at(proof, Limits::STEP_BYTES * i + STEP_NEGATIVE)
+    word_at(proof, Limits::STEP_BYTES * i + STEP_NEGATIVE)
+}
+
+// A coefficient's word, which tells it from every other.
+pub fn coefficient_word_at(proof: &[u8], i: usize, f: usize) -> u32
+    requires { ⌜ HasStep (now proof) i ⌝ }
+    requires { ⌜ f < rationals ⌝ }
+    ensures { λ r. ⌜ r ≡ fieldAt (stepBytes * i + (stepCoefficients + 4 * f)) 4 (now (proof .entry)) ⌝ }
+{
+    word_at(proof, Limits::STEP_BYTES * i + (STEP_COEFFICIENTS + 4 * f))
 }
 
 pub fn coefficient_at(proof: &[u8], i: usize, f: usize) -> i64

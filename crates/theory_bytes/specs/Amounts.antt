@@ -1,5 +1,5 @@
 -- Amounts in four bytes: each of the 32-bit signed numbers comes back, and a list of amounts is told from every other as long.
-use mathlib.Core.Path.{_≡_, refl, ap, _∙_}
+use mathlib.Core.Path.{_≡_, refl, sym, ap, _∙_}
 use mathlib.Core.Logic.{⊎-elim}
 use mathlib.Core.List.{List, [], _∷_, _++_, append-assoc}
 use Prim.Native.Nat.{ℕ, _*_, _-_, _^_, _≤_, _<_}
@@ -43,6 +43,9 @@ toUnsigned-fromUnsigned n h = ⊎-elim
     (λ k. rw (fromUnsigned-high n (omega arith)) (omega arith))
     (λ k. rw (fromUnsigned-low n (omega arith)))
     (eq-zero-or-pos (2147483648 - n))
+
+pub fromUnsigned-injective : (m n : ℕ) → m < 2 ^ 32 → n < 2 ^ 32 → fromUnsigned m ≡ fromUnsigned n → m ≡ n
+fromUnsigned-injective m n h k e = sym (toUnsigned-fromUnsigned m h) ∙ ap toUnsigned e ∙ toUnsigned-fromUnsigned n k
 
 pub zero-unsigned : (n : ℕ) → fromUnsigned n ≡ pos 0 → n ≡ 0
 zero-unsigned n e = ⊎-elim

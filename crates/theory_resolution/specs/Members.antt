@@ -1,5 +1,5 @@
--- Sets of Boolean variables: the members of a union, of a set with one variable more or less, and when some member is yes. No law asks
--- for a length but those that put a member in.
+-- Sets of Boolean variables: the members of a union, of a subset, of a set with one variable more or less, and when some member is yes. No
+-- law asks for a length but those that put a member in.
 use mathlib.Core.Path.{_≡_, refl, sym, ap}
 use mathlib.Core.Bool.{Bool, true, false, not, _||_, _&&_, or-false}
 use mathlib.Core.Logic.{_⊎_, inl, inr, ⊎-elim}
@@ -8,11 +8,11 @@ use Prim.Native.Nat.{ℕ, zero, suc, _<_, max}
 use native.Mathlib.Omega.{arith}
 use lib.Dec.{T}
 use lib.ListN.{length, getD, set, length-set}
-use mir.Facts.{or-yes, and-yes, yes-and}
+use mir.Facts.{or-yes, and-yes, yes-and, not-T}
 use Rattle.rules_types.specs.Limits as limit
-use Rattle.theory_lists.specs.Tests.{or-l, or-r, or-else, or-left-comm, or-or-comm, or-absorb, and-or-both}
+use Rattle.theory_lists.specs.Tests.{split, clash, or-l, or-r, or-else, or-left-comm, or-or-comm, or-absorb, and-or-both}
 use Rattle.theory_lists.specs.All.{getD-replicate-same}
-use Rattle.rules.specs.Lines.{Booleans, noBooleans, including, excluding, union, meet, someYes}
+use Rattle.rules.specs.Lines.{Booleans, noBooleans, including, excluding, union, meet, subset, someYes}
 
 abbrev pub has : Booleans → ℕ → Bool
 has s i = getD s i false
@@ -172,3 +172,20 @@ member-meet (a ∷ s) (b ∷ t) h =
     ⊎-elim (λ k. let r = and-yes a b k in record { member = 0; left = r .0; right = r .1 })
     (λ k. let r = member-meet s t k in record { member = suc (r .member); left = r .left; right = r .right })
     (or-yes (a && b) (meet s t) h)
+
+-- ---- a subset
+pub subset-member : (s t : Booleans) → T (subset s t) → (i : ℕ) → T (has s i) → T (has t i)
+unfolding subset
+subset-member [] t h i k = absurd k
+subset-member (a ∷ s) [] h zero k = absurd (clash a k (and-yes (not a) (subset s []) h .0))
+subset-member (a ∷ s) [] h (suc i) k = subset-member s [] (and-yes (not a) (subset s []) h .1) i k
+subset-member (a ∷ s) (b ∷ t) h zero k = ⊎-elim (λ n. clash a k n) (λ y. y) (or-yes (not a) b (and-yes (not a || b) (subset s t) h .0))
+subset-member (a ∷ s) (b ∷ t) h (suc i) k = subset-member s t (and-yes (not a || b) (subset s t) h .1) i k
+
+pub member-subset : (s t : Booleans) → ((i : ℕ) → T (has s i) → T (has t i)) → T (subset s t)
+unfolding subset
+member-subset [] t h = tt
+member-subset (a ∷ s) [] h = yes-and (not a) (subset s []) (not-T a (h 0)) (member-subset s [] (λ i. h (suc i)))
+member-subset (a ∷ s) (b ∷ t) h =
+    yes-and (not a || b) (subset s t) (⊎-elim (λ k. or-r (not a) b (h 0 k)) (λ n. or-l (not a) b n) (split a))
+    (member-subset s t (λ i. h (suc i)))

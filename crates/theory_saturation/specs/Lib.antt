@@ -12,7 +12,6 @@ pub mod Order
 pub mod Taken
 pub mod Covered
 pub mod Saturation
-pub mod Equal
 pub mod Drops
 pub mod Formed
 pub mod Flaws

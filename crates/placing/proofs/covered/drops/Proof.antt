@@ -1,146 +1,117 @@
--- `covered::drops` meets its contract. Invariant: what is left of the bytes decides. Assumes nothing.
+-- `covered::drops` meets its contract. Assumes nothing.
 use mathlib.Core.Path.{_≡_, sym, ap, _∙_}
-use mathlib.Core.Bool.{_&&_}
-use Prim.Native.Nat.{ℕ, _+_, _-_, _*_, _≤_}
-use native.Mathlib.Omega.{arith}
+use mathlib.Core.Bool.{Bool, true, _&&_, and-true, and-false}
+use Prim.Native.Nat.{ℕ}
 use borrow.Author.Needs.{needs}
-use borrow.Author.Tests.{eq-eqb, ne-eqb}
-use mir.Syntax.{w64}
-use mir.Val.{ofZ}
-use lib.Dec.{eqb}
-use lib.ListN.{getD, drop}
+use borrow.Author.Tests.{not-true, not-false}
 use Rattle.rules_types.specs.Limits as limit
-use Rattle.rules_types.specs.Layout as layout
-use Rattle.rules.specs.Lists.{same}
-use Rattle.rules.specs.Bytes.{fromUnsigned}
+use Rattle.rules.specs.Lines.{subset}
 use Rattle.rules.specs.Elimination.{drops}
-use Rattle.theory_lists.specs.Scan.{same-next, same-end}
+use Rattle.masks.specs.Mask.{bits}
+use Rattle.lines.specs.declared.line.Line.{Line}
 use Rattle.lines.specs.Line.{meaning}
 use Rattle.steps.specs.Lines.{lineAt}
-use Rattle.steps.specs.Decoding.{decoded}
-use Rattle.steps.specs.Places.{stepAt, HasStep, length-stepAt, byte-stepAt}
-use Rattle.placing.specs.Same.{behind, drops-bytes, drops-by-field}
+use Rattle.steps.specs.Fields.{positive-bytes, negative-bytes}
 use Rattle.placing.proofs.covered.drops.Statement.{statement}
 use Rattle.placing.proofs.covered.drops.Tie as tie
 
-abbrev Inv-loop : tie.InvT-loop
-Inv-loop proof i bytes at k₀ k = (layout.stepRelation ≤ k) × (k ≤ limit.stepBytes)
-    × (drops (meaning (lineAt proof i)) (meaning (decoded bytes)) ≡ same eqb (drop k (stepAt proof i)) (drop k bytes))
+as-tight-requires : tie.Need-as-tight-requires
+as-tight-requires c κs = search needs
 
-abbrev μ-loop : tie.MeasureT-loop
-μ-loop proof i bytes at k₀ k = limit.stepBytes - k
+-- what it is, behind the test of the constraints
+module _ (c : tie.After-as-tight) where
+  abbrev start : tie.Start
+  start = c .before .before .before
 
-bound-at-requires : tie.Need-bound-at-requires Inv-loop μ-loop
-bound-at-requires c κs = search needs
+  abbrev earlier : Line
+  earlier = lineAt (start .args .proof .now) (start .args .i)
 
-bound-at-requires-2 : tie.Need-bound-at-requires-2 Inv-loop μ-loop
-bound-at-requires-2 c κs = search needs
+  abbrev this : Line
+  this = lineAt (start .args .bytes .now) 0
 
-returns : tie.Need-returns Inv-loop μ-loop
-returns c =
-    let own = c .before in
-    let held = own .before in
-    let s = held .before .before .before in
-    sym (drops-by-field _ _ _ (s .pre .1 .1 .0) (s .pre .1 .1 .1) (s .pre .0) layout.stepBound (omega arith) (omega arith)
-    (λ e. c .if1 .taken (ap (ofZ w64) (held .bound-at .ensures ∙ ap fromUnsigned e ∙ sym (own .bound-at2 .ensures)))))
+  abbrev within : ℕ → ℕ → Bool
+  within a b = subset (bits limit.allBooleans a) (bits limit.allBooleans b)
 
-positive-at-requires : tie.Need-positive-at-requires Inv-loop μ-loop
+  abbrev positives : Bool
+  positives = within (earlier .positive) (this .positive)
+
+  abbrev negatives : Bool
+  negatives = within (earlier .negative) (this .negative)
+
+  is : drops (meaning earlier) (meaning this)
+      ≡ positives && negatives && c .as-tight .result
+  unfolding drops meaning
+  is = sym (λ j. positives && negatives && c .as-tight .ensures j)
+
+returns : tie.Need-returns
+returns c = let a = c .before in
+    sym (is a ∙ ap (λ (t : Bool). positives a && negatives a && t) (not-true (a .as-tight .result) (c .if1 .taken))
+    ∙ and-false (positives a && negatives a))
+
+positive-at-requires : tie.Need-positive-at-requires
 positive-at-requires c κs = search needs
 
-positive-at-requires-2 : tie.Need-positive-at-requires-2 Inv-loop μ-loop
+positive-at-requires-2 : tie.Need-positive-at-requires-2
 positive-at-requires-2 c κs = search needs
 
-returns-2 : tie.Need-returns-2 Inv-loop μ-loop
+subset-requires : tie.Need-subset-requires
+subset-requires c κs = search needs
+
+-- the test of the positive literals
+positives-are : (c : tie.After-subset) → let a = c .before .before .before .before in c .subset .result ≡ positives a
+positives-are c =
+    let y = c .before in
+    let x = y .before in
+    let a = x .before .before in
+    let s = start a in
+    let one = x .positive-at .ensures ∙ positive-bytes (s .args .proof .now) (s .args .i) (s .pre .0) in
+    let other = y .positive-at2 .ensures ∙ positive-bytes (s .args .bytes .now) 0 (s .pre .1 .0) in
+    c .subset .ensures ∙ (λ j. within a (one j) (other j))
+
+returns-2 : tie.Need-returns-2
 returns-2 c =
-    let own = c .before in
-    let held = own .before in
-    let s = held .before .before .before .before .before .before in
-    sym (drops-by-field _ _ _ (s .pre .1 .1 .0) (s .pre .1 .1 .1) (s .pre .0) layout.stepPositive (omega arith) (omega arith)
-    (λ e. c .if2 .taken (held .positive-at .ensures ∙ e ∙ sym (own .positive-at2 .ensures))))
+    let p = c .before in
+    let a = p .before .before .before .before in
+    sym (is a ∙ ap (λ (t : Bool). t && negatives a && a .as-tight .result)
+    (sym (positives-are p) ∙ not-true (p .subset .result) (c .if2 .taken)))
 
-mul-at : tie.Need-mul-at Inv-loop μ-loop
-mul-at c = search needs
+negative-at-requires : tie.Need-negative-at-requires
+negative-at-requires c κs = search needs
 
-loop-holds : tie.Need-loop-holds Inv-loop μ-loop
-unfolding behind
-loop-holds c =
-    let s = c .before .before .before .before .before .before .before .before in
-    (omega arith, omega arith, drops-bytes _ _ _ (s .pre .1 .1 .0) (s .pre .1 .1 .1))
+negative-at-requires-2 : tie.Need-negative-at-requires-2
+negative-at-requires-2 c κs = search needs
 
-add-if3 : tie.Need-add-if3 Inv-loop μ-loop
-add-if3 c = search needs
+subset-requires-2 : tie.Need-subset-requires-2
+subset-requires-2 c κs = search needs
 
-shared-slice-read-if3 : tie.Need-shared-slice-read-if3 Inv-loop μ-loop
-shared-slice-read-if3 c = search needs
-
-shared-slice-read-if3-2 : tie.Need-shared-slice-read-if3-2 Inv-loop μ-loop
-shared-slice-read-if3-2 c = search needs
-
--- at the loop's test, from the start on
-abbrev start : tie.At-loop Inv-loop μ-loop → tie.Start Inv-loop μ-loop
-start l = l .before .before .before .before .before .before .before .before .before
-
--- the next byte of both
-next : (c : tie.In-loop Inv-loop μ-loop) →
-    let l = c .before .loop in
-    let s = start (c .before) in
-    let a = stepAt (s .args .proof .now) (s .args .i) in
-    let b = s .args .bytes .now in
-    drops (meaning (lineAt (s .args .proof .now) (s .args .i))) (meaning (decoded b))
-    ≡ eqb (getD (s .args .proof .now) (limit.stepBytes * s .args .i + l .k) 0) (getD b (l .k) 0)
-    && same eqb (drop (l .k + 1) a) (drop (l .k + 1) b)
-next c =
-    let l = c .before .loop in
-    let s = start (c .before) in
-    let p = s .args .proof .now in
-    let i = s .args .i in
-    let a = stepAt p i in
-    let b = s .args .bytes .now in
-    let room : HasStep p i = s .pre .0 in
-    l .inv .2
-    ∙ same-next 0 eqb a b (l .k) (omega (arith, length-stepAt p i room)) (omega arith)
-    ∙ ap (λ (x : ℕ). eqb x (getD b (l .k) 0) && same eqb (drop (l .k + 1) a) (drop (l .k + 1) b))
-    (byte-stepAt p i room (l .k) (omega arith))
-
-returns-3 : tie.Need-returns-3 Inv-loop μ-loop
-returns-3 c = sym (next (c .before .before .before) ∙ rw (ne-eqb _ _ (c .if3 .taken)))
-
-add-k : tie.Need-add-k Inv-loop μ-loop
-add-k c = search needs
-
-loop-less : tie.Need-loop-less Inv-loop μ-loop
-loop-less c = search needs
-
-loop-again : tie.Need-loop-again Inv-loop μ-loop
-loop-again c = (omega arith, omega arith, next (c .before .before .before) ∙ rw (eq-eqb _ _ (c .if3 .left)))
-
-returns-4 : tie.Need-returns-4 Inv-loop μ-loop
-returns-4 c =
-    let l = c .before .loop in
-    let s = start (c .before) in
-    let p = s .args .proof .now in
-    let i = s .args .i in
-    sym (l .inv .2 ∙ same-end eqb (stepAt p i) (s .args .bytes .now) (l .k) (omega (arith, length-stepAt p i (s .pre .0))) (omega arith))
+returns-3 : tie.Need-returns-3
+returns-3 c =
+    let y = c .before in
+    let x = y .before in
+    let e = x .before in
+    let p = e .before in
+    let f = p .before .before .before in
+    let a = f .before in
+    let s = start a in
+    let one = x .negative-at .ensures ∙ negative-bytes (s .args .proof .now) (s .args .i) (s .pre .0) in
+    let other = y .negative-at2 .ensures ∙ negative-bytes (s .args .bytes .now) 0 (s .pre .1 .0) in
+    let tight : a .as-tight .result ≡ true = not-false (a .as-tight .result) (f .if1 .left) in
+    let inside : p .subset .result ≡ true = not-false (p .subset .result) (e .if2 .left) in
+    c .subset2 .ensures
+    ∙ (λ j. within a (one j) (other j))
+    ∙ sym (is a ∙ (λ j. (sym (positives-are p) ∙ inside) j && negatives a && tight j) ∙ and-true (negatives a))
 
 pub drops-spec : {M : Type 1} → statement M
 drops-spec =
     tie.close
     (tie.spec
-    Inv-loop
-    μ-loop
-    bound-at-requires
-    bound-at-requires-2
+    as-tight-requires
     returns
     positive-at-requires
     positive-at-requires-2
+    subset-requires
     returns-2
-    mul-at
-    loop-holds
-    add-if3
-    shared-slice-read-if3
-    shared-slice-read-if3-2
-    returns-3
-    add-k
-    loop-less
-    loop-again
-    returns-4)
+    negative-at-requires
+    negative-at-requires-2
+    subset-requires-2
+    returns-3)

@@ -3,7 +3,8 @@ use mathlib.Core.Path.{_≡_, _∙_}
 use Rattle.rules.specs.Lines.{positively, negatively}
 use Rattle.lines.specs.Line.{meaning}
 use Rattle.steps.specs.Lines.{lineAt}
-use Rattle.rounds.specs.Sides.{onSide, positive-bytes, negative-bytes}
+use Rattle.steps.specs.Fields.{positive-bytes, negative-bytes}
+use Rattle.rounds.specs.Sides.{onSide}
 use borrow.Author.Needs.{needs}
 use Rattle.rounds.proofs.side.boolean_side.Statement.{statement}
 use Rattle.rounds.proofs.side.boolean_side.Tie as tie

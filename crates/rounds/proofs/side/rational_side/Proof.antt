@@ -10,7 +10,7 @@ use Rattle.rules.specs.Bytes.{fromUnsigned, fieldAt}
 use Rattle.rules.specs.Lines.{coefficient, positively, negatively}
 use Rattle.lines.specs.Line.{meaning}
 use Rattle.steps.specs.Lines.{lineAt}
-use Rattle.rounds.specs.Sides.{onSide, coefficient-bytes}
+use Rattle.rounds.specs.Sides.{onSide, coefficient-side}
 use borrow.Author.Needs.{needs}
 use Rattle.rounds.proofs.side.rational_side.Statement.{statement}
 use Rattle.rounds.proofs.side.rational_side.Tie as tie
@@ -24,7 +24,7 @@ is : (k : tie.After-coefficient-at) → let a = k .before .before .args in
     ≡ coefficient (a .f) (meaning (lineAt (a .proof .now) (a .i)) .constraint)
 is k =
     let s = k .before .before in
-    coefficient-bytes (s .args .proof .now) (s .args .i) (s .pre .0) (s .pre .1 .1) (s .args .f) (s .pre .1 .0)
+    coefficient-side (s .args .proof .now) (s .args .i) (s .pre .0) (s .pre .1 .1) (s .args .f) (s .pre .1 .0)
 
 is-positive-requires : tie.Need-is-positive-requires
 is-positive-requires c κs = search needs

@@ -1,14 +1,11 @@
 -- `access::line_at` meets its contract. Assumes nothing.
-use mathlib.Core.Path.{sym, ap, _∙_}
-use native.Mathlib.Omega.{arith}
+use mathlib.Core.Path.{_∙_}
 use mir.Syntax.{w64}
 use mir.Facts.{toZ-ofZ}
 use borrow.Author.Needs.{needs, sfits-of}
-use Rattle.rules_types.specs.Layout.{stepBound, stepPositive, stepNegative, stepRelation}
-use Rattle.rules.specs.Bytes.{fromUnsigned}
 use Rattle.steps.specs.Decoding.{decoded}
-use Rattle.steps.specs.Places.{field-stepAt}
 use Rattle.steps.specs.Lines.{lineAt}
+use Rattle.steps.specs.Fields.{relation-bytes, positive-bytes, negative-bytes, bound-bytes}
 use Rattle.steps.proofs.access.line_at.Statement.{statement}
 use Rattle.steps.proofs.access.line_at.Tie as tie
 
@@ -37,12 +34,11 @@ returns c =
     let s = k .before .before in
     let proof = s .args .proof .now in
     let i = s .args .i in
-    let field = field-stepAt proof i (s .pre) in
-    let bound = toZ-ofZ {w = w64} (sfits-of (c .bound-at .ok)) ∙ c .bound-at .ensures
-    ∙ ap fromUnsigned (sym (field stepBound 4 (omega arith))) in
-    let positive = p .positive-at .ensures ∙ sym (field stepPositive 4 (omega arith)) in
-    let negative = n .negative-at .ensures ∙ sym (field stepNegative 4 (omega arith)) in
-    let relation = r .relation-at .ensures ∙ sym (field stepRelation 1 (omega arith)) in
+    let room = s .pre in
+    let bound = toZ-ofZ {w = w64} (sfits-of (c .bound-at .ok)) ∙ c .bound-at .ensures ∙ bound-bytes proof i room in
+    let positive = p .positive-at .ensures ∙ positive-bytes proof i room in
+    let negative = n .negative-at .ensures ∙ negative-bytes proof i room in
+    let relation = r .relation-at .ensures ∙ relation-bytes proof i room in
     (λ x. record {
       positive = positive x;
       negative = negative x;

@@ -1,9 +1,9 @@
--- `access::mask_at` meets its contract: four bytes make 32 bits. Assumes nothing.
+-- `access::word_at` meets its contract: four bytes make 32 bits. Assumes nothing.
 use native.Mathlib.Omega.{arith}
 use Rattle.theory_bytes.specs.Fields.{fieldAt-<}
 use borrow.Author.Needs.{needs}
-use Rattle.steps.proofs.access.mask_at.Statement.{statement}
-use Rattle.steps.proofs.access.mask_at.Tie as tie
+use Rattle.steps.proofs.access.word_at.Statement.{statement}
+use Rattle.steps.proofs.access.word_at.Tie as tie
 
 u32-at-requires : tie.Need-u32-at-requires
 u32-at-requires c κs = search needs
@@ -16,5 +16,5 @@ cast-result c =
 returns : tie.Need-returns
 returns c = search needs
 
-pub mask-at-spec : {M : Type 1} → statement M
-mask-at-spec = tie.close (tie.spec u32-at-requires cast-result returns)
+pub word-at-spec : {M : Type 1} → statement M
+word-at-spec = tie.close (tie.spec u32-at-requires cast-result returns)
