@@ -28,7 +28,7 @@ module _ (stops : Stops) (e : End) (steps : List Step) (n : ℕ) where
   rounds-ended variables t [] = refl
   rounds-ended variables t (v ∷ vs) = refl
 
--- a line that is added: overflowing, known, one too many, empty or held, for any claim of the elimination then
+-- a line that is added: overflowing, covered, one too many, empty or held, for any claim of the elimination then
 module _ (P : State → Type 0) (s : Step) (steps : List Step) (n : ℕ) where
   placed-cases : (w known many blank : Bool) → (T w → P (ended overflow steps n)) → (T known → P (running steps n))
       → (T many → P (ended outOfSteps steps n))
@@ -56,7 +56,7 @@ unfolding stepsOf
 add-steps P stops w s steps n h k =
     add-cases (λ state. P (stepsOf state)) s steps n stops w (λ w. h) (λ z. h) (λ m. h) (λ m e. k m) (λ m e. k m)
 
--- and it equals none of them
+-- and none of them drops it
 pub add-new : (P : List Step → Type 0) (stops : Stops) (w : Bool) (s : Step) (steps : List Step) (n : ℕ) → P steps
     → (T (not (covered (s .line) steps)) → P (steps ++ (s ∷ []))) → P (stepsOf (add stops w s steps n))
 unfolding add placed stepsOf

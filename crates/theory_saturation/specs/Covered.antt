@@ -26,7 +26,7 @@ pub record Covers (j r : Line) : Type 0 where
   pub only : (w : Variable) → T (contains w j) → T (contains w r)
   pub gives : (χ : Assignment) → 1 ≤ χ .denominator → T (lineHolds χ j) → T (lineHolds χ r)
 
--- a resolvent: dropped, or a line of S equals it, or covers it, or whatever R says
+-- a resolvent: dropped, or a line of S drops it, or covers it, or whatever R says
 abbrev pub AccountedFor : (Line → Line → Type 0) → List Line → Option Line → Type 0
 AccountedFor R S o = DroppedOr (λ r. Any (λ j. R j r) S) o
 
