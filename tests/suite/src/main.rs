@@ -17,6 +17,7 @@ mod report;
 mod solver;
 mod solving;
 mod vectors;
+mod weaker;
 
 use report::Sums;
 use std::process::ExitCode;
@@ -36,6 +37,7 @@ fn main() -> ExitCode {
     reading::run(&mut sums);
     checks::run(&mut sums);
     solving::run(&mut sums);
+    weaker::run(&mut sums);
     earlier::run(&mut sums);
     program::run(&mut sums);
     println!("{} passed, {} failed", sums.passed, sums.failed);
