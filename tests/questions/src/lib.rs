@@ -3,3 +3,4 @@
 pub mod largest;
 pub mod problem;
 pub mod random;
+pub mod rows;

@@ -1,8 +1,8 @@
 //! Examples 1 to 12 of document 01, each variant, with all that 01 states of them, and what 02's
-//! (vii) states of the last; a pair at the limit of lines in its place; and what the program prints
+//! (viii) states of the last; a pair at the limit of lines in its place; and what the program prints
 //! for some.
 
-use crate::buffers::{read_sheet, solve_filled, Solved};
+use crate::buffers::{read_sheet, solve_filled, Solved, LINE_LENGTH};
 use crate::report::{equal, Group, Outcome, Sums};
 use crate::solver::Solver;
 use questions::largest;
@@ -145,8 +145,8 @@ fn examples_7_to_12() -> Vec<Example> {
         example("example 10", example_10(3), refused(14, 2, 1)),
         example("example 10, y for 3y", example_10(1), agrees(3, 1)),
         example("example 11", example_11(), unwritten),
-        example("example 12", example_12(24), agrees(64, 0)).with(&[], figures_12),
-        example("example 12, i = 25 too", example_12(25), agrees(65, 0)).with(&[], figures_12),
+        example("example 12", example_12(24), agrees(81, 40)).with(&[], figures_12),
+        example("example 12, i = 25 too", example_12(25), agrees(81, 40)).with(&[], figures_12),
     ]
 }
 
@@ -177,7 +177,28 @@ pub fn run(solver: Solver, sums: &mut Sums) {
     for example in examples() {
         group.case(example.name, || check_example(solver, &example));
     }
+    for last in [24, 25] {
+        group.case(&format!("example 12's book, i to {last}"), || {
+            check_example_12(solver, last)
+        });
+    }
     group.finish(sums);
+}
+
+/// "Example 12 then loads 41 lines, both ways; x and y tie, x goes first": the first upper, all
+/// lowers, and their pairs by figure 0.
+fn check_example_12(solver: Solver, last: u16) -> Outcome {
+    let solved = solve_filled(solver, &example_12(i32::from(last)).encode());
+    let origin = |line: &[u8]| {
+        let parent = |place: usize| u16::from_le_bytes([line[place], line[place + 1]]);
+        (line[0], line[1], parent(2), parent(4))
+    };
+    let lines = solved.used().chunks_exact(LINE_LENGTH).map(origin);
+    let loaded = [0].into_iter().chain(last..last + 40);
+    let loaded = loaded.map(|clause| (0, 0, clause, 0));
+    let results = (1..=40).map(|lower| (1, 0, 0, lower));
+    let expected: Vec<_> = loaded.chain(results).collect();
+    equal("lines", &expected, &lines.collect())
 }
 
 fn check_example(solver: Solver, example: &Example) -> Outcome {
