@@ -27,10 +27,18 @@ pub fn family(name: &str, family: &[Compared]) -> String {
         [0, 1].map(|i| sum(i) / decided.len().max(1) as f64)
     };
     let lines = both(mean(|one, i| one.told[i].value as f64).map(tenths));
+    let most = both([0, 1].map(|i| most_lines(family, i)).map(whole));
     let pairs = both(mean(|one, i| one.told[i].pairs as f64).map(tenths));
     let times = time(mean(|one, i| one.times[i]));
     let count = whole(family.len() as u64);
-    format!("| {count} {name} | {answers} | {lines} | {pairs} | {times} |")
+    format!("| {count} {name} | {answers} | {lines}, most {most} | {pairs} | {times} |")
+}
+
+/// The most lines of a question that this archive decides.
+fn most_lines(family: &[Compared], archive: usize) -> u64 {
+    let told = family.iter().map(|one| one.told[archive]);
+    let lines = told.filter(Told::is_decided).map(|told| told.value as u64);
+    lines.max().unwrap_or(0)
 }
 
 /// How many of a family are decided, wide and full, and refused otherwise if any is.
