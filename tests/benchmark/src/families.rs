@@ -1,7 +1,7 @@
 //! Families of questions: at random, and batches.
 
 use questions::batches::{loose, natural, richer};
-use questions::problem::{at_most, below, no, yes, Problem, Term};
+use questions::problem::{at_most, below, no, yes, Problem};
 use questions::random::Random;
 
 /// Draws a question.
@@ -38,25 +38,29 @@ fn rows(random: &mut Random, figures: u8, once_in: i64, clauses: usize) -> Probl
         let constraint = if random.once_in(4) { below } else { at_most };
         let mut clause = vec![constraint(&coefficients, random.between(-10, 20) as i32)];
         if random.once_in(3) {
-            clause.push(literal(random, 4));
+            let literal = if random.once_in(2) { yes } else { no };
+            clause.push(literal(random.between(0, 3) as u8));
         }
         problem.clauses.push(clause);
     }
     problem
 }
 
-/// So many clauses of three literals, each of one of sixteen marks.
+/// So many clauses of three literals, of three of sixteen marks.
 fn marks(random: &mut Random, clauses: usize) -> Problem {
     let mut problem = Problem::new(16, 0);
     for _ in 0..clauses {
-        let clause = (0..3).map(|_| literal(random, 16)).collect();
+        let mut others: Vec<u8> = (0..16).collect();
+        let mut clause = Vec::new();
+        while clause.len() < 3 {
+            let mark = others.remove(random.between(0, others.len() as i64 - 1) as usize);
+            clause.push(if random.once_in(2) {
+                yes(mark)
+            } else {
+                no(mark)
+            });
+        }
         problem.clauses.push(clause);
     }
     problem
-}
-
-/// One of so many marks, or its negation.
-fn literal(random: &mut Random, marks: i64) -> Term {
-    let sign = if random.once_in(2) { yes } else { no };
-    sign(random.between(0, marks - 1) as u8)
 }
