@@ -7,7 +7,7 @@ mod solved;
 use families::{FAMILIES, SEED};
 use questions::largest::{self, Kind};
 use questions::random::Random;
-use reference::{Answer, Order, Search};
+use reference::{Answer, Order, Rules, Search};
 use std::time::{Duration, Instant};
 
 /// The best of so many rounds of about this time.
@@ -47,7 +47,11 @@ fn checks() {
     let mut book = vec![0; 65_536];
     let mut sheet = [0; 64];
     // In rising order, in which this question's course keeps its book.
-    let answer = reference::solve_in(Order::Rising, &question, &mut book, &mut sheet);
+    let rising = Rules {
+        order: Order::Rising,
+        ..Rules::TODAY
+    };
+    let answer = reference::solve_under(rising, &question, &mut book, &mut sheet);
     println!("pieces: solving in rising order says {answer:?}");
     repeat_lines(&mut book, 256);
     compare_books("pieces", &question, &book);

@@ -5,3 +5,4 @@ pub mod diamonds;
 pub mod largest;
 pub mod problem;
 pub mod random;
+pub mod rows;

@@ -1,11 +1,13 @@
 //! The elimination: loading, then one round for every figure and every mark, each pairing the
 //! lines with it positive and the lines with it negative, after the published rules of Davis and
 //! Putnam and of Fourier and Motzkin. 01's "The book" and "The course", with the figures in the
-//! order of 02's (vii), "Cheapest figure first".
+//! order of 02's (vii), "Cheapest figure first", and without the lines that its (viii) drops, "Drop
+//! weaker lines".
 
+use crate::covering::Dropping;
 use crate::normalize::{normalize, split, Body};
 use crate::problem::{Constraint, Literals, Problem, Relation, MAX_AMOUNT, MAX_RATIONALS};
-use std::collections::HashSet;
+use std::collections::HashMap;
 
 pub const MAX_STEPS: usize = 1_024;
 pub const STEP_LENGTH: usize = 64;
@@ -56,9 +58,13 @@ pub struct Elimination {
     pub pairs: u64,
     pub taken: Vec<Variable>,
     pub end: End,
-    /// The lines once more, where a hash is asked for.
-    bodies: Option<HashSet<Body>>,
+    rules: Rules,
+    /// The lines once more, by their coefficients, where a hash is asked for.
+    rows: Option<HashMap<Row, Vec<Body>>>,
 }
+
+/// A line's coefficients; none without a condition.
+type Row = Option<[i64; MAX_RATIONALS]>;
 
 impl Body {
     /// A line without literal and condition.
@@ -72,6 +78,10 @@ impl Body {
             let mut amounts = constraint.coefficients.iter().chain([&constraint.bound]);
             amounts.any(|amount| amount.abs() > MAX_AMOUNT)
         })
+    }
+
+    fn row(&self) -> Row {
+        self.constraint.map(|constraint| constraint.coefficients)
     }
 
     /// 1 if the line contains the variable positively, -1 if negatively, 0 if not at all.
@@ -171,8 +181,8 @@ impl Step {
     }
 }
 
-/// How an equal earlier line is looked for: by a plain search through all lines, or by a hash,
-/// which only the benchmark asks for.
+/// How an earlier line that drops one is looked for: by a plain search through all lines, or by a
+/// hash of the coefficients, which only the benchmark asks for.
 #[derive(Clone, Copy)]
 pub enum Search {
     Plain,
@@ -187,26 +197,41 @@ pub enum Order {
     Rising,
 }
 
+/// The rules of a course that requests of 02 have changed.
+#[derive(Clone, Copy, Debug, PartialEq, Eq)]
+pub struct Rules {
+    pub order: Order,
+    pub dropping: Dropping,
+}
+
+impl Rules {
+    pub const TODAY: Rules = Rules {
+        order: Order::Cheapest,
+        dropping: Dropping::Covered,
+    };
+}
+
 /// Runs the course of a problem to its end.
-pub fn eliminate(problem: &Problem, order: Order, search: Search) -> Elimination {
+pub fn eliminate(problem: &Problem, rules: Rules, search: Search) -> Elimination {
     let mut elimination = Elimination {
         steps: Vec::new(),
         pairs: 0,
         taken: Vec::new(),
         end: End::Saturated,
-        bodies: match search {
+        rules,
+        rows: match search {
             Search::Plain => None,
-            Search::Hashed => Some(HashSet::new()),
+            Search::Hashed => Some(HashMap::new()),
         },
     };
-    if let Err(end) = elimination.run(problem, order) {
+    if let Err(end) = elimination.run(problem) {
         elimination.end = end;
     }
     elimination
 }
 
 impl Elimination {
-    fn run(&mut self, problem: &Problem, order: Order) -> Result<(), End> {
+    fn run(&mut self, problem: &Problem) -> Result<(), End> {
         for part in split(problem) {
             let origin = Origin::Loaded {
                 clause: part.clause,
@@ -214,12 +239,12 @@ impl Elimination {
             };
             self.add(origin, part.body)?;
         }
-        (0..ROUNDS).try_for_each(|_| self.round(problem.rationals, order))
+        (0..ROUNDS).try_for_each(|_| self.round(problem.rationals))
     }
 
     /// Pairs the turn's lines; no result belongs to the turn, so these are known at its start.
-    fn round(&mut self, rationals: usize, order: Order) -> Result<(), End> {
-        let variable = self.next(rationals, order);
+    fn round(&mut self, rationals: usize) -> Result<(), End> {
+        let variable = self.next(rationals);
         let uppers = self.members(variable, 1);
         let lowers = self.members(variable, -1);
         self.taken.push(variable);
@@ -233,10 +258,10 @@ impl Elimination {
 
     /// What the next turn takes. Figures that the question does not have are in no line; they come
     /// behind its own, so that the marks' turns stay 8 to 39.
-    fn next(&self, rationals: usize, order: Order) -> Variable {
+    fn next(&self, rationals: usize) -> Variable {
         let own = (0..rationals).map(Variable::Rational);
         let mut remaining = own.filter(|figure| !self.taken.contains(figure));
-        let figure = match order {
+        let figure = match self.rules.order {
             // Of several with the least cost this gives the first.
             Order::Cheapest => remaining.min_by_key(|&figure| self.cost(figure)),
             Order::Rising => remaining.next(),
@@ -280,20 +305,20 @@ impl Elimination {
         self.add(origin, body)
     }
 
-    /// Adds a tidied line, unless it ends the course or equals an earlier one.
+    /// Adds a tidied line, unless it ends the course or an earlier one drops it.
     fn add(&mut self, origin: Origin, body: Body) -> Result<(), End> {
         if body.overflows() {
             return Err(End::Overflow);
         }
-        if self.has_equal(&body) {
+        if self.is_dropped(&body) {
             return Ok(());
         }
         if self.steps.len() == MAX_STEPS {
             return Err(End::OutOfSteps);
         }
         self.steps.push(Step { origin, body });
-        if let Some(bodies) = &mut self.bodies {
-            bodies.insert(body);
+        if let Some(rows) = &mut self.rows {
+            rows.entry(body.row()).or_default().push(body);
         }
         match body.is_empty() {
             true => Err(End::Empty),
@@ -301,10 +326,15 @@ impl Elimination {
         }
     }
 
-    fn has_equal(&self, body: &Body) -> bool {
-        match &self.bodies {
-            None => self.steps.iter().any(|step| step.body == *body),
-            Some(bodies) => bodies.contains(body),
+    fn is_dropped(&self, body: &Body) -> bool {
+        let drops = |earlier: &Body| self.rules.dropping.drops(earlier, body);
+        match &self.rows {
+            None => self.steps.iter().any(|step| drops(&step.body)),
+            // A line that drops it has no condition, or the same coefficients.
+            Some(rows) => {
+                let has = |row: Row| rows.get(&row).map_or(false, |row| row.iter().any(drops));
+                has(None) || has(body.row())
+            }
         }
     }
 }

@@ -1,9 +1,10 @@
-//! The second solver: document 01 with 02's request (vii), written once more, in plain Rust and
-//! from their text alone, to judge the proved one from outside. Every call here takes any bytes and
-//! buffers of any length.
+//! The second solver: document 01 with 02's requests (vii) and (viii), written once more, in plain
+//! Rust and from their text alone, to judge the proved one from outside. Every call here takes any
+//! bytes and buffers of any length.
 
 pub mod big;
 mod checker;
+mod covering;
 mod elimination;
 mod evidence;
 mod fraction;
@@ -13,7 +14,8 @@ mod print;
 mod problem;
 
 pub use checker::{check_book, check_sheet, Checked};
-pub use elimination::{Order, Search};
+pub use covering::Dropping;
+pub use elimination::{Order, Rules, Search};
 pub use evidence::{hand_back, Part};
 pub use print::print;
 pub use problem::{read, Fault, Problem};
@@ -46,24 +48,25 @@ pub enum Answer {
 
 /// Solves a question; book and sheet are left as 01's "What each call says" has them.
 pub fn solve(question: &[u8], book: &mut [u8], sheet: &mut [u8]) -> Answer {
-    run(Order::Cheapest, Search::Plain, question, book, sheet)
+    run(Rules::TODAY, Search::Plain, question, book, sheet)
 }
 
-/// The same, with a choice how equal lines are looked for.
+/// The same, with a choice how the line that drops another is looked for.
 pub fn solve_by(search: Search, question: &[u8], book: &mut [u8], sheet: &mut [u8]) -> Answer {
-    run(Order::Cheapest, search, question, book, sheet)
+    run(Rules::TODAY, search, question, book, sheet)
 }
 
-/// The same, with a choice which figures go first: in rising order, as before 02's (vii), too.
-pub fn solve_in(order: Order, question: &[u8], book: &mut [u8], sheet: &mut [u8]) -> Answer {
-    run(order, Search::Plain, question, book, sheet)
+/// The same, by other rules of the course: in rising order, as before 02's (vii), or with equal lines
+/// alone dropped, as before (viii), or both.
+pub fn solve_under(rules: Rules, question: &[u8], book: &mut [u8], sheet: &mut [u8]) -> Answer {
+    run(rules, Search::Plain, question, book, sheet)
 }
 
 /// The figures that a question's course takes, in their order, up to its end; none of a question
 /// at fault.
 pub fn figures_taken(question: &[u8]) -> Option<Vec<usize>> {
     let problem = read(question).ok()?;
-    let course = eliminate(&problem, Order::Cheapest, Search::Plain);
+    let course = eliminate(&problem, Rules::TODAY, Search::Plain);
     let figure = |variable: &Variable| match *variable {
         Variable::Rational(figure) if figure < problem.rationals => Some(figure),
         _ => None,
@@ -71,7 +74,7 @@ pub fn figures_taken(question: &[u8]) -> Option<Vec<usize>> {
     Some(course.taken.iter().filter_map(figure).collect())
 }
 
-fn run(order: Order, search: Search, question: &[u8], book: &mut [u8], sheet: &mut [u8]) -> Answer {
+fn run(rules: Rules, search: Search, question: &[u8], book: &mut [u8], sheet: &mut [u8]) -> Answer {
     let refused = |number, place| Answer::Refused {
         number,
         place,
@@ -85,7 +88,7 @@ fn run(order: Order, search: Search, question: &[u8], book: &mut [u8], sheet: &m
     }
     match read(question) {
         Ok(problem) => {
-            let course = eliminate(&problem, order, search);
+            let course = eliminate(&problem, rules, search);
             answer(&problem, &course, book, sheet)
         }
         Err(Fault { number, place }) => refused(number, place),

@@ -10,7 +10,7 @@ pub struct Normal {
 }
 
 /// What a line says: literals and at most one condition. Two lines are equal if these are.
-#[derive(Clone, Copy, Debug, PartialEq, Eq, Hash)]
+#[derive(Clone, Copy, Debug, PartialEq, Eq)]
 pub struct Body {
     pub literals: Literals,
     pub constraint: Option<Constraint>,

@@ -20,14 +20,14 @@ pub struct Fault {
 }
 
 /// 01's relation: at most (≤, byte 1) or below (<, byte 2).
-#[derive(Clone, Copy, Debug, PartialEq, Eq, Hash)]
+#[derive(Clone, Copy, Debug, PartialEq, Eq)]
 pub enum Relation {
     AtMost,
     Below,
 }
 
 /// 01's condition: sum of coefficient × figure, relation, bound. Coefficients from r on are 0.
-#[derive(Clone, Copy, Debug, PartialEq, Eq, Hash)]
+#[derive(Clone, Copy, Debug, PartialEq, Eq)]
 pub struct Constraint {
     pub relation: Relation,
     pub coefficients: [i64; MAX_RATIONALS],
@@ -35,7 +35,7 @@ pub struct Constraint {
 }
 
 /// A set of literals: bit i of `positive` and of `negative` is mark i.
-#[derive(Clone, Copy, Debug, Default, PartialEq, Eq, Hash)]
+#[derive(Clone, Copy, Debug, Default, PartialEq, Eq)]
 pub struct Literals {
     pub positive: u32,
     pub negative: u32,

@@ -1,5 +1,5 @@
 //! Examples 1 to 12 of document 01, each variant, with all that 01 states of them, and what 02's
-//! (vii) states of the last; a pair at the limit of lines in its place; and what the program prints
+//! (viii) states of the last; a pair at the limit of lines in its place; and what the program prints
 //! for some.
 
 use crate::buffers::{read_sheet, solve_filled, Solved};
@@ -145,8 +145,8 @@ fn examples_7_to_12() -> Vec<Example> {
         example("example 10", example_10(3), refused(14, 2, 1)),
         example("example 10, y for 3y", example_10(1), agrees(3, 1)),
         example("example 11", example_11(), unwritten),
-        example("example 12", example_12(24), agrees(64, 0)).with(&[], figures_12),
-        example("example 12, i = 25 too", example_12(25), agrees(65, 0)).with(&[], figures_12),
+        example("example 12", example_12(24), agrees(81, 40)).with(&[], figures_12),
+        example("example 12, i = 25 too", example_12(25), agrees(81, 40)).with(&[], figures_12),
     ]
 }
 

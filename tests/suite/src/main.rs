@@ -7,13 +7,13 @@ mod buffers;
 mod checks;
 mod consistency;
 mod damage;
+mod earlier;
 mod examples;
 mod integers;
 mod lengths;
 mod program;
 mod reading;
 mod report;
-mod rising;
 mod solver;
 mod solving;
 mod vectors;
@@ -36,7 +36,7 @@ fn main() -> ExitCode {
     reading::run(&mut sums);
     checks::run(&mut sums);
     solving::run(&mut sums);
-    rising::run(&mut sums);
+    earlier::run(&mut sums);
     program::run(&mut sums);
     println!("{} passed, {} failed", sums.passed, sums.failed);
     match sums.failed {

@@ -5,7 +5,7 @@ use crate::buffers::{BOOK_LENGTH, SHEET_LENGTH};
 use crate::report::{demand, equal, Group, Outcome, Sums};
 use crate::{examples, vectors};
 use questions::largest;
-use questions::problem::{at_most, Problem};
+use questions::problem::{at_most, yes, Problem};
 use questions::random::Random;
 use reference::{Answer, Checked, Part, Verdict};
 use std::collections::BTreeMap;
@@ -144,9 +144,9 @@ pub fn question(random: &mut Random) -> Vec<u8> {
     question
 }
 
-/// Near the 1,024 lines: uppers and lowers of one figure whose pairs mostly differ, and lowers of
-/// another, which make it the costlier one and contradict no result or the first; or the last upper
-/// gives a wide one.
+/// Near the 1,024 lines: uppers and lowers of one figure whose pairs all give lines, since bounds
+/// fall, and lowers of another, which make it the costlier one and contradict no result or the
+/// first; or the last upper gives a wide one.
 fn many_lines(random: &mut Random) -> Problem {
     let cheap = random.between(0, 2) as usize;
     let costly = (cheap + random.between(1, 2) as usize) % 3;
@@ -154,22 +154,26 @@ fn many_lines(random: &mut Random) -> Problem {
         let mut row = [0; 3];
         row[cheap] = of_cheap;
         row[costly] = of_costly;
-        vec![at_most(&row, bound)]
+        at_most(&row, bound)
     };
     let uppers = random.between(20, 44) as i32;
     // All clauses and pairs are (uppers + 2) × (lowers + 1) - 1 lines.
     let lowers = 1_025 / (uppers + 2) - 1 + random.between(-1, 2) as i32;
     let most = [1_000, -1_000_000][random.between(0, 1) as usize];
-    let mut problem = Problem::new(0, 3);
+    let mut problem = Problem::new(1, 3);
     let clauses = &mut problem.clauses;
     for i in (1..=uppers).rev() {
-        clauses.push(term(1, 1 + random.between(0, 1) as i32, 100 * i));
+        let mut upper = vec![term(1, 1, 100 * i)];
+        if random.once_in(4) {
+            upper.push(yes(0));
+        }
+        clauses.push(upper);
     }
     if random.once_in(4) {
-        clauses.push(term(1, 3, 1_000_000_000));
+        clauses.push(vec![term(1, 3, 1_000_000_000)]);
     }
-    clauses.extend((0..lowers).map(|j| term(-1, 0, 1 - j)));
-    clauses.extend((0..=lowers).map(|k| term(0, -1, most - k)));
+    clauses.extend((0..lowers).map(|j| vec![term(-1, 0, 1 - j)]));
+    clauses.extend((0..=lowers).map(|k| vec![term(0, -1, most - k)]));
     problem
 }
 

@@ -13,11 +13,12 @@ const FEWEST: usize = 20;
 /// The fields of one line.
 type Fields<'a> = [&'a str];
 
-/// Runs all six files.
+/// Runs all seven files.
 pub fn run(solver: Solver, sums: &mut Sums) {
     run_file(solver, "solve.txt", solve_case, sums);
     run_file(solver, "check_book.txt", book_case, sums);
     run_file(solver, "base_books.txt", book_case, sums);
+    run_file(solver, "cheapest_books.txt", book_case, sums);
     run_file(solver, "check_sheet.txt", sheet_case, sums);
     run_file(solver, "buffers.txt", buffers_case, sums);
     run_file(solver, "hand_back.txt", hand_back_case, sums);

@@ -1,6 +1,7 @@
-//! The rising order, in which the figures went before 02's (vii), and which the second solver can
-//! still be asked for: no question is decided otherwise in it, and the proved checks accept its
-//! books and sheets. Books that version 1.0 made are among the vectors; most are not ours.
+//! Earlier rules of the course, which the second solver can still be asked for: the figures in
+//! rising order, as before 02's (vii), and equal lines alone dropped, as before (viii). No question
+//! is decided otherwise by them, and the proved checks accept their books and sheets. Books that
+//! the code of either made are among the vectors; most are not ours.
 
 use crate::buffers::{solve_filled, BOOK_LENGTH, SHEET_LENGTH};
 use crate::report::{demand, equal, Group, Sums};
@@ -8,53 +9,87 @@ use crate::solver::{Solver, BOTH};
 use crate::solving::{check_part, question};
 use crate::vectors;
 use questions::random::Random;
-use reference::{Answer, Order, Verdict};
+use questions::rows;
+use reference::{Answer, Dropping, Order, Rules, Verdict};
 
 const SEED: u64 = 9;
 const CASES: usize = 20_000;
 
 /// How often another book, another sheet, a verdict now alone and a verdict then alone came.
 type Tally = [usize; 4];
-const LEAST: Tally = [2_000, 1_000, 200, 10];
+
+/// Rules of the course, the file of the books that they gave, and how often each of the tally's
+/// must come at least.
+struct Earlier {
+    name: &'static str,
+    rules: Rules,
+    books: &'static str,
+    least: Tally,
+}
+
+const BEFORE: [Earlier; 2] = [
+    Earlier {
+        name: "by the rules of version 1.0",
+        rules: Rules {
+            order: Order::Rising,
+            dropping: Dropping::Equal,
+        },
+        books: "base_books.txt",
+        least: [5_000, 1_000, 100, 5],
+    },
+    Earlier {
+        name: "by the rules before (viii)",
+        rules: Rules {
+            order: Order::Cheapest,
+            dropping: Dropping::Equal,
+        },
+        books: "cheapest_books.txt",
+        least: [5_000, 100, 10, 1],
+    },
+];
 /// The fewest stored books.
 const FEWEST: usize = 30;
 
 pub fn run(sums: &mut Sums) {
-    run_random(sums);
-    for solver in BOTH {
-        run_stored(solver, sums);
+    for earlier in BEFORE {
+        run_random(&earlier, sums);
+        for solver in BOTH {
+            run_stored(solver, &earlier, sums);
+        }
     }
 }
 
-fn run_random(sums: &mut Sums) {
-    let mut group = Group::new("solving: in rising order");
+/// Random questions of all kinds, and as many of few rows.
+fn run_random(earlier: &Earlier, sums: &mut Sums) {
+    let mut group = Group::new(format!("solving: {}", earlier.name));
     let mut random = Random::new(SEED);
     let mut tally = Tally::default();
     for number in 0..CASES {
-        let question = question(&mut random);
+        let question = match number % 2 {
+            0 => question(&mut random),
+            _ => rows::problem(&mut random).encode(),
+        };
         group.case(&format!("number {number}"), || {
-            for (count, came) in tally.iter_mut().zip(compare(&question)?) {
+            for (count, came) in tally.iter_mut().zip(compare(earlier.rules, &question)?) {
                 *count += usize::from(came);
             }
             Ok(())
         });
     }
     group.case("each comes often", || {
-        let often = tally
-            .iter()
-            .zip(LEAST)
-            .all(|(&count, least)| count >= least);
+        let mut often = tally.iter().zip(earlier.least);
+        let often = often.all(|(&count, least)| count >= least);
         demand(often, &format!("they came {tally:?} times"))
     });
     group.finish(sums);
 }
 
-/// Solves in both orders, and tells which of the tally's came.
-fn compare(question: &[u8]) -> Result<[bool; 4], String> {
+/// Solves by both rules, and tells which of the tally's came.
+fn compare(rules: Rules, question: &[u8]) -> Result<[bool; 4], String> {
     let (mut our_book, mut our_sheet) = ([0; BOOK_LENGTH], [0; SHEET_LENGTH]);
     let (mut book, mut sheet) = ([0; BOOK_LENGTH], [0; SHEET_LENGTH]);
     let now = proved::solve(question, &mut our_book, &mut our_sheet);
-    let then = reference::solve_in(Order::Rising, question, &mut book, &mut sheet);
+    let then = reference::solve_under(rules, question, &mut book, &mut sheet);
     let part = reference::hand_back(&then, &book, &sheet);
     check_part(question, &then, part)?;
     let (now, then) = (satisfiable(&now), satisfiable(&then));
@@ -78,10 +113,10 @@ fn satisfiable(answer: &Answer) -> Option<bool> {
     }
 }
 
-/// Where version 1.0 wrote these books, the verdict is the same, and most books are others.
-fn run_stored(solver: Solver, sums: &mut Sums) {
-    let mut group = solver.group("solving: questions of version 1.0's books");
-    let stored = vectors::questions_with("base_books.txt");
+/// Where the code of these rules wrote a book, the verdict is the same, and most books are others.
+fn run_stored(solver: Solver, earlier: &Earlier, sums: &mut Sums) {
+    let mut group = solver.group(&format!("solving: questions of {}", earlier.books));
+    let stored = vectors::questions_with(earlier.books);
     let mut others = 0;
     for (number, case) in stored.iter().enumerate() {
         group.case(&format!("number {number}"), || {
