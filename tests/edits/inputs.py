@@ -62,6 +62,9 @@ def vectors(folder):
         yield solving(name, bytes.fromhex(asked))
     for name, asked, book, *_ in rows("check_book.txt"):
         yield Input(f"book: {name}", "B", bytes.fromhex(asked), bytes.fromhex(book))
+    for file in ("base_books.txt", "cheapest_books.txt"):
+        for name, asked, book, *_ in rows(file):
+            yield Input(f"book of {file}: {name}", "B", bytes.fromhex(asked), bytes.fromhex(book))
     for name, asked, given, *_ in rows("check_sheet.txt"):
         yield Input(f"sheet: {name}", "M", bytes.fromhex(asked), b"", bytes.fromhex(given))
     for start, zeros, book, given, *_ in rows("buffers.txt"):
@@ -109,9 +112,32 @@ def by_hand():
             yield Input(f"sheet: numerator {i} is {size}", "M", three, b"", sheet([0, 1], 7, numerators))
     for length in (0, 63, 64, 65):
         yield Input(f"sheet: {length} bytes", "M", three, b"", (sheet([1, 1], 1, [0, 0, 0]) + bytes(64))[:length])
+    yield from weaker()
     for number, lines in ((64, 3), (65, 3), (66, 3), (14, 3), (65, 1024), (64, 1025), (65, 0)):
         for book, given in ((BOOK, SHEET), (BOOK - 1, SHEET), (BOOK, SHEET - 1), (SHEET, BOOK)):
             yield Input(f"handing back: {number} {lines}, buffers of {book} and {given}", "H", b"", book, given, number, lines)
+
+
+def weaker():
+    """Every two clauses of a few, and results, that an earlier line covers or nearly does."""
+    conditions = [[]] + [[(relation, [1], bound)] for bound in (-1, 0, 1) for relation in (1, 2)] + [[(1, [2], 1)], [(1, [0, 1], 0)]]
+    clauses = [(literals, condition) for literals in ([], [0], [128], [0, 129]) for condition in conditions]
+    for i, first in enumerate(clauses[1:], 1):
+        for j, second in enumerate(clauses):
+            yield solving(f"clauses {i} and {j}", question(2, 2, [first, second]))
+    # -x + y <= 0; y <= 0; 2x - y <= 1, whose result is y <= 1; with either relation, and other bounds of y
+    for result in (1, 2):
+        for relation, bound in ((1, 0), (2, 0), (1, 1), (2, 1), (1, 2), (1, -1)):
+            rows = [alone(result, [-1, 1], 0), alone(relation, [0, 1], bound), alone(1, [2, -1], 1)]
+            yield solving(f"a result with relation {result}, after {relation} {bound}", question(0, 2, rows))
+    # a or b or c; b; not a
+    yield solving("a result by a mark that a clause covers", question(3, 0, [([0, 1, 2], []), ([1], []), ([128], [])]))
+    # a or x + y <= 10^9; -x <= 1; a
+    wide = [([0], [(1, [1, 1], MOST)]), alone(1, [-1], 1), ([0], [])]
+    yield solving("a wide result that a clause covers", question(1, 2, wide))
+    # y <= 0; -y <= 0; x + y <= 10^9; -x <= 1
+    wide = [alone(1, [0, 1], 0), alone(1, [0, -1], 0), alone(1, [1, 1], MOST), alone(1, [-1], 1)]
+    yield solving("a wide result that a smaller bound covers", question(0, 2, wide))
 
 
 # ---- at random

@@ -18,6 +18,7 @@ mod report;
 mod solver;
 mod solving;
 mod vectors;
+mod weaker;
 
 use report::Sums;
 use std::process::ExitCode;
@@ -37,6 +38,7 @@ fn main() -> ExitCode {
     reading::run(&mut sums);
     checks::run(&mut sums);
     solving::run(&mut sums);
+    weaker::run(&mut sums);
     earlier::run(&mut sums);
     batches::run(&mut sums);
     program::run(&mut sums);
