@@ -156,9 +156,8 @@ impl Shares {
         at_least_0.chain(marked).collect()
     }
 
-    /// The amounts of the entries and what is due of the charges, by shares drawn at random. One
-    /// charge in so many is left open in one batch of two, and no entry serves more than two. In one batch
-    /// of two the entries have a third less.
+    /// What the entries have and what is due, by shares drawn at random, of which no entry has more
+    /// than two. In one batch of two a charge is left open, and in one of two the entries have a third less.
     fn payment(&self, random: &mut Random, entries: usize, charges: usize) -> (Vec<i32>, Vec<i32>) {
         let (mut amounts, mut dues) = (vec![0; entries], vec![0; charges]);
         let mut served = vec![0; entries];
