@@ -63,7 +63,7 @@ fn shape(random: &mut Random, rationals: u8) -> Shape {
         rows,
         point: (0..rationals).map(figure).collect(),
         far: match random.once_in(30) {
-            true => 999_999_980,
+            true => 999_999_970,
             false => random.between(0, 9) as i32,
         },
     }

@@ -2,7 +2,7 @@
 //! (viii) states of the last; a pair at the limit of lines in its place; and what the program prints
 //! for some.
 
-use crate::buffers::{read_sheet, solve_filled, Solved};
+use crate::buffers::{read_sheet, solve_filled, Solved, LINE_LENGTH};
 use crate::report::{equal, Group, Outcome, Sums};
 use crate::solver::Solver;
 use questions::largest;
@@ -177,7 +177,28 @@ pub fn run(solver: Solver, sums: &mut Sums) {
     for example in examples() {
         group.case(example.name, || check_example(solver, &example));
     }
+    for last in [24, 25] {
+        group.case(&format!("example 12's book, i to {last}"), || {
+            check_example_12(solver, last)
+        });
+    }
     group.finish(sums);
+}
+
+/// "Example 12 then loads 41 lines, both ways; x and y tie, x goes first": the first upper, all
+/// lowers, and their pairs by figure 0.
+fn check_example_12(solver: Solver, last: u16) -> Outcome {
+    let solved = solve_filled(solver, &example_12(i32::from(last)).encode());
+    let origin = |line: &[u8]| {
+        let parent = |place: usize| u16::from_le_bytes([line[place], line[place + 1]]);
+        (line[0], line[1], parent(2), parent(4))
+    };
+    let lines = solved.used().chunks_exact(LINE_LENGTH).map(origin);
+    let loaded = [0].into_iter().chain(last..last + 40);
+    let loaded = loaded.map(|clause| (0, 0, clause, 0));
+    let results = (1..=40).map(|lower| (1, 0, 0, lower));
+    let expected: Vec<_> = loaded.chain(results).collect();
+    equal("lines", &expected, &lines.collect())
 }
 
 fn check_example(solver: Solver, example: &Example) -> Outcome {
