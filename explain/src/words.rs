@@ -5,12 +5,13 @@ use jemuling::{
     LINE_BYTES, SHEET_BYTES,
 };
 use notation::{
-    decode, explain_book, explain_order, explain_sheet, show_clause, Failure, Names, Question,
+    decode, explain_book, explain_loading, explain_order, explain_sheet, show_clause, Failure,
+    Names, Question,
 };
 
-/// Solves a question: its clauses, the answer, the order in which the figures were taken, the sheet
-/// or the book line by line, and what the check says of it. A question at fault is refused before
-/// the names are asked for.
+/// Solves a question: its clauses, the answer, the order in which the figures were taken, what was
+/// not loaded, the sheet or the book line by line, and what the check says of it. A question at
+/// fault is refused before the names are asked for.
 pub fn explain(
     bytes: &[u8],
     names: impl Fn(&Question) -> Result<Names, Failure>,
@@ -23,8 +24,11 @@ pub fn explain(
     }
     let question = decode(bytes).map_err(Failure::Said)?;
     let names = names(&question)?;
-    let order = match solved.answer {
-        Answer::Verdict(_, lines) => explain_order(&question, &book[..lines * LINE_BYTES], &names),
+    let course = match solved.answer {
+        Answer::Verdict(_, lines) => {
+            let used = &book[..lines * LINE_BYTES];
+            explain_order(&question, used, &names) + &explain_loading(&question, used)
+        }
         Answer::Refused(_) => String::new(),
     };
     let shown = match (solved.answer, hand_back(solved.answer, &book, &sheet)) {
@@ -40,7 +44,7 @@ pub fn explain(
     };
     let shown = shown.map_err(Failure::Said)?;
     let clauses = clauses(&question, &names);
-    Ok(format!("{clauses}{said}\n{order}{shown}"))
+    Ok(format!("{clauses}{said}\n{course}{shown}"))
 }
 
 fn clauses(question: &Question, names: &Names) -> String {

@@ -56,17 +56,21 @@ fn origin(question: &Question, bytes: &[u8], names: &Names) -> Result<String, St
     }
 }
 
-/// A clause, with its piece where links split it.
 fn loaded(question: &Question, clause: usize, piece: usize) -> Result<String, String> {
     match question.clauses.get(clause) {
-        Some(whole) if whole.links() > 0 || piece > 0 => {
-            Ok(format!("clause {clause}, piece {piece}"))
-        }
-        Some(_) => Ok(format!("clause {clause}")),
+        Some(whole) => Ok(named(whole, clause, piece)),
         None => Err(format!(
             "expected a clause below {}",
             question.clauses.len()
         )),
+    }
+}
+
+/// A clause by its number, with its piece where links split it.
+pub fn named(whole: &Clause, clause: usize, piece: usize) -> String {
+    match whole.links() > 0 || piece > 0 {
+        true => format!("clause {clause}, piece {piece}"),
+        false => format!("clause {clause}"),
     }
 }
 
@@ -111,7 +115,7 @@ fn condition(question: &Question, bytes: &[u8]) -> Result<Option<Condition>, Str
     }))
 }
 
-fn half(bytes: &[u8], at: usize) -> usize {
+pub fn half(bytes: &[u8], at: usize) -> usize {
     usize::from(u16::from_le_bytes([bytes[at], bytes[at + 1]]))
 }
 

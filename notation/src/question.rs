@@ -61,6 +61,25 @@ impl Condition {
             Relation::Below => 0 < self.bound,
         }
     }
+
+    /// Divided by the greatest common divisor of its coefficients, not all of them 0, and bound.
+    fn divided(&self) -> Condition {
+        let amounts = self.coefficients.iter().chain([&self.bound]);
+        let divisor = amounts.fold(0, |divisor, &amount| gcd(divisor, amount.abs()));
+        Condition {
+            relation: self.relation,
+            coefficients: self.coefficients.iter().map(|c| c / divisor).collect(),
+            bound: self.bound / divisor,
+        }
+    }
+}
+
+/// Of two numbers that are not negative.
+fn gcd(a: i32, b: i32) -> i32 {
+    match b {
+        0 => a,
+        _ => gcd(b, a % b),
+    }
 }
 
 #[derive(Clone, Debug, Default, PartialEq, Eq)]
@@ -78,12 +97,18 @@ impl Clause {
     /// The links that it takes once it is tidied: one less than the conditions that stay, none if
     /// it is dropped.
     pub fn links(&self) -> usize {
-        let (constant, kept): (Vec<_>, Vec<_>) =
+        let stay = self.tidied().map_or(0, |conditions| conditions.len());
+        stay.saturating_sub(1)
+    }
+
+    /// The conditions that stay once it is tidied; none if it is dropped, since it always holds.
+    pub fn tidied(&self) -> Option<Vec<Condition>> {
+        let (constant, stay): (Vec<_>, Vec<_>) =
             self.conditions.iter().partition(|c| c.is_constant());
         if self.has_both_signs() || constant.iter().any(|c| c.holds_at_zero()) {
-            return 0;
+            return None;
         }
-        kept.len().saturating_sub(1)
+        Some(stay.into_iter().map(Condition::divided).collect())
     }
 
     /// Whether a mark is in it with both signs.

@@ -67,10 +67,10 @@ fn they_are_answered_as_the_papers_say() {
         ("example_10", "refused 14 2 1"),
         ("example_10_variant", "agrees 3 1"),
         ("example_11", "unwritten 2 0"),
-        ("example_12", "agrees 64 0"),
-        ("example_12_variant", "agrees 65 0"),
-        ("payment", "agrees 32 32"),
-        ("payment_missing", "cannot 28 28"),
+        ("example_12", "agrees 81 40"),
+        ("example_12_variant", "agrees 81 40"),
+        ("payment", "agrees 31 29"),
+        ("payment_missing", "cannot 27 25"),
     ];
     assert_eq!(answers.len(), texts().len());
     for (name, answer) in answers {

@@ -61,21 +61,21 @@ figure arrears_c: 200
 fn the_payment_with_an_entry_missing() {
     let book = book("payment_missing");
     let lines: Vec<&str> = book.lines().collect();
-    assert_eq!(lines.len(), 28);
+    assert_eq!(lines.len(), 27);
     assert_eq!(lines[4], "line 4: clause 4: rent_a <= 0 or a_rent");
     assert_eq!(
         lines[20],
         "line 20: figure arrears_b from lines 7 and 13: b_arrears"
     );
     assert_eq!(
-        lines[25],
-        "line 25: figure heating_a from lines 16 and 17: b_heating"
+        lines[24],
+        "line 24: figure heating_a from lines 16 and 17: b_heating"
     );
     assert_eq!(
-        lines[26],
-        "line 26: mark b_heating from lines 25 and 8: not b_arrears"
+        lines[25],
+        "line 25: mark b_heating from lines 24 and 8: not b_arrears"
     );
-    assert!(lines[27].starts_with("line 27: mark b_arrears from lines 20 and 26: nothing"));
+    assert!(lines[26].starts_with("line 26: mark b_arrears from lines 20 and 25: nothing"));
 }
 
 #[test]

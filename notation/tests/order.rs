@@ -194,17 +194,20 @@ fn said(Text { question, names }: &Text) -> String {
 #[test]
 fn in_words() {
     assert_eq!(
-        said(&text("example_12")),
-        "figures in the order taken: y, x\n"
+        said(&text("payment")),
+        "figures in the order taken: rent_a, heating_b, arrears_c, arrears_b, heating_a\n"
     );
-    let question = text("example_12").question;
+    let question = text("payment").question;
     let numbered = Text {
         names: Names::numbered(&question),
         question,
     };
-    assert_eq!(said(&numbered), "figures in the order taken: x1, x0\n");
+    assert_eq!(
+        said(&numbered),
+        "figures in the order taken: x0, x2, x4, x3, x1\n"
+    );
     assert_eq!(said(&text("example_05")), "figures in the order taken: x\n");
-    let early = "figures x y z\nx <= 5\nx <= 6\nx >= 0\nx >= 1\ny <= 1\ny >= 2";
+    let early = "figures x y z\nx <= 6\nx <= 5\nx >= 0\nx >= 1\ny <= 1\ny >= 2";
     assert_eq!(
         said(&parse(early).unwrap()),
         "figures in the order taken: y\n"

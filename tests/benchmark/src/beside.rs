@@ -4,27 +4,27 @@
 mod compare;
 mod families;
 mod library;
-mod natural;
 mod solved;
 mod table;
 
 use compare::{compare, Compared, Effort};
-use families::FAMILIES;
+use families::{FAMILIES, SEED};
 use library::Library;
 use questions::random::Random;
 use std::process::ExitCode;
 
-const SEED: u64 = 2;
 /// The questions of a family.
 const COUNT: usize = 1_000;
 
 const ALONE: Effort = Effort {
     rounds: 16,
     round: 20_000_000,
+    enough: u64::MAX,
 };
 const OF_MANY: Effort = Effort {
     rounds: 4,
     round: 200_000,
+    enough: 4_000_000,
 };
 
 fn main() -> ExitCode {
@@ -64,7 +64,8 @@ fn print(libraries: &mut [Library; 2]) {
         contradictions += family.iter().filter(|one| one.contradicts()).count();
     }
     println!(
-        "\nEarlier → today; lines, pairs and time are the means of the questions that both decide."
+        "\nEarlier → today; lines, pairs and time are the means of the questions that both decide, \
+         and the most lines those of one that is decided."
     );
     println!("Questions that can agree by one and cannot by the other: {contradictions}.");
 }

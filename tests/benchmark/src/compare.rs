@@ -2,10 +2,12 @@
 
 use crate::library::{processor_time, Library, Told};
 
-/// The least time of so many rounds of about so many nanoseconds.
+/// The least time of so many rounds of about so many nanoseconds; no round begins after enough of
+/// them.
 pub struct Effort {
     pub rounds: usize,
     pub round: u64,
+    pub enough: u64,
 }
 
 /// What both told, and the least processor time of a call of each, in nanoseconds.
@@ -42,6 +44,9 @@ pub fn compare(libraries: &mut [Library; 2], question: &[u8], effort: &Effort) -
     let calls = (2 * effort.round / two).clamp(1, 10_000);
     let mut times = [f64::MAX; 2];
     for round in 0..effort.rounds {
+        if round > 0 && processor_time() - start > effort.enough {
+            break;
+        }
         for i in [round % 2, 1 - round % 2] {
             let start = processor_time();
             for _ in 0..calls {

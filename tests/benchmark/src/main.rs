@@ -1,20 +1,26 @@
 //! Times the proved code beside the second solver, on the same questions and in the same run. It
 //! prints, and judges nothing.
 
+mod families;
 mod solved;
 
+use families::{FAMILIES, SEED};
 use questions::largest::{self, Kind};
+use questions::random::Random;
 use reference::{Answer, Order, Rules, Search};
 use std::time::{Duration, Instant};
 
 /// The best of so many rounds of about this time.
 const ROUNDS: usize = 15;
 const ROUND: Duration = Duration::from_millis(20);
+/// The questions of a family.
+const OF_FAMILY: u32 = 100;
 
 fn main() {
     reading();
     checks();
     solving();
+    families();
 }
 
 fn reading() {
@@ -109,6 +115,33 @@ fn solving() {
     }
 }
 
+/// Families of questions: how many are decided, the most lines of one that is, and the mean times.
+fn families() {
+    println!("solving {OF_FAMILY} questions of a family, mean time of a call");
+    for (name, draw) in FAMILIES {
+        let mut random = Random::new(SEED);
+        let drawn = (0..OF_FAMILY).map(|_| draw(&mut random).encode());
+        let family: Vec<Vec<u8>> = drawn.collect();
+        let answers = solve_all(proved::solve, &family);
+        let lines = answers.iter().filter_map(|answer| match answer {
+            Answer::Verdict { lines, .. } => Some(lines),
+            Answer::Refused { .. } => None,
+        });
+        let (decided, most) = (lines.clone().count(), lines.max().unwrap_or(&0));
+        println!("{name}: {decided} decided, most lines {most}");
+        let mean = |solve: Solve| timed(1, &mut || drop(solve_all(solve, &family))) / OF_FAMILY;
+        report(name, mean(proved::solve), mean(reference::solve));
+    }
+}
+
+type Solve = fn(&[u8], &mut [u8], &mut [u8]) -> Answer;
+
+fn solve_all(solve: Solve, family: &[Vec<u8>]) -> Vec<Answer> {
+    let (mut book, mut sheet) = (vec![0; 65_536], [0; 64]);
+    let solve = |question: &Vec<u8>| solve(question, &mut book, &mut sheet);
+    family.iter().map(solve).collect()
+}
+
 /// The first lines of a book, again and again up to its end.
 fn repeat_lines(book: &mut [u8], lines: usize) {
     let used = book[..64 * lines].to_vec();
@@ -141,9 +174,13 @@ fn compare(name: &str, mut proved: impl FnMut(), mut reference: impl FnMut()) ->
         ours = ours.min(timed(calls, &mut proved));
         theirs = theirs.min(timed(calls, &mut reference));
     }
+    report(name, ours, theirs);
+    ours
+}
+
+fn report(name: &str, ours: Duration, theirs: Duration) {
     let ratio = ours.as_secs_f64() / theirs.as_secs_f64();
     println!("{name}: proved {ours:?}, second solver {theirs:?}, ratio {ratio:.2}");
-    ours
 }
 
 /// The best of all rounds, of so many calls each.

@@ -1,5 +1,6 @@
 //! The questions that solving is timed on.
 
+use questions::diamonds::{diamonds, Ways};
 use questions::largest;
 use questions::problem::{at_most, yes, Problem};
 use questions::random::Random;
@@ -18,6 +19,8 @@ pub fn questions() -> Vec<(&'static str, Problem)> {
         ("largest run", largest::run(None)),
         ("equal results", equal_results()),
         ("Fibonacci", fibonacci()),
+        ("five diamonds", diamonds(5, Ways::Three, 4)),
+        ("six diamonds", diamonds(6, Ways::Three, 5)),
     ]
 }
 

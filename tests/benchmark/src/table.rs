@@ -17,20 +17,30 @@ pub fn question(name: &str, compared: &Compared) -> String {
     format!("| {name} | {answers} | {lines} | {pairs} | {times} |")
 }
 
-/// The row of a family: how many are decided, wide and full; and the means of those that both
-/// decide, since a refused course stops on its way.
+/// The row of a family: how many are decided, wide and full; the means of those that both decide,
+/// since a refused course stops on its way; and the most lines of one that is decided.
 pub fn family(name: &str, family: &[Compared]) -> String {
-    let answers = answers(family);
     let decided: Vec<&Compared> = family.iter().filter(|one| one.both_decide()).collect();
     let mean = |of: fn(&Compared, usize) -> f64| {
         let sum = |i: usize| -> f64 { decided.iter().map(|one| of(one, i)).sum() };
-        [0, 1].map(|i| sum(i) / decided.len().max(1) as f64)
+        [0, 1].map(|i| sum(i) / decided.len() as f64)
     };
-    let lines = both(mean(|one, i| one.told[i].value as f64).map(tenths));
-    let pairs = both(mean(|one, i| one.told[i].pairs as f64).map(tenths));
-    let times = time(mean(|one, i| one.times[i]));
-    let count = whole(family.len() as u64);
-    format!("| {count} {name} | {answers} | {lines} | {pairs} | {times} |")
+    let mut lines = both(mean(|one, i| one.told[i].value as f64).map(tenths));
+    let mut pairs = both(mean(|one, i| one.told[i].pairs as f64).map(tenths));
+    let mut times = time(mean(|one, i| one.times[i]));
+    if decided.is_empty() {
+        [lines, pairs, times] = ["none", "none", "none"].map(str::to_string);
+    }
+    let most = both([0, 1].map(|i| whole(most_lines(family, i))));
+    let (count, answers) = (whole(family.len() as u64), answers(family));
+    format!("| {count} {name} | {answers} | {lines}, most {most} | {pairs} | {times} |")
+}
+
+/// The most lines of a question that this archive decides.
+fn most_lines(family: &[Compared], archive: usize) -> u64 {
+    let told = family.iter().map(|one| one.told[archive]);
+    let lines = told.filter(Told::is_decided).map(|told| told.value as u64);
+    lines.max().unwrap_or(0)
 }
 
 /// How many of a family are decided, wide and full, and refused otherwise if any is.

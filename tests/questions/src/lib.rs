@@ -1,5 +1,7 @@
 //! Questions for the test programs. Nothing here uses a solver.
 
+pub mod batches;
+pub mod diamonds;
 pub mod largest;
 pub mod problem;
 pub mod random;

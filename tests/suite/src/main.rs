@@ -3,6 +3,7 @@
 //! prints with the second solver. One line for each group; the last line is the sum.
 
 mod arbitrary;
+mod batches;
 mod buffers;
 mod checks;
 mod consistency;
@@ -39,6 +40,7 @@ fn main() -> ExitCode {
     solving::run(&mut sums);
     weaker::run(&mut sums);
     earlier::run(&mut sums);
+    batches::run(&mut sums);
     program::run(&mut sums);
     println!("{} passed, {} failed", sums.passed, sums.failed);
     match sums.failed {

@@ -1,0 +1,170 @@
+//! Batches and diamonds: the proved code and the second solver give the same answer and leave the
+//! same bytes, a sheet satisfies its batch by the suite's own arithmetic, and the proved checks
+//! accept what a verdict hands back. None of these batches is refused, as README says.
+
+use crate::buffers::{read_sheet, solve_filled, Solved, BOOK_LENGTH, SHEET_LENGTH};
+use crate::report::{demand, equal, Group, Outcome, Sums};
+use crate::solver::Solver;
+use crate::solving::check_part;
+use questions::batches::{loose, natural, richer};
+use questions::diamonds::{diamonds, Ways};
+use questions::problem::{Assignment, Problem};
+use questions::random::Random;
+use reference::{Answer, Dropping, Order, Rules, Verdict};
+
+/// That of the benchmark, which draws the same batches and more.
+const SEED: u64 = 2;
+/// The batches of a family, and how often each verdict must come at least.
+const CASES: usize = 300;
+const OFTEN: usize = 60;
+/// So many are solved by earlier rules, too.
+const BEFORE: usize = 30;
+
+/// The rules of version 1.0, and those with 02's (vii) alone.
+const EARLIER: [Rules; 2] = [
+    Rules {
+        order: Order::Rising,
+        dropping: Dropping::Equal,
+    },
+    Rules {
+        order: Order::Cheapest,
+        dropping: Dropping::Equal,
+    },
+];
+
+/// A family by its name, with the fewest that each of the earlier rules refuses.
+type Family = (&'static str, fn(&mut Random) -> Problem, [usize; 2]);
+const FAMILIES: [Family; 8] = [
+    ("natural, 2 x 2", |random| natural(random, 2, 2), [0, 0]),
+    ("natural, 2 x 3", |random| natural(random, 2, 3), [0, 0]),
+    ("natural, 3 x 2", |random| natural(random, 3, 2), [0, 0]),
+    ("natural, 2 x 4", |random| natural(random, 2, 4), [10, 0]),
+    ("natural, 4 x 2", |random| natural(random, 4, 2), [10, 0]),
+    ("richer", richer, [10, 3]),
+    ("loose, 2 x 4", |random| loose(random, 2, 4), [3, 0]),
+    ("loose, 4 x 2", |random| loose(random, 4, 2), [3, 0]),
+];
+
+pub fn run(sums: &mut Sums) {
+    for family in FAMILIES {
+        run_family(family, sums);
+    }
+    run_diamonds(sums);
+}
+
+fn run_family((name, draw, fewest): Family, sums: &mut Sums) {
+    let mut group = Group::new(format!("batches: {name}"));
+    let mut random = Random::new(SEED);
+    let (mut verdicts, mut refused) = ([0; 2], [0; 2]);
+    for number in 0..CASES {
+        let problem = draw(&mut random);
+        group.case(&format!("number {number}"), || {
+            let agrees = decide(&problem)?;
+            verdicts[usize::from(agrees)] += 1;
+            let earlier = EARLIER.into_iter().zip(&mut refused);
+            for (rules, refused) in earlier.filter(|_| number < BEFORE) {
+                match decide_under(rules, &problem) {
+                    Some(agreed) => equal("agreed", &agrees, &agreed)?,
+                    None => *refused += 1,
+                }
+            }
+            Ok(())
+        });
+    }
+    group.case("both verdicts come often", || {
+        let often = verdicts.iter().all(|&count| count >= OFTEN);
+        demand(often, &format!("they came {verdicts:?} times"))
+    });
+    group.case("earlier rules refuse some", || {
+        let mut some = refused.iter().zip(fewest);
+        let some = some.all(|(&count, fewest)| count >= fewest);
+        demand(some, &format!("they refuse {refused:?}"))
+    });
+    group.finish(sums);
+}
+
+/// Whether a batch agrees, which must be decided.
+fn decide(problem: &Problem) -> Result<bool, String> {
+    let solved = compare(&problem.encode())?;
+    match solved.answer {
+        Answer::Verdict {
+            verdict: Verdict::Agrees,
+            ..
+        } => satisfies(problem, &solved).map(|()| true),
+        Answer::Verdict {
+            verdict: Verdict::Cannot,
+            ..
+        } => Ok(false),
+        answer => Err(format!("undecided: {answer:?}")),
+    }
+}
+
+/// Both solve, and must answer and leave the buffers alike.
+fn compare(question: &[u8]) -> Result<Solved, String> {
+    let ours = solve_filled(Solver::Proved, question);
+    let theirs = solve_filled(Solver::Second, question);
+    equal("answer", &theirs.answer, &ours.answer)?;
+    demand(theirs.book == ours.book, "the books differ")?;
+    demand(theirs.sheet == ours.sheet, "the sheets differ")?;
+    let part = proved::hand_back(&ours.answer, &ours.book, &ours.sheet);
+    check_part(question, &ours.answer, part)?;
+    Ok(ours)
+}
+
+fn satisfies(problem: &Problem, solved: &Solved) -> Outcome {
+    let model = read_sheet(problem.booleans, problem.rationals, solved.sheet())
+        .map_err(|place| format!("the sheet is bad at byte {place}"))?;
+    let assignment = Assignment {
+        booleans: model.booleans,
+        denominator: model.denominator,
+        numerators: &model.numerators,
+    };
+    equal("failing clause", &None, &problem.first_failing(&assignment))
+}
+
+/// Whether a batch agrees by earlier rules, if they decide it.
+fn decide_under(rules: Rules, problem: &Problem) -> Option<bool> {
+    let (mut book, mut sheet) = ([0; BOOK_LENGTH], [0; SHEET_LENGTH]);
+    match reference::solve_under(rules, &problem.encode(), &mut book, &mut sheet) {
+        Answer::Verdict { verdict, .. } => Some(verdict != Verdict::Cannot),
+        Answer::Refused { .. } => None,
+    }
+}
+
+/// Of three ways five diamonds fit and six fill the book; of two ways all that there are figures for
+/// fit, of four ways four. Where the last figure may be as much as it must, all fit.
+fn run_diamonds(sums: &mut Sums) {
+    let mut group = Group::new("diamonds");
+    for (ways, fitting) in [(Ways::Two, 7), (Ways::Three, 5), (Ways::Four, 4)] {
+        for count in 1..=7 {
+            for (most, agrees) in [(i32::from(count) - 1, false), (i32::from(count), true)] {
+                group.case(&format!("{count} of {ways:?} ways, {most}"), || {
+                    let problem = diamonds(count, ways, most);
+                    let fits = agrees || count <= fitting;
+                    equal(
+                        "agrees",
+                        &fits.then_some(agrees),
+                        &decide_or_full(&problem)?,
+                    )
+                });
+            }
+        }
+    }
+    group.case("lines of five", || {
+        let solved = compare(&diamonds(5, Ways::Three, 4).encode())?;
+        solved.expect(&Answer::Verdict {
+            verdict: Verdict::Cannot,
+            lines: 549,
+            pairs: 15_053,
+        })
+    });
+    group.finish(sums);
+}
+
+/// Whether a question agrees; none if it fills the book.
+fn decide_or_full(problem: &Problem) -> Result<Option<bool>, String> {
+    match compare(&problem.encode())?.answer {
+        Answer::Refused { number: 15, .. } => Ok(None),
+        _ => decide(problem).map(Some),
+    }
+}
