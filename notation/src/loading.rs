@@ -17,7 +17,7 @@ pub fn explain_loading(question: &Question, book: &[u8]) -> String {
             break;
         }
         if pieces.is_empty() {
-            dropped.push(format!("clause {number}: always holds\n"));
+            dropped.push(format!("clause {number}: always true\n"));
         }
         for (part, piece) in pieces.into_iter().enumerate() {
             let name = named(clause, number, part);

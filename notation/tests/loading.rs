@@ -68,8 +68,8 @@ clause 10, piece 0: covered by line 8 (clause 9)
 clause 11, piece 0: covered by line 4 (clause 6)
 clause 11, piece 1: covered by line 8 (clause 9)
 not loaded, always true: 2
-clause 4: always holds
-clause 5: always holds
+clause 4: always true
+clause 5: always true
 ";
     assert_eq!(said(&parse(text).unwrap()), expected);
 }

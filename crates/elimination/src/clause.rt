@@ -16,7 +16,7 @@ ghost use Rattle.placing.specs.Point.{Standing};
 ghost use Rattle.placing.specs.declared.point.Progress.the-variants.{Running};
 ghost use Rattle.elimination.specs.LoadedParts.{LoadsParts};
 
-// "Pieces load in order." "Loading does the same" as results do: what an earlier line covers is dropped.
+// "Pieces load in order." "Loading does the same": a part that an earlier line covers is dropped, as a resolvent is.
 pub fn load_parts(
     input: &[u8],
     r: u8,

@@ -86,7 +86,7 @@ fn drops(proof: &[u8], i: usize, bytes: &[u8]) -> bool
     subset(negative_at(proof, i), negative_at(bytes, 0))
 }
 
-// Whether one of the n lines drops this one; the last ones, which do so most often, are asked first.
+// Whether one of the n lines drops this one, asked from the last to the first.
 pub fn covered(proof: &[u8], n: usize, line: Line) -> bool
     requires { ⌜ Held (now proof) n ⌝ }
     requires { ⌜ Ready line ⌝ }

@@ -228,7 +228,7 @@ subsets =
       shows = satisfiable 2 0 (loadedOnly 2) (true ∷ false ∷ false ∷ []) [] 1;
     }
 
--- "in each sign": a; not a or b. Neither a drops not a or b, nor does that drop the resolvent b
+-- "in each sign": a; not a or b. The first does not drop the second, nor the second their resolvent b
 abbrev eachSign : Example
 eachSign =
     record {
@@ -248,24 +248,24 @@ bareLines =
 abbrev xyBelow : ℤ → ℤ → ℤ → List ℕ
 xyBelow x y bound = alone (below (x ∷ y ∷ []) bound)
 
--- "a bound that is smaller", by its sign, whatever the relations: x ≤ -2; x < 1; -y ≤ 1; -y ≤ -2; -y ≤ -1. The first drops the second, the
--- fourth the fifth
+-- "a bound that is smaller", by its sign, whatever the relations: x ≤ -2; x < 1; -y ≤ 1; -y < -2; -y ≤ -1; -y < -1. The first drops the
+-- second, the fourth the fifth and the sixth
 abbrev smaller : Example
 smaller =
     record {
-      input = problemOf 0 2 (xy (pos 1) (pos 0) (negsuc 1) ∷ xyBelow (pos 1) (pos 0) (pos 1)
-          ∷ xy (pos 0) minus (pos 1) ∷ xy (pos 0) minus (negsuc 1) ∷ xy (pos 0) minus minus ∷ []);
-      shows = satisfiable 3 0 (loaded 0 0 ∷ loaded 2 0 ∷ loaded 3 0 ∷ []) [] (negsuc 1 ∷ pos 2 ∷ []) 1;
+      input = problemOf 0 2 (xy (pos 1) (pos 0) (negsuc 1) ∷ xyBelow (pos 1) (pos 0) (pos 1) ∷ xy (pos 0) minus (pos 1)
+          ∷ xyBelow (pos 0) minus (negsuc 1) ∷ xy (pos 0) minus minus ∷ xyBelow (pos 0) minus minus ∷ []);
+      shows = satisfiable 3 0 (loaded 0 0 ∷ loaded 2 0 ∷ loaded 3 0 ∷ []) [] (negsuc 1 ∷ pos 3 ∷ []) 1;
     }
 
--- "or equal under a relation at least as strict": x < 1; x ≤ 1; x < 1; y ≤ 1; y < 1; y ≤ 1. The first drops the second and the third, the
--- fourth the sixth and not the fifth
+-- "or equal under a relation at least as strict": x < 1; x ≤ 1; x < 1; y ≤ 1; y ≤ 1; y < 1. The first drops the second and the third, the
+-- fourth the fifth and not the sixth
 abbrev asStrict : Example
 asStrict =
     record {
       input = problemOf 0 2 (xyBelow (pos 1) (pos 0) (pos 1) ∷ xy (pos 1) (pos 0) (pos 1) ∷ xyBelow (pos 1) (pos 0) (pos 1)
-          ∷ xy (pos 0) (pos 1) (pos 1) ∷ xyBelow (pos 0) (pos 1) (pos 1) ∷ xy (pos 0) (pos 1) (pos 1) ∷ []);
-      shows = satisfiable 3 0 (loaded 0 0 ∷ loaded 3 0 ∷ loaded 4 0 ∷ []) [] (pos 0 ∷ pos 0 ∷ []) 1;
+          ∷ xy (pos 0) (pos 1) (pos 1) ∷ xy (pos 0) (pos 1) (pos 1) ∷ xyBelow (pos 0) (pos 1) (pos 1) ∷ []);
+      shows = satisfiable 3 0 (loaded 0 0 ∷ loaded 3 0 ∷ loaded 5 0 ∷ []) [] (pos 0 ∷ pos 0 ∷ []) 1;
     }
 
 -- "equal coefficients", as normalized: 2x ≤ 3; x ≤ 2; 4x ≤ 10. The third is 2x ≤ 5, which the first drops; the second it does not

@@ -30,13 +30,13 @@ module _ (stops : Stops) (e : End) (steps : List Step) (n : ℕ) where
 
 -- a line that is added: overflowing, covered, one too many, empty or held, for any claim of the elimination then
 module _ (P : State → Type 0) (s : Step) (steps : List Step) (n : ℕ) where
-  placed-cases : (w known many blank : Bool) → (T w → P (ended overflow steps n)) → (T known → P (running steps n))
+  placed-cases : (w known many blank : Bool) → (T w → P (ended overflow steps n)) → (T (not w) → T known → P (running steps n))
       → (T many → P (ended outOfSteps steps n))
       → (T (not many) → T blank → P (ended empty (steps ++ (s ∷ [])) n))
       → (T (not many) → T (not blank) → P (running (steps ++ (s ∷ [])) n)) → P (placed w known many blank s steps n)
   unfolding placed
   placed-cases true known many blank a b c d e = a tt
-  placed-cases false true many blank a b c d e = b tt
+  placed-cases false true many blank a b c d e = b tt tt
   placed-cases false false true blank a b c d e = c tt
   placed-cases false false false true a b c d e = d tt tt
   placed-cases false false false false a b c d e = e tt tt
@@ -47,7 +47,7 @@ module _ (P : State → Type 0) (s : Step) (steps : List Step) (n : ℕ) where
       → (T (not (stops .atSteps (length steps))) → T (not (isEmpty (s .line))) → P (running (steps ++ (s ∷ [])) n))
       → P (add stops w s steps n)
   unfolding add
-  add-cases stops w = placed-cases w (covered (s .line) steps) (stops .atSteps (length steps)) (isEmpty (s .line))
+  add-cases stops w a b = placed-cases w (covered (s .line) steps) (stops .atSteps (length steps)) (isEmpty (s .line)) a (λ fits. b)
 
 -- of the lines held alone: they are as before, or with this one
 pub add-steps : (P : List Step → Type 0) (stops : Stops) (w : Bool) (s : Step) (steps : List Step) (n : ℕ) → P steps

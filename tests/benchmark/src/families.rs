@@ -1,6 +1,7 @@
 //! Families of questions: at random, and batches.
 
 use questions::batches::{loose, natural, richer};
+use questions::marks::clauses;
 use questions::problem::{at_most, below, no, yes, Problem};
 use questions::random::Random;
 
@@ -15,7 +16,7 @@ pub const FAMILIES: [(&str, Draw); 11] = [
     ("at random, small", Random::problem),
     ("at random, dense", |random| rows(random, 4, 1, 12)),
     ("at random, eight figures", |random| rows(random, 8, 4, 24)),
-    ("at random, sixteen marks", |random| marks(random, 69)),
+    ("at random, sixteen marks", |random| clauses(random, 69)),
     ("natural batches of 2 x 3", |random| natural(random, 2, 3)),
     ("natural batches of 2 x 4", |random| natural(random, 2, 4)),
     ("natural batches of 4 x 2", |random| natural(random, 4, 2)),
@@ -40,25 +41,6 @@ fn rows(random: &mut Random, figures: u8, once_in: i64, clauses: usize) -> Probl
         if random.once_in(3) {
             let literal = if random.once_in(2) { yes } else { no };
             clause.push(literal(random.between(0, 3) as u8));
-        }
-        problem.clauses.push(clause);
-    }
-    problem
-}
-
-/// So many clauses of three literals, of three of sixteen marks.
-fn marks(random: &mut Random, clauses: usize) -> Problem {
-    let mut problem = Problem::new(16, 0);
-    for _ in 0..clauses {
-        let mut others: Vec<u8> = (0..16).collect();
-        let mut clause = Vec::new();
-        while clause.len() < 3 {
-            let mark = others.remove(random.between(0, others.len() as i64 - 1) as usize);
-            clause.push(if random.once_in(2) {
-                yes(mark)
-            } else {
-                no(mark)
-            });
         }
         problem.clauses.push(clause);
     }

@@ -41,8 +41,8 @@ pub fn run(more: Option<i32>) -> Problem {
 
 /// x + y ≤ 100i for i from the count of uppers down to 1, -y ≤ -j for j from 0 to 39, -x ≤ 1,000
 /// less k for k from 0 to 40. y costs less than x and goes first, and then 23 uppers take all 1,024
-/// lines, and 24 need a line more; in rising order 23 need one more already. No clause or result is weaker than an
-/// earlier one.
+/// lines, and 24 need a line more; in rising order 23 need one more already. No clause or result is
+/// weaker than an earlier one.
 pub fn limit(uppers: i32) -> Problem {
     let uppers = (1..=uppers).rev().map(|i| at_most(&[1, 1], 100 * i));
     let of_y = (0..40).map(|j| at_most(&[0, -1], -j));

@@ -3,6 +3,7 @@
 pub mod batches;
 pub mod diamonds;
 pub mod largest;
+pub mod marks;
 pub mod problem;
 pub mod random;
 pub mod rows;

@@ -150,14 +150,18 @@ fn run_diamonds(sums: &mut Sums) {
             }
         }
     }
-    group.case("lines of five", || {
-        let solved = compare(&diamonds(5, Ways::Three, 4).encode())?;
-        solved.expect(&Answer::Verdict {
-            verdict: Verdict::Cannot,
-            lines: 549,
-            pairs: 15_053,
-        })
-    });
+    for (count, ways, lines, pairs) in [(5, Ways::Three, 549, 15_053), (7, Ways::Two, 308, 5_627)] {
+        group.case(&format!("lines of {count} of {ways:?} ways"), || {
+            let most = i32::from(count) - 1;
+            let solved = compare(&diamonds(count, ways, most).encode())?;
+            let verdict = Verdict::Cannot;
+            solved.expect(&Answer::Verdict {
+                verdict,
+                lines,
+                pairs,
+            })
+        });
+    }
     group.finish(sums);
 }
 

@@ -2,15 +2,18 @@
 //! random questions of few rows of coefficients, in which each part of the rule often decides. The
 //! proved code and the second solver answer alike and leave the same bytes; so does the second
 //! solver's search by a hash; and no clause is dropped that does not follow from the one before it.
+//! On random clauses of sixteen marks, whose results drop each other, a verdict is also right by all
+//! choices of the marks.
 
 use crate::buffers::{solve_filled, BOOK_LENGTH, LINE_LENGTH, SHEET_LENGTH};
 use crate::report::{demand, equal, Group, Outcome, Sums};
 use crate::solver::Solver;
 use crate::solving;
+use questions::marks::{self, MARKS};
 use questions::problem::{at_most, below, no, yes, Assignment, Problem, Term};
 use questions::random::Random;
 use questions::rows;
-use reference::{Answer, Dropping, Rules, Search};
+use reference::{Answer, Dropping, Rules, Search, Verdict};
 
 const SEED: u64 = 10;
 const CASES: usize = 100_000;
@@ -20,6 +23,11 @@ const CASES: usize = 100_000;
 type Tally = [usize; 5];
 const LEAST: Tally = [20_000, 20_000, 100, 100, 50_000];
 
+/// Questions of so many clauses of marks; and how often agrees, cannot agree and full must come.
+const MARK_CASES: usize = 300;
+const CLAUSES: usize = 69;
+const OFTEN: usize = 30;
+
 /// How many of the two clauses' questions drop the second. Of the sets of literals 14 pairs are a
 /// subset and its set; of the conditions 53 a covering and a covered one: none covers all 13, the
 /// eight of x alone are one chain, the other four cover themselves. The empty clause is first in 78.
@@ -28,6 +36,7 @@ const DROPPED: usize = 14 * (13 + 36 + 4) - 78;
 pub fn run(sums: &mut Sums) {
     run_pairs(sums);
     run_random(sums);
+    run_marks(sums);
 }
 
 /// Some sets of literals, each with some conditions or none.
@@ -130,6 +139,48 @@ fn run_random(sums: &mut Sums) {
         demand(often, &format!("they came {tally:?} times"))
     });
     group.finish(sums);
+}
+
+fn run_marks(sums: &mut Sums) {
+    let mut group = Group::new("solving: clauses of sixteen marks");
+    let mut random = Random::new(SEED);
+    let mut came = [0; 3];
+    for number in 0..MARK_CASES {
+        let problem = marks::clauses(&mut random, CLAUSES);
+        group.case(&format!("number {number}"), || {
+            let kind = match solving::compare(&problem.encode(), number as u8)? {
+                Answer::Verdict { verdict, .. } => {
+                    let agrees = verdict == Verdict::Agrees;
+                    equal("agrees", &some_choice_satisfies(&problem), &agrees)?;
+                    usize::from(!agrees)
+                }
+                Answer::Refused { number, .. } => {
+                    equal("refusal", &15, &number)?;
+                    2
+                }
+            };
+            came[kind] += 1;
+            Ok(())
+        });
+    }
+    group.case("each comes often", || {
+        let often = came.iter().all(|&count| count >= OFTEN);
+        demand(often, &format!("they came {came:?} times"))
+    });
+    group.finish(sums);
+}
+
+/// Of a question of marks alone, by trying all choices.
+fn some_choice_satisfies(problem: &Problem) -> bool {
+    let satisfies = |booleans| {
+        let assignment = Assignment {
+            booleans,
+            denominator: 1,
+            numerators: &[],
+        };
+        problem.first_failing(&assignment).is_none()
+    };
+    (0..1 << MARKS).any(satisfies)
 }
 
 fn by_hash(question: &[u8]) -> Answer {
