@@ -3,7 +3,7 @@ use mathlib.Core.Path.{_≡_, refl, sym, ap, _∙_, subst, subst⁻¹}
 use mathlib.Core.Logic.{⊎-elim}
 use mathlib.Core.Bool.{Bool, true, false, not, _&&_, _||_}
 use mathlib.Core.List.{List, [], _∷_, _++_, map}
-use Prim.Native.Nat.{ℕ, zero, suc, _+_, _≤_, _<_}
+use Prim.Native.Nat.{ℕ, zero, suc, _+_, _^_, _≤_, _<_}
 use native.Mathlib.Omega.{arith}
 use borrow.Author.Tests.{le-leb, lt-leb}
 use lib.IntN.{ℤ, pos, _-ℤ_, _*ℤ_}
@@ -37,10 +37,11 @@ unfoldable pub one : Bool → ℕ
 one true = 1
 one false = 0
 
-pub one-small : (b : Bool) → one b ≤ 1
+-- a count and one more are a word
+pub one-more : (n m r : ℕ) (b : Bool) → r ≡ one b → n ≡ m → m ≤ limit.mostSteps → n + r < 2 ^ 32
 unfolding one
-one-small true = omega arith
-one-small false = omega arith
+one-more n m r true e h k = omega arith
+one-more n m r false e h k = omega arith
 
 unfoldable pub costAt : Counts → ℕ → ℤ
 costAt c f = costOf (getD (c .uppers) f 0) (getD (c .lowers) f 0)

@@ -154,13 +154,13 @@ module _ {limits : Limits} {proof : List ℕ} (p : Point) (standing : Standing l
   abbrev s : Step
   s = stepOf step
 
-  pub admit-known : covered (s .line) (stepsIn proof (p .steps)) ≡ true → Reaches limits proof p proof (record {
+  pub admit-subsumed : covered (s .line) (stepsIn proof (p .steps)) ≡ true → Reaches limits proof p proof (record {
     progress = Running;
     steps = p .steps;
     pairs = p .pairs;
   }) (added limits proof p step)
   unfolding stateAt stateOf add placed
-  admit-known e = record { is = rw e; leads = leads-none standing }
+  admit-subsumed e = record { is = rw e; leads = leads-none standing }
 
   module _ (new : covered (s .line) (stepsIn proof (p .steps)) ≡ false) where
     pub admit-out-of-steps : limits .steps ≤ p .steps → Reaches limits proof p proof (record {

@@ -74,7 +74,7 @@ pub record Run : Type 0 where
 -- ---- one line more
 -- overflowing, dropped by an earlier line, one too many ("full"), empty: the first of them that is true decides
 unfoldable pub placed : Bool → Bool → Bool → Bool → Step → List Step → ℕ → State
-placed true known many blank s steps n = ended overflow steps n
+placed true subsumed many blank s steps n = ended overflow steps n
 placed false true many blank s steps n = running steps n
 placed false false true blank s steps n = ended outOfSteps steps n
 placed false false false true s steps n = ended empty (steps ++ (s ∷ [])) n

@@ -7,7 +7,7 @@ use borrow.Author.Count.{below-more}
 use lib.ListN.{length, take, drop}
 use lib.Seq.{take-at, drop-at, take-take, take-add, length-take-le}
 use Rattle.rules_types.specs.Limits.{stepBytes, rationals}
-use Rattle.rules_types.specs.Layout.{stepCoefficients, stepHow, stepWhich, stepFirst, stepSecond}
+use Rattle.rules_types.specs.Layout.{stepHow, stepWhich, stepFirst, stepSecond}
 use Rattle.rules.specs.Lists.{tabulate}
 use Rattle.rules.specs.Bytes.{fieldAt}
 use Rattle.rules.specs.Steps as rules
@@ -20,7 +20,7 @@ use Rattle.lines.specs.Line.{meaning, Ready}
 use Rattle.steps.specs.declared.origin.Step.{Step}
 use Rattle.steps.specs.Origin.{headerOf, originOf, stepOf, originAt, Named}
 use Rattle.steps.specs.Encoding.{encoded, encodeStep-is}
-use Rattle.steps.specs.Decoding.{decoded, decoded-encoded, length-amountsAt}
+use Rattle.steps.specs.Decoding.{decoded, decoded-encoded}
 use Rattle.steps.specs.Places.{stepAt, HasStep, part-after, length-put, put-here}
 use Rattle.steps.specs.Lines.{lineAt, linesIn, ReadyLines}
 
@@ -66,15 +66,6 @@ pub record Words (l : Line) : Type 0 where
   pub eight : length (l .coefficients) ≡ rationals
   pub positive : l .positive < 4294967296
   pub negative : l .negative < 4294967296
-
-pub step-words : (b : List ℕ) → StepBytes b → Words (decoded b)
-unfolding decoded
-step-words b k = record {
-  ready = k .ready;
-  eight = length-amountsAt rationals stepCoefficients b;
-  positive = k .positive;
-  negative = k .negative;
-}
 
 -- the bytes that are written for a step
 module _ (s : Step) (named : Named (s .origin)) (words : Words (s .line)) where

@@ -1,12 +1,11 @@
 -- Steps at their places in a proof's bytes, and what a write leaves there.
 use mathlib.Core.Path.{_≡_, sym, ap, _∙_}
 use mathlib.Core.List.{List, _++_, append-assoc}
-use Prim.Native.Nat.{ℕ, _+_, _*_, _-_, _≤_, _<_}
+use Prim.Native.Nat.{ℕ, _+_, _*_, _-_, _≤_}
 use native.Mathlib.Omega.{arith}
-use lib.ListN.{length, getD, take, drop, replicate, length-append, length-drop, length-replicate}
+use lib.ListN.{length, take, drop, replicate, length-append, length-drop, length-replicate}
 use lib.ListN.{take-append-drop}
 use lib.Seq.{drop-drop, drop-at, take-all, length-take-le, take-append-le, drop-append-le, take-append-seam, drop-append-add}
-use lib.Seq.{getD-take, getD-drop}
 use Rattle.rules_types.specs.Limits.{stepBytes}
 use Rattle.rules.specs.Bytes.{fromBytes, fieldAt}
 use Rattle.fields.specs.Field.{stored, length-stored}
@@ -83,10 +82,6 @@ module _ (proof : List ℕ) (i : ℕ) (room : HasStep proof i) where
   pub length-stepAt : length (stepAt proof i) ≡ stepBytes
   unfolding stepAt
   length-stepAt = length-take-le stepBytes (drop (stepBytes * i) proof) (omega (arith, length-drop (stepBytes * i) proof))
-
-  pub byte-stepAt : (k : ℕ) → k < stepBytes → getD (stepAt proof i) k 0 ≡ getD proof (stepBytes * i + k) 0
-  unfolding stepAt
-  byte-stepAt k h = getD-take stepBytes (drop (stepBytes * i) proof) k 0 h ∙ getD-drop (stepBytes * i) proof k 0
 
   pub field-stepAt : (at k : ℕ) → at + k ≤ stepBytes → fieldAt at k (stepAt proof i) ≡ fieldAt (stepBytes * i + at) k proof
   unfolding fieldAt stepAt

@@ -15,7 +15,7 @@ use Rattle.theory_elimination.specs.Events.{Event, loadEvents, resolvent
 
 -- the first of: overflowing, dropped (which stops nothing), one too many
 unfoldable pub stopOf : Bool → Bool → Bool → Option End
-stopOf true known many = some overflow
+stopOf true subsumed many = some overflow
 stopOf false true many = none
 stopOf false false true = some outOfSteps
 stopOf false false false = none
@@ -52,10 +52,10 @@ through stops stage keeps (e ∷ es) state =
     through-end stage keeps (stopAt stops e) e (cut stops es state) (cut stops es (stage state)) (through stops stage keeps es state)
 
 -- ---- one line
-placed-cut : (w known many blank : Bool) (s : Step) (steps : List Step) (n : ℕ) (e : Event) → e .steps ≡ steps → e .pairs ≡ n
-    → placed w known many blank s steps n ≡ endedAt (stopOf w known many) e (placed false known false blank s steps n)
+placed-cut : (w subsumed many blank : Bool) (s : Step) (steps : List Step) (n : ℕ) (e : Event) → e .steps ≡ steps → e .pairs ≡ n
+    → placed w subsumed many blank s steps n ≡ endedAt (stopOf w subsumed many) e (placed false subsumed false blank s steps n)
 unfolding placed stopOf endedAt
-placed-cut true known many blank s steps n e p q = λ i. ended overflow (sym p i) (sym q i)
+placed-cut true subsumed many blank s steps n e p q = λ i. ended overflow (sym p i) (sym q i)
 placed-cut false true many blank s steps n e p q = refl
 placed-cut false false true blank s steps n e p q = λ i. ended outOfSteps (sym p i) (sym q i)
 placed-cut false false false true s steps n e p q = refl

@@ -32,8 +32,8 @@ module _ (stops : Stops) where
   unfolding one keep pairs add placed keepOne
   pass-one (part s) held n h = by (covered (s .line) held) (stops .atSteps (length held)) (isEmpty (s .line)) (h .0)
     where
-      by : (known many blank : Bool) → (T (not known) → T (not many) × T (not blank))
-          → placed false known many blank s held n ≡ running (elim known [ true ↦ held | false ↦ held ++ (s ∷ []) ]) (n + 0)
+      by : (subsumed many blank : Bool) → (T (not subsumed) → T (not many) × T (not blank))
+          → placed false subsumed many blank s held n ≡ running (elim subsumed [ true ↦ held | false ↦ held ++ (s ∷ []) ]) (n + 0)
       by true many blank g = ap (running held) (omega arith)
       by false true blank g = absurd (g tt .0)
       by false false true g = absurd (g tt .1)
@@ -41,9 +41,9 @@ module _ (stops : Stops) where
   pass-one (made s) held n h = by (stops .atLine (s .line)) (covered (s .line) held) (stops .atSteps (length held)) (isEmpty (s .line))
       (h .0) (h .1)
     where
-      by : (w known many blank : Bool) → T (not w) → (T (not known) → T (not many) × T (not blank))
-          → placed w known many blank s held (suc n) ≡ running (elim known [ true ↦ held | false ↦ held ++ (s ∷ []) ]) (n + 1)
-      by true known many blank w g = absurd w
+      by : (w subsumed many blank : Bool) → T (not w) → (T (not subsumed) → T (not many) × T (not blank))
+          → placed w subsumed many blank s held (suc n) ≡ running (elim subsumed [ true ↦ held | false ↦ held ++ (s ∷ []) ]) (n + 1)
+      by true subsumed many blank w g = absurd w
       by false true many blank w g = ap (running held) (omega arith)
       by false false true blank w g = absurd (g tt .0)
       by false false false true w g = absurd (g tt .1)

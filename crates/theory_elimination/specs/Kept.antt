@@ -12,7 +12,7 @@ module _ (P : Step → Type 0) where
   unfolding keepOne
   one-stays held s h = by (covered (s .line) held)
     where
-      by : (known : Bool) → Any P (elim known [ true ↦ held | false ↦ held ++ (s ∷ []) ])
+      by : (subsumed : Bool) → Any P (elim subsumed [ true ↦ held | false ↦ held ++ (s ∷ []) ])
       by true = h
       by false = any-left P held (s ∷ []) h
 

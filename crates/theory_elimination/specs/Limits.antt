@@ -29,20 +29,20 @@ use Rattle.theory_elimination.specs.Longer.{Room, events-room}
 abbrev InRange : Event → Type 0
 InRange e = T (e .isResolvent) → T (not (overflows (e .line)))
 
-fit-passes : (N : ℕ) (r w known : Bool) (held : ℕ) → (T r → T (not w)) → (T (not known) → held < N)
-    → stopOf (r && w) known (leb N held) ≡ none
+fit-passes : (N : ℕ) (r w subsumed : Bool) (held : ℕ) → (T r → T (not w)) → (T (not subsumed) → held < N)
+    → stopOf (r && w) subsumed (leb N held) ≡ none
 unfolding stopOf
-fit-passes N true true known held f g = absurd (f tt)
+fit-passes N true true subsumed held f g = absurd (f tt)
 fit-passes N true false true held f g = refl
 fit-passes N true false false held f g = rw (is-false (leb N held) (lt→nleb N held (g tt)))
 fit-passes N false w true held f g = refl
 fit-passes N false w false held f g = rw (is-false (leb N held) (lt→nleb N held (g tt)))
 
-pass-in-range : (r w known many : Bool) → stopOf (r && w) known many ≡ none → T r → T (not w)
+pass-in-range : (r w subsumed many : Bool) → stopOf (r && w) subsumed many ≡ none → T r → T (not w)
 unfolding stopOf
-pass-in-range true true known many e z = let k : _≡_ {A = ℕ} 0 1 = cc in absurd (omega arith)
-pass-in-range true false known many e z = tt
-pass-in-range false w known many e z = absurd z
+pass-in-range true true subsumed many e z = let k : _≡_ {A = ℕ} 0 1 = cc in absurd (omega arith)
+pass-in-range true false subsumed many e z = tt
+pass-in-range false w subsumed many e z = absurd z
 
 -- ---- the theorem, for every limit
 module _ (limits : Limits) (p : Problem) where

@@ -42,7 +42,7 @@ module _ (parts : List Step) where
   unfolding keepOne
   one-among held s h a = by (covered (s .line) held)
     where
-      by : (known : Bool) → All Among (elim known [ true ↦ held | false ↦ held ++ (s ∷ []) ])
+      by : (subsumed : Bool) → All Among (elim subsumed [ true ↦ held | false ↦ held ++ (s ∷ []) ])
       by true = h
       by false = all-append Among held (s ∷ []) h (a, tt)
 
@@ -55,7 +55,7 @@ module _ (parts : List Step) where
       both (x ∷ xs) k (inl g) = inl (k .0, g)
       both (x ∷ xs) k (inr g) = inr (both xs (k .1) g)
 
-      by : (known : Bool) → covered (s .line) held ≡ known → Loaded parts (elim known [ true ↦ held | false ↦ held ++ (s ∷ []) ]) s
+      by : (subsumed : Bool) → covered (s .line) held ≡ subsumed → Loaded parts (elim subsumed [ true ↦ held | false ↦ held ++ (s ∷ []) ]) s
       by true e = both held h (covered-exactly (s .line) held .0 (rw e tt))
       by false e = any-right (λ x. Among x × Drops (x .line) (s .line)) held (s ∷ []) (inl (a, drops-self (s .line)))
 

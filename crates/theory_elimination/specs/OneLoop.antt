@@ -154,8 +154,8 @@ module _ (stops : Stops) where
       (passes : Goes stops held s → Passed stops held (x ∷ [])) (stopped : (e : End) → New stops e held s → Stopped stops e held x)
       (same : keep held (x ∷ []) ≡ keepOne held s) (count : m ≡ n + pairs (x ∷ []))
       (then : (held : List Step) → Takes stops xs held m (run xs (running held m))) where
-    placed-takes : (known many blank : Bool) → covered (s .line) held ≡ known → stops .atSteps (length held) ≡ many
-        → isEmpty (s .line) ≡ blank → Takes stops (x ∷ xs) held n (run xs (placed false known many blank s held m))
+    placed-takes : (subsumed many blank : Bool) → covered (s .line) held ≡ subsumed → stops .atSteps (length held) ≡ many
+        → isEmpty (s .line) ≡ blank → Takes stops (x ∷ xs) held n (run xs (placed false subsumed many blank s held m))
     unfolding placed keepOne
     placed-takes true many blank i j k =
         first x xs held n m (run xs (running held m)) (passes (λ h. absurd (rw i at h))) count

@@ -39,7 +39,7 @@ kept : (held : List Step) (s : Step) → Held (keepOne held s) s
 unfolding keepOne
 kept held s = by (covered (s .line) held) refl
   where
-    by : (known : Bool) → covered (s .line) held ≡ known → Held (elim known [ true ↦ held | false ↦ held ++ (s ∷ []) ]) s
+    by : (subsumed : Bool) → covered (s .line) held ≡ subsumed → Held (elim subsumed [ true ↦ held | false ↦ held ++ (s ∷ []) ]) s
     by true e = covered-exactly (s .line) held .0 (rw e tt)
     by false e = any-right (λ x. Drops (x .line) (s .line)) held (s ∷ []) (inl (drops-self (s .line)))
 

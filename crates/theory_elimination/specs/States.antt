@@ -30,12 +30,12 @@ module _ (stops : Stops) (e : End) (steps : List Step) (n : ℕ) where
 
 -- a line that is added: overflowing, covered, one too many, empty or held, for any claim of the elimination then
 module _ (P : State → Type 0) (s : Step) (steps : List Step) (n : ℕ) where
-  placed-cases : (w known many blank : Bool) → (T w → P (ended overflow steps n)) → (T (not w) → T known → P (running steps n))
+  placed-cases : (w subsumed many blank : Bool) → (T w → P (ended overflow steps n)) → (T (not w) → T subsumed → P (running steps n))
       → (T many → P (ended outOfSteps steps n))
       → (T (not many) → T blank → P (ended empty (steps ++ (s ∷ [])) n))
-      → (T (not many) → T (not blank) → P (running (steps ++ (s ∷ [])) n)) → P (placed w known many blank s steps n)
+      → (T (not many) → T (not blank) → P (running (steps ++ (s ∷ [])) n)) → P (placed w subsumed many blank s steps n)
   unfolding placed
-  placed-cases true known many blank a b c d e = a tt
+  placed-cases true subsumed many blank a b c d e = a tt
   placed-cases false true many blank a b c d e = b tt tt
   placed-cases false false true blank a b c d e = c tt
   placed-cases false false false true a b c d e = d tt tt
@@ -62,8 +62,8 @@ pub add-new : (P : List Step → Type 0) (stops : Stops) (w : Bool) (s : Step) (
 unfolding add placed stepsOf
 add-new P stops w s steps n h k = by w (covered (s .line) steps) (stops .atSteps (length steps)) (isEmpty (s .line)) k
   where
-    by : (w known many blank : Bool) → (T (not known) → P (steps ++ (s ∷ []))) → P (stepsOf (placed w known many blank s steps n))
-    by true known many blank k = h
+    by : (w subsumed many blank : Bool) → (T (not subsumed) → P (steps ++ (s ∷ []))) → P (stepsOf (placed w subsumed many blank s steps n))
+    by true subsumed many blank k = h
     by false true many blank k = h
     by false false true blank k = h
     by false false false true k = k tt

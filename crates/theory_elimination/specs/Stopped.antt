@@ -35,10 +35,10 @@ stopped-clash (ended empty steps n) h k = k
 stopped-clash (ended overflow steps n) h k = h
 stopped-clash (ended outOfSteps steps n) h k = h
 
-stop-or : (w known many : Bool) → (stopOf w known many ≡ none)
-    ⊎ ((e : Event) (state : State) → Stopped (endedAt (stopOf w known many) e state))
+stop-or : (w subsumed many : Bool) → (stopOf w subsumed many ≡ none)
+    ⊎ ((e : Event) (state : State) → Stopped (endedAt (stopOf w subsumed many) e state))
 unfolding stopOf endedAt
-stop-or true known many = inr (λ e state. tt)
+stop-or true subsumed many = inr (λ e state. tt)
 stop-or false true many = inl refl
 stop-or false false true = inr (λ e state. tt)
 stop-or false false false = inl refl

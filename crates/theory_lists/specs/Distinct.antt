@@ -12,18 +12,10 @@ use Rattle.rules.specs.Lists.{any, filter, tabulate}
 use Rattle.theory_lists.specs.Tests.{split, is-true, is-false, of-true, of-false, or-l, or-r, or-else, nor, neither}
 use Rattle.theory_lists.specs.All.{All, all-map, filter-all}
 use Rattle.theory_lists.specs.Tabulated.{all-tabulate}
+use Rattle.theory_lists.specs.Scan.{any-append}
 
 -- ---- filters
 module _ {A : Type 0} where
-  pub any-append : (p : A → Bool) (s t : List A) → any p (s ++ t) ≡ any p s || any p t
-  unfolding any
-  any-append p [] t = refl
-  any-append p (a ∷ s) t = rw (any-append p s t) (assoc (p a) (any p s) (any p t))
-    where
-      assoc : (a b c : Bool) → a || (b || c) ≡ (a || b) || c
-      assoc true b c = refl
-      assoc false b c = refl
-
   pub filter-agree : (p q : A → Bool) → ((a : A) → p a ≡ q a) → (s : List A) → filter p s ≡ filter q s
   unfolding filter
   filter-agree p q e [] = refl

@@ -4,5 +4,5 @@ pub mod Places
 pub mod Dropped
 pub mod Equal
 pub mod Tabulated
-pub mod Distinct
 pub mod Scan
+pub mod Distinct

@@ -1,7 +1,7 @@
--- Scans of lists from the front: what a place decides, and what is left from a place on.
-use mathlib.Core.Path.{_≡_, refl}
-use mathlib.Core.Bool.{Bool, true, false, _&&_, _||_, or-true}
-use mathlib.Core.List.{List, [], _∷_}
+-- Tests of lists, element by element: what a place decides, what is left from a place on, and lists joined.
+use mathlib.Core.Path.{_≡_, refl, sym, ap, _∙_}
+use mathlib.Core.Bool.{Bool, true, false, _&&_, _||_, or-true, or-false, or-assoc}
+use mathlib.Core.List.{List, [], _∷_, _++_}
 use Prim.Native.Nat.{ℕ, zero, suc, _+_, _<_}
 use native.Mathlib.Numerals.{add-one}
 use native.Mathlib.Omega.{arith}
@@ -14,13 +14,14 @@ module _ {A : Type 0} where
   drop-end s i h = rw (← h) (drop-length s)
 
   -- ---- some element passes a test
-  pub any-next : (d : A) (t : A → Bool) (s : List A) (i : ℕ) → i < length s → any t (drop i s) ≡ t (getD s i d) || any t (drop (i + 1) s)
+  pub any-append : (t : A → Bool) (s u : List A) → any t (s ++ u) ≡ any t s || any t u
   unfolding any
-  any-next d t s i h = rw (add-one i, drop-cons s i d h)
+  any-append t [] u = refl
+  any-append t (a ∷ s) u = rw (any-append t s u) (sym (or-assoc (t a) (any t s) (any t u)))
 
-  pub any-end : (t : A → Bool) (s : List A) (i : ℕ) → length s ≡ i → any t (drop i s) ≡ false
+  pub any-snoc : (t : A → Bool) (s : List A) (a : A) → any t (s ++ (a ∷ [])) ≡ any t s || t a
   unfolding any
-  any-end t s i h = rw (drop-end s i h)
+  any-snoc t s a = any-append t s (a ∷ []) ∙ ap (λ (b : Bool). any t s || b) (or-false (t a))
 
   module _ (d : A) (t : A → Bool) where
     pub any-at : (s : List A) (i : ℕ) → i < length s → t (getD s i d) ≡ true → any t s ≡ true

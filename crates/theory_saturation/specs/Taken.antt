@@ -1,6 +1,6 @@
 -- The rational variables that a run takes are apart, and those of the problem; so its order is one of rounds.
 use mathlib.Core.Path.{_≡_, refl, sym, ap, _∙_, subst}
-use mathlib.Core.Bool.{Bool, true, false, not, _&&_, _||_}
+use mathlib.Core.Bool.{Bool, true, false, not, _&&_, _||_, or-comm}
 use mathlib.Core.Logic.{⊎-elim}
 use mathlib.Core.List.{List, [], _∷_, _++_}
 use Prim.Native.Nat.{ℕ, zero, suc, _+_, _≤_, _<_}
@@ -18,7 +18,8 @@ use Rattle.rules.specs.Elimination.{unlimited, chosenRounds, loadableOf, load, 
 use Rattle.theory_lists.specs.Tests.{split, or-l, or-r}
 use Rattle.theory_lists.specs.All.{All, all-append, all-map, filter-all, yes-any}
 use Rattle.theory_lists.specs.Tabulated.{length-tabulate, all-tabulate, any-tabulate}
-use Rattle.theory_lists.specs.Distinct.{any-append, filter-agree, filter-both, filter-has, other, AllDistinct, distinct-append}
+use Rattle.theory_lists.specs.Scan.{any-append, any-snoc}
+use Rattle.theory_lists.specs.Distinct.{filter-agree, filter-both, filter-has, other, AllDistinct, distinct-append}
 use Rattle.theory_lists.specs.Distinct.{length-without, Ascending, ascending-filter, ascending-tabulate, ascending-distinct}
 use Rattle.theory_saturation.specs.Order.{Ordered, rising, ordered-by}
 
@@ -44,35 +45,25 @@ module _ (n : ℕ) where
   remaining-has taken f h k = filter-has (λ g. not (any (eqb g) taken)) f (tabulate n (λ g. g)) k
       (yes-any (eqb f) (tabulate n (λ g. g)) (any-tabulate (λ g. T (eqb f g)) n (λ g. g) f h (eqb-refl f)))
 
-  -- one more is taken
-  pub remaining-next : (taken : List ℕ) (f : ℕ) → remaining n (taken ++ (f ∷ [])) ≡ filter (other f) (remaining n taken)
-  unfolding remaining any
-  remaining-next taken f =
-      filter-agree (λ g. not (any (eqb g) (taken ++ (f ∷ [])))) (λ g. not (any (eqb g) taken) && not (eqb g f)) same (tabulate n (λ g. g))
+  -- one more is taken, wherever it stands
+  remaining-more : (taken more : List ℕ) (f : ℕ) → ((g : ℕ) → any (eqb g) more ≡ any (eqb g) taken || eqb g f)
+      → remaining n more ≡ filter (other f) (remaining n taken)
+  unfolding remaining
+  remaining-more taken more f has =
+      filter-agree (λ g. not (any (eqb g) more)) (λ g. not (any (eqb g) taken) && not (eqb g f))
+      (λ g. ap not (has g) ∙ neither (any (eqb g) taken) (eqb g f)) (tabulate n (λ g. g))
       ∙ sym (filter-both (other f) (λ g. not (any (eqb g) taken)) (tabulate n (λ g. g)))
     where
-      by : (a b : Bool) → not (a || (b || false)) ≡ not a && not b
-      by true b = refl
-      by false true = refl
-      by false false = refl
+      neither : (a b : Bool) → not (a || b) ≡ not a && not b
+      neither true b = refl
+      neither false b = refl
 
-      same : (g : ℕ) → not (any (eqb g) (taken ++ (f ∷ []))) ≡ not (any (eqb g) taken) && not (eqb g f)
-      same g = rw (any-append (eqb g) taken (f ∷ [])) (by (any (eqb g) taken) (eqb g f))
+  pub remaining-next : (taken : List ℕ) (f : ℕ) → remaining n (taken ++ (f ∷ [])) ≡ filter (other f) (remaining n taken)
+  remaining-next taken f = remaining-more taken (taken ++ (f ∷ [])) f (λ g. any-snoc (eqb g) taken f)
 
   remaining-cons : (taken : List ℕ) (f : ℕ) → remaining n (f ∷ taken) ≡ filter (other f) (remaining n taken)
-  unfolding remaining any
-  remaining-cons taken f =
-      filter-agree (λ g. not (any (eqb g) (f ∷ taken))) (λ g. not (any (eqb g) taken) && not (eqb g f)) same (tabulate n (λ g. g))
-      ∙ sym (filter-both (other f) (λ g. not (any (eqb g) taken)) (tabulate n (λ g. g)))
-    where
-      by : (a b : Bool) → not (b || a) ≡ not a && not b
-      by true true = refl
-      by true false = refl
-      by false true = refl
-      by false false = refl
-
-      same : (g : ℕ) → not (eqb g f || any (eqb g) taken) ≡ not (any (eqb g) taken) && not (eqb g f)
-      same g = by (any (eqb g) taken) (eqb g f)
+  unfolding any
+  remaining-cons taken f = remaining-more taken (f ∷ taken) f (λ g. or-comm (eqb g f) (any (eqb g) taken))
 
   every-one : (s : List ℕ) → filter (λ f. not (any (eqb f) [])) s ≡ s
   unfolding any filter

@@ -14,11 +14,12 @@ struct Shape {
     far: i32,
 }
 
-/// One problem in six is of marks alone.
+/// One problem in six is of marks alone, and one of all sixteen marks with figures.
 pub fn problem(random: &mut Random) -> Problem {
-    match random.once_in(6) {
-        true => of_marks(random),
-        false => of_rows(random),
+    match random.between(0, 5) {
+        0 => of_marks(random),
+        1 => of_many_marks(random),
+        _ => of_rows(random),
     }
 }
 
@@ -28,6 +29,25 @@ fn of_marks(random: &mut Random) -> Problem {
     for _ in 0..random.between(4, 14) {
         let mut terms = literals(random, problem.booleans);
         terms.push(literal(random, problem.booleans));
+        problem.clauses.push(terms);
+    }
+    problem
+}
+
+/// Sixteen marks and one to three figures; each clause has some of four literals, of one of three
+/// choices.
+fn of_many_marks(random: &mut Random) -> Problem {
+    let mut problem = Problem::new(16, random.between(1, 3) as u8);
+    let shape = shape(random, problem.rationals);
+    let mut four = || (0..4).map(|_| literal(random, 16)).collect();
+    let choices: [Vec<Term>; 3] = [four(), four(), four()];
+    for _ in 0..random.between(4, 14) {
+        let choice = &choices[random.between(0, 2) as usize];
+        let mut terms = choice.clone();
+        terms.retain(|_| random.once_in(2));
+        for _ in 0..constraints(random, terms.len()) {
+            terms.push(constraint(random, &shape));
+        }
         problem.clauses.push(terms);
     }
     problem

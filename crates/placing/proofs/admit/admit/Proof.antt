@@ -10,7 +10,7 @@ use Rattle.lines.specs.Line.{meaning}
 use Rattle.steps.specs.Origin.{headerOf}
 use Rattle.steps.specs.Encoding.{encoded}
 use Rattle.steps.specs.Held.{Words, step-back, step-bytes}
-use Rattle.placing.specs.Point.{admit-known, admit-out-of-steps, admit-new}
+use Rattle.placing.specs.Point.{admit-subsumed, admit-out-of-steps, admit-new}
 use borrow.Author.Needs.{needs}
 use Rattle.placing.proofs.admit.admit.Statement.{statement}
 use Rattle.placing.proofs.admit.admit.Tie as tie
@@ -36,7 +36,7 @@ returns : tie.Need-returns
 returns c =
     let a = c .before in
     let s = start a in
-    admit-known (s .args .p) (s .pre .0) (s .args .step) (sym (a .covered .ensures) ∙ c .if1 .taken)
+    admit-subsumed (s .args .p) (s .pre .0) (s .args .step) (sym (a .covered .ensures) ∙ c .if1 .taken)
 
 cast-if2 : tie.Need-cast-if2
 cast-if2 c = search needs

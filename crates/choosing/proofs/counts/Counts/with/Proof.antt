@@ -7,7 +7,7 @@ use Rattle.rules.specs.Arithmetic.{isPositive, isNegative}
 use lib.IntN.{pos}
 use lib.ListN.{getD}
 use Rattle.lines.specs.Scan.{told}
-use Rattle.choosing.specs.Counts.{one, one-small, Through, through-none, through-next, counted-one}
+use Rattle.choosing.specs.Counts.{one, one-more, Through, through-none, through-next, counted-one}
 use borrow.Author.Needs.{needs}
 use Rattle.choosing.proofs.counts.Counts.with.Statement.{statement}
 use Rattle.choosing.proofs.counts.Counts.with.Tie as tie
@@ -49,14 +49,10 @@ add-uppers : tie.Need-add-uppers Inv-loop μ-loop
 add-uppers c =
     let l = c .before .before .before .before in
     let s = l .before .before .before .before in
+    let f = l .loop .f in
     record {
-      fits = omega (
-        arith,
-        c .one .ensures,
-        one-small (c .before .is-positive .result),
-        l .loop .inv .1 .left (l .loop .f) (omega arith),
-        s .pre .1 (l .loop .f) (omega arith) .0,
-      );
+      fits = one-more _ _ _ (c .before .is-positive .result) (c .one .ensures) (l .loop .inv .1 .left f (omega arith))
+          (s .pre .1 f (omega arith) .0);
     }
 
 array-write-uppers : tie.Need-array-write-uppers Inv-loop μ-loop
@@ -78,14 +74,10 @@ add-lowers : tie.Need-add-lowers Inv-loop μ-loop
 add-lowers c =
     let l = c .before .before .before .before .before .before in
     let s = l .before .before .before .before in
+    let f = l .loop .f in
     record {
-      fits = omega (
-        arith,
-        c .one2 .ensures,
-        one-small (c .before .is-negative .result),
-        l .loop .inv .2 .left (l .loop .f) (omega arith),
-        s .pre .1 (l .loop .f) (omega arith) .1,
-      );
+      fits = one-more _ _ _ (c .before .is-negative .result) (c .one2 .ensures) (l .loop .inv .2 .left f (omega arith))
+          (s .pre .1 f (omega arith) .1);
     }
 
 array-write-lowers : tie.Need-array-write-lowers Inv-loop μ-loop
