@@ -1,14 +1,14 @@
-/* A payment of 10 that covers rent (at least 7) and heating (at least 4): can the entries agree? */
+/* A payment of 10 for rent (at least 7) and heating (at least 4): can the entries agree? */
 #include <stdio.h>
 #include "jemuling.h"
 
 int main(void)
 {
     static const uint8_t question[] = {
-        0, 2, 3, 0,                                                   /* no marks, 2 figures, 3 clauses */
-        0, 1, 1, 1, 0, 0, 0, 1, 0, 0, 0, 10, 0, 0, 0,                 /* rent + heating <= 10 */
-        0, 1, 1, 255, 255, 255, 255, 0, 0, 0, 0, 249, 255, 255, 255,  /* -rent <= -7 */
-        0, 1, 1, 0, 0, 0, 0, 255, 255, 255, 255, 252, 255, 255, 255,  /* -heating <= -4 */
+        0, 2, 3, 0,                                    /* no marks, 2 figures, 3 clauses */
+        0, 1, 3, 1, 0, 0, 0, 1, 0, 0, 0, 10, 0, 0, 0,  /* rent + heating = 10 */
+        0, 1, 4, 1, 0, 0, 0, 0, 0, 0, 0, 7, 0, 0, 0,   /* rent >= 7 */
+        0, 1, 4, 0, 0, 0, 0, 1, 0, 0, 0, 4, 0, 0, 0,   /* heating >= 4 */
     };
     static uint8_t book[JEMULING_BOOK_BYTES], sheet[JEMULING_SHEET_BYTES];
     jemuling_solved said = jemuling_solve(question, sizeof question, book, sizeof book, sheet, sizeof sheet);

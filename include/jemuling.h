@@ -4,27 +4,32 @@
  * A question, little-endian: a byte b, its marks (0 to 16); a byte r, its
  * figures (0 to 8); two bytes n, its clauses (0 to 256). Each clause: a byte m
  * (0 to 32) and m literals of one byte, a mark's number, plus 128 if negated; a
- * byte t (0 to 8) and t conditions: a byte 1 (at most) or 2 (below), r
- * coefficients and a bound, each four bytes and signed, at most 1,000,000,000
- * in size. A condition holds if the sum of coefficient times figure is at most,
- * or below, the bound; a clause if one of its literals or conditions does. The
+ * byte t (0 to 8) and t conditions: a byte 1 (at most), 2 (below), 3 (equal) or
+ * 4 (at least), r coefficients and a bound, each four bytes and signed, at most
+ * 1,000,000,000 in size; 3 stands at most once in a clause. A condition holds
+ * if the sum of coefficient times figure is at most, below, equal to or at
+ * least the bound; a clause if one of its literals or conditions does. The
  * question: are there marks and figures, fractions of any size, with which
  * every clause holds?
  *
- * Solving tidies each clause: a condition without figures goes, and its clause
- * with it if it is true; so does a clause with a mark and its negation; the
- * rest is divided by its greatest common divisor. A clause left with k
- * conditions is cut into k pieces by k - 1 links, marks of the solver's own.
- * These are the first lines of the book. The course then eliminates one figure
- * after the other, each time the remaining one with the least U x L - U - L,
- * which is positive in U and negative in L of the lines without a figure
- * eliminated before, and then the marks, by combining two lines at a time; the
- * result of such a pair, tidied, is a line of the book too. What tidying drops
- * is left out, and so is what an earlier line covers: one with no other
- * literals, and with no condition or the same coefficients and a bound that is
- * smaller, or equal under a relation at least as strict. A line with nothing in
- * it ends the course: the clauses contradict each other. Without one, a value
- * for each mark and figure is worked out backwards from the lines.
+ * Solving reads 4 as 1 with all signs turned, and a clause with a 3 twice:
+ * first with 1 in its place, then with 4; the literals and the other conditions
+ * stand in both. Each reading is tidied: a condition without figures goes, and
+ * the reading with it if it is true; so does a reading with a mark and its
+ * negation; the rest is divided by its greatest common divisor. A reading left
+ * with k conditions is cut into k pieces by k - 1 links, marks of the solver's
+ * own; the pieces and links of a second reading are numbered on behind those of
+ * the first. The pieces are the first lines of the book. The course then
+ * eliminates one figure after the other, each time the remaining one with the
+ * least U x L - U - L, which is positive in U and negative in L of the lines
+ * without a figure eliminated before, and then the marks, by combining two
+ * lines at a time; the result of such a pair, tidied, is a line of the book
+ * too. What tidying drops is left out, and so is what an earlier line covers:
+ * one with no other literals, and with no condition or the same coefficients
+ * and a bound that is smaller, or equal under a relation at least as strict. A
+ * line with nothing in it ends the course: the clauses contradict each other.
+ * Without one, a value for each mark and figure is worked out backwards from
+ * the lines.
  *
  * A question, a book and a sheet are bytes that the caller owns and lends for
  * the time of one call. No call keeps a pointer or any state, allocates,
@@ -64,8 +69,9 @@ extern "C" {
  */
 enum {
     /*
-     * The question is at fault: 3 first; then 4 to 11, the first that is met
-     * as the fields are read one by one; then 12, then 13.
+     * The question is at fault: 3 first; then 4 to 11 and 18, the first that
+     * is met as the fields are read one by one, 18 right after 10; then 12,
+     * then 13.
      */
     JEMULING_LONG = 3,        /* the question has over 32,768 bytes; 32,768 */
     JEMULING_SHORT = 4,       /* the question ends before a field is complete; its length */
@@ -74,7 +80,8 @@ enum {
     JEMULING_CLAUSES = 7,     /* more than 256 clauses; 2 */
     JEMULING_LITERAL = 8,     /* more than 32 literals, or a mark that the question does not have; its byte */
     JEMULING_CONDITIONS = 9,  /* more than 8 conditions; its byte */
-    JEMULING_RELATION = 10,   /* a relation neither 1 (at most) nor 2 (below); its byte */
+    JEMULING_RELATION = 10,   /* a relation other than 1 (at most), 2 (below), 3 (equal) and 4 (at least); its byte */
+    JEMULING_DOUBLE = 18,     /* a second relation 3 (equal) in one clause; its byte */
     JEMULING_AMOUNT = 11,     /* an amount beyond 1,000,000,000 in size; its first byte */
     JEMULING_TAIL = 12,       /* bytes follow the last clause; the first of them */
     JEMULING_LINKS = 13,      /* the tidied clauses take more than 16 links; first byte of the clause passing it */
@@ -117,7 +124,8 @@ typedef struct {
 
 /*
  * Solves a question. Says JEMULING_BOOK, else JEMULING_SHEET, else a fault of
- * the question, 3 to 13, and then alters no byte; or a verdict; or 14 or 15.
+ * the question, 3 to 13 or 18, and then alters no byte; or a verdict; or 14 or
+ * 15.
  *
  * After a verdict the book's first `value` lines of 64 bytes are those of the
  * course and the rest of its 65,536 bytes is 0; the sheet's 64 bytes are the
@@ -130,12 +138,12 @@ typedef struct {
  *
  * A line of the book: byte 0 is how it came (0 from a clause, 1 by eliminating
  * a figure, 2 a mark) and byte 1 that figure's or mark's number; two bytes
- * each, its parents: the line with it positive, the line with it negative
- * (from a clause: the clause's number, and its piece). What it states: byte 6
- * is its condition's relation, 0 without one; byte 7 is 0; four bytes each,
+ * each, its parents: the line with it positive, the line with it negative (from
+ * a clause: the clause's number, and its piece). What it states: byte 6 is its
+ * condition's relation, 1 or 2, 0 without one; byte 7 is 0; four bytes each,
  * its marks and its negated marks, mark i as 2 to the power i, those from b on
- * being links between the pieces of a clause; eight coefficients and a bound
- * of four bytes; zeros.
+ * being links between the pieces of a clause; eight coefficients and a bound of
+ * four bytes; zeros.
  */
 jemuling_solved jemuling_solve(const uint8_t *question, size_t question_length,
                                uint8_t *book, size_t book_length,
@@ -145,17 +153,17 @@ jemuling_solved jemuling_solve(const uint8_t *question, size_t question_length,
  * Checks that a book refutes a question: every line is a piece of a clause or
  * the result of two earlier lines, and the last is empty. Whoever wrote the
  * book, after JEMULING_ACCEPTED no marks and figures satisfy the question.
- * Writes nothing. Says a fault of the question, 3 to 13, else JEMULING_CLAIM,
- * else JEMULING_ACCEPTED or JEMULING_FAILS.
+ * Writes nothing. Says a fault of the question, 3 to 13 or 18, else
+ * JEMULING_CLAIM, else JEMULING_ACCEPTED or JEMULING_FAILS.
  */
 jemuling_told jemuling_check_book(const uint8_t *question, size_t question_length,
                                   const uint8_t *book, size_t book_length);
 
 /*
- * Checks that the marks and figures on a sheet satisfy a question. Bytes after
- * the last numerator are not read. Writes nothing. Says a fault of the
- * question, 3 to 13, else JEMULING_SHEET, else JEMULING_SLIP, else
- * JEMULING_ACCEPTED or JEMULING_FAILS.
+ * Checks that the marks and figures on a sheet satisfy a question, each clause
+ * as it is written. Bytes after the last numerator are not read. Writes
+ * nothing. Says a fault of the question, 3 to 13 or 18, else JEMULING_SHEET,
+ * else JEMULING_SLIP, else JEMULING_ACCEPTED or JEMULING_FAILS.
  */
 jemuling_told jemuling_check_sheet(const uint8_t *question, size_t question_length,
                                    const uint8_t *sheet, size_t sheet_length);

@@ -19,7 +19,7 @@ pub fn explain(
     let (mut book, mut sheet) = (vec![0; BOOK_BYTES], vec![0; SHEET_BYTES]);
     let solved = solve(bytes, &mut book, &mut sheet);
     let said = answer(solved.answer, solved.pairs);
-    if let Answer::Refused(Refusal { number: 3..=13, .. }) = solved.answer {
+    if matches!(solved.answer, Answer::Refused(refusal) if refusal.is_fault()) {
         return Err(Failure::Said(said));
     }
     let question = decode(bytes).map_err(Failure::Said)?;
@@ -33,11 +33,11 @@ pub fn explain(
     };
     let shown = match (solved.answer, hand_back(solved.answer, &book, &sheet)) {
         (Answer::Verdict(Verdict::Agrees, _), Part::Sheet(sheet)) => {
-            let checked = checked(check_sheet(bytes, sheet), "sheet");
+            let checked = checked(check_sheet(bytes, sheet), "sheet", "clause");
             explain_sheet(&question, sheet, &names).map(|lines| lines + &checked)
         }
         (Answer::Verdict(Verdict::Cannot, _), Part::Book(book)) => {
-            let checked = checked(check_book(bytes, book), "book");
+            let checked = checked(check_book(bytes, book), "book", "line");
             explain_book(&question, book, None, &names).map(|lines| lines + &checked)
         }
         _ => Ok(String::new()),
@@ -71,7 +71,7 @@ fn answer(answer: Answer, pairs: u64) -> String {
         Answer::Refused(Refusal { number, place }) => {
             let why = reason(number);
             match number {
-                14.. => format!("refused, {number} at {place}: {why} (pairs tried: {pairs})"),
+                14 | 15 => format!("refused, {number} at {place}: {why} (pairs tried: {pairs})"),
                 _ => format!("refused, {number} at {place}: {why}"),
             }
         }
@@ -87,20 +87,23 @@ fn reason(number: u8) -> &'static str {
         7 => "more than 256 clauses",
         8 => "more than 32 literals, or a mark that the question does not have",
         9 => "more than 8 conditions",
-        10 => "a relation neither 1 (at most) nor 2 (below)",
+        10 => "a relation other than 1 (at most), 2 (below), 3 (equal) and 4 (at least)",
         11 => "an amount beyond 1,000,000,000 in size",
         12 => "bytes follow the last clause",
         13 => "more than 16 links",
         14 => "an amount beyond 1,000,000,000 in size arose; that many lines were held",
         15 => "a line too many for the book; that many lines were held",
+        18 => "a second relation 3 (equal) in one clause",
         _ => "no refusal of solving with full-size buffers",
     }
 }
 
-fn checked(checked: Checked, what: &str) -> String {
+fn checked(checked: Checked, what: &str, part: &str) -> String {
     match checked {
         Checked::Accepted => format!("The check accepts the {what}.\n"),
-        Checked::Fails(place) => format!("The check finds that the {what} fails at {place}.\n"),
+        Checked::Fails(place) => {
+            format!("The check finds that the {what} fails at {part} {place}.\n")
+        }
         Checked::Refused(Refusal { number, place }) => {
             format!("The check refuses, {number} at {place}.\n")
         }

@@ -2,6 +2,7 @@
 
 use crate::names::Names;
 use crate::question::{Clause, Condition, Literal, Question, Relation, FIGURES};
+use crate::reading::{Half, Reading};
 use crate::show::show_clause;
 
 /// The bytes of a line.
@@ -66,11 +67,24 @@ fn loaded(question: &Question, clause: usize, piece: usize) -> Result<String, St
     }
 }
 
-/// A clause by its number, with its piece where links split it.
+/// A clause by its number, with its piece where it has several, and the half of its `=` that the
+/// piece is of.
 pub fn named(whole: &Clause, clause: usize, piece: usize) -> String {
-    match whole.links() > 0 || piece > 0 {
-        true => format!("clause {clause}, piece {piece}"),
-        false => format!("clause {clause}"),
+    let of_pieces = |reading: Reading| vec![reading.half; reading.pieces()];
+    let halves: Vec<_> = whole.readings().into_iter().flat_map(of_pieces).collect();
+    let mut name = format!("clause {clause}");
+    if halves.len() > 1 || piece > 0 {
+        name += &format!(", piece {piece}");
+    }
+    name + of_half(halves.get(piece).copied().flatten())
+}
+
+/// What an `=` is read as.
+pub fn of_half(half: Option<Half>) -> &'static str {
+    match half {
+        None => "",
+        Some(Half::AtMost) => " (= as <=)",
+        Some(Half::AtLeast) => " (= as >=)",
     }
 }
 
@@ -99,7 +113,11 @@ fn condition(question: &Question, bytes: &[u8]) -> Result<Option<Condition>, Str
             false => Err("expected amounts of 0 without a relation".into()),
         };
     }
-    let relation = Relation::from_byte(bytes[6]).ok_or("expected a relation, 0 to 2")?;
+    let relation = match bytes[6] {
+        1 => Relation::AtMost,
+        2 => Relation::Below,
+        _ => return Err("expected a relation, 0 to 2".into()),
+    };
     let (coefficients, rest) = amounts[..FIGURES].split_at(question.figures);
     if rest.iter().any(|&amount| amount != 0) {
         let message = format!(

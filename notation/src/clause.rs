@@ -4,64 +4,50 @@ use crate::failure::Mistake;
 use crate::line::Line;
 use crate::names::{Meaning, Names};
 use crate::question::{Clause, Condition, Literal, CONDITIONS, LITERALS};
-use crate::sum::{turned, Beyond, Sum};
+use crate::sum::{Beyond, Sum};
 use crate::token::Comparison;
+
+const SECOND_EQUALITY: &str = "expected at most one '=' in a clause; write two clauses, and for \
+    'or' between them a mark: 'x = 1 or m' and 'y = 2 or not m'";
 
 /// One side of an `or`.
 enum Part {
     Literal(Literal),
     Condition(Condition),
-    /// The upper half, and the column of `=`.
-    Equation(Condition, usize),
 }
 
-/// The clause on a line; an equation gives two.
-pub fn clauses(line: &mut Line, names: &Names) -> Result<Vec<Clause>, Mistake> {
+/// The clause on a line.
+pub fn clause(line: &mut Line, names: &Names) -> Result<Clause, Mistake> {
+    let mut clause = Clause::default();
     if line.skip("false") {
         return match line.at_end() {
-            true => Ok(vec![Clause::default()]),
+            true => Ok(clause),
             false => Err(line.expected("the end of the line")),
         };
     }
-    let mut clause = Clause::default();
     loop {
         let column = line.column();
-        match part(line, names)? {
+        match part(line, names, clause.has_equality())? {
             Part::Literal(literal) => clause.literals.push(literal),
             Part::Condition(condition) => clause.conditions.push(condition),
-            Part::Equation(half, place) => return equation(line, &clause, half, place),
         }
         limits(line, &clause, column)?;
         if line.at_end() {
-            return Ok(vec![clause]);
+            return Ok(clause);
         }
         if !line.skip("or") {
+            one_equality(line, clause.has_equality())?;
             return Err(line.expected("'or' or the end of the line"));
         }
     }
 }
 
-/// Two clauses for an equation with nothing before and after it.
-fn equation(
-    line: &Line,
-    before: &Clause,
-    half: Condition,
-    place: usize,
-) -> Result<Vec<Clause>, Mistake> {
-    let alone = before.literals.is_empty() && before.conditions.is_empty() && !line.is_at("or");
-    if !alone {
-        let message = "expected '=' alone in its clause".to_string();
-        return Err(line.mistake(place, message));
+/// No `=` comes next where one stands before it.
+fn one_equality(line: &Line, equated: bool) -> Result<(), Mistake> {
+    if equated && line.peek_comparison() == Some(Comparison::Equal) {
+        return Err(line.mistake(line.column(), SECOND_EQUALITY.into()));
     }
-    if !line.at_end() {
-        return Err(line.expected("the end of the line"));
-    }
-    let clause = |condition| Clause {
-        literals: Vec::new(),
-        conditions: vec![condition],
-    };
-    let other = turned(&half);
-    Ok(vec![clause(half), clause(other)])
+    Ok(())
 }
 
 fn limits(line: &Line, clause: &Clause, column: usize) -> Result<(), Mistake> {
@@ -78,7 +64,8 @@ fn limits(line: &Line, clause: &Clause, column: usize) -> Result<(), Mistake> {
     Ok(())
 }
 
-fn part(line: &mut Line, names: &Names) -> Result<Part, Mistake> {
+/// `equated` says that an `=` stands before it in the clause.
+fn part(line: &mut Line, names: &Names, equated: bool) -> Result<Part, Mistake> {
     if line.skip("not") {
         let mark = mark(line, names)?;
         return Ok(Part::Literal(Literal {
@@ -94,7 +81,7 @@ fn part(line: &mut Line, names: &Names) -> Result<Part, Mistake> {
                 negated: false,
             }))
         }
-        _ => condition(line, names),
+        _ => condition(line, names, equated).map(Part::Condition),
     }
 }
 
@@ -111,21 +98,16 @@ fn mark(line: &mut Line, names: &Names) -> Result<usize, Mistake> {
     }
 }
 
-fn condition(line: &mut Line, names: &Names) -> Result<Part, Mistake> {
+fn condition(line: &mut Line, names: &Names, equated: bool) -> Result<Condition, Mistake> {
     let column = line.column();
     let left = sum(line, names, "a mark, a figure or a number")?;
-    let place = line.column();
+    one_equality(line, equated)?;
     let comparison = line
         .comparison()
         .ok_or_else(|| line.expected("'<=', '<', '>=', '>' or '='"))?;
     let right = sum(line, names, "a figure or a number")?;
-    let condition = left
-        .condition(comparison, right)
-        .map_err(|beyond| line.mistake(column, beyond_range(&beyond, names)))?;
-    Ok(match comparison {
-        Comparison::Equal => Part::Equation(condition, place),
-        _ => Part::Condition(condition),
-    })
+    left.condition(comparison, right)
+        .map_err(|beyond| line.mistake(column, beyond_range(&beyond, names)))
 }
 
 fn beyond_range(beyond: &Beyond, names: &Names) -> String {

@@ -49,11 +49,15 @@ impl Reader<'_> {
         let literals = self.count(LITERALS, "literals")?;
         let literals = self.many(literals, |reader| reader.literal(marks))?;
         let conditions = self.count(CONDITIONS, "conditions")?;
-        let conditions = self.many(conditions, |reader| reader.condition(figures))?;
-        Ok(Clause {
+        let mut clause = Clause {
             literals,
-            conditions,
-        })
+            conditions: Vec::new(),
+        };
+        for _ in 0..conditions {
+            let condition = self.condition(figures, clause.has_equality())?;
+            clause.conditions.push(condition);
+        }
+        Ok(clause)
     }
 
     fn literal(&mut self, marks: usize) -> Result<Literal, String> {
@@ -69,11 +73,15 @@ impl Reader<'_> {
         })
     }
 
-    fn condition(&mut self, figures: usize) -> Result<Condition, String> {
+    /// `equated` says that an = stands before it in the clause.
+    fn condition(&mut self, figures: usize, equated: bool) -> Result<Condition, String> {
         let place = self.at;
         let [byte] = self.take()?;
         let relation =
-            Relation::from_byte(byte).ok_or_else(|| fault(place, "expected a relation, 1 or 2"))?;
+            Relation::from_byte(byte).ok_or_else(|| fault(place, "expected a relation, 1 to 4"))?;
+        if equated && relation == Relation::Equal {
+            return Err(fault(place, "expected at most one relation 3 in a clause"));
+        }
         Ok(Condition {
             relation,
             coefficients: self.many(figures, Reader::amount)?,

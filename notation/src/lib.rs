@@ -7,7 +7,7 @@
 //! figures x y rent     # at most 8; may be left out
 //! x + y <= 10 or not a
 //! 3x - 2 rent > -5 or a or b
-//! x = y + 7            # two clauses, so it stands alone
+//! x = y + 7 or b       # at most one = in a clause
 //! false                # the empty clause
 //! ```
 
@@ -23,6 +23,7 @@ mod names;
 mod order;
 mod parse;
 mod question;
+mod reading;
 mod sheet;
 mod show;
 mod sum;
@@ -38,5 +39,6 @@ pub use names::Names;
 pub use order::{explain_order, order_taken};
 pub use parse::{parse, Text};
 pub use question::{Clause, Condition, Literal, Question, Relation};
+pub use reading::{Half, Reading};
 pub use sheet::explain_sheet;
 pub use show::{show, show_clause};

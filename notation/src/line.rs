@@ -32,14 +32,9 @@ impl Line {
 
     /// Takes the next token if it is this word.
     pub fn skip(&mut self, word: &str) -> bool {
-        let found = self.is_at(word);
+        let found = matches!(self.next(), Kind::Word(next) if next == word);
         self.at += usize::from(found);
         found
-    }
-
-    /// Whether this word comes next.
-    pub fn is_at(&self, word: &str) -> bool {
-        matches!(self.next(), Kind::Word(next) if next == word)
     }
 
     /// The next token if it is a name; reserved words are none.
@@ -77,11 +72,16 @@ impl Line {
         Some(minus)
     }
 
+    /// The next token if it is a comparison.
+    pub fn peek_comparison(&self) -> Option<Comparison> {
+        match self.next() {
+            &Kind::Comparison(comparison) => Some(comparison),
+            _ => None,
+        }
+    }
+
     pub fn comparison(&mut self) -> Option<Comparison> {
-        let comparison = match self.next() {
-            &Kind::Comparison(comparison) => comparison,
-            _ => return None,
-        };
+        let comparison = self.peek_comparison()?;
         self.at += 1;
         Some(comparison)
     }

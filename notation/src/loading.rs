@@ -1,33 +1,34 @@
 //! What a run did not load, worked out from the lines that it left: clauses that always hold, and
 //! pieces that an earlier line covers.
 
-use crate::book::{half, named, LINE};
+use crate::book::{half, named, of_half, LINE};
 use crate::question::{Clause, Condition, Literal, Question, Relation};
+use crate::reading::Reading;
 
-/// The pieces that an earlier line covers, and the clauses that always hold: for both their count,
-/// and each on a line. Nothing of what a run did not come to. The book is the used lines of that run.
+/// The pieces that an earlier line covers, and the clauses, or one reading of them, that always hold:
+/// for both their count, and each on a line. Nothing of what a run did not come to. The book is the
+/// used lines of that run.
 pub fn explain_loading(question: &Question, book: &[u8]) -> String {
     let mut lines = book.chunks_exact(LINE).take_while(|line| line[0] == 0);
     let mut next = lines.next();
     let mut held: Vec<(String, Piece)> = Vec::new();
     let (mut covered, mut dropped) = (Vec::new(), Vec::new());
-    for (number, clause) in question.clauses.iter().enumerate() {
-        let pieces = pieces(clause);
+    let clauses = question.clauses.iter().enumerate();
+    for item in clauses.flat_map(|(number, clause)| items(number, clause)) {
         if held.last().map_or(false, |(_, piece)| piece.is_empty()) {
             break;
         }
-        if pieces.is_empty() {
-            dropped.push(format!("clause {number}: always true\n"));
-        }
-        for (part, piece) in pieces.into_iter().enumerate() {
-            let name = named(clause, number, part);
-            let is_it = |line: &[u8]| half(line, 2) == number && half(line, 4) == part;
-            if next.map_or(false, is_it) {
-                next = lines.next();
-                held.push((name, piece));
-            } else if let Some(line) = held.iter().position(|(_, other)| other.covers(&piece)) {
-                let by = &held[line].0;
-                covered.push(format!("{name}: covered by line {line} ({by})\n"));
+        match item {
+            Item::AlwaysTrue(name) => dropped.push(format!("{name}: always true\n")),
+            Item::Piece(number, part, name, piece) => {
+                let is_it = |line: &[u8]| half(line, 2) == number && half(line, 4) == part;
+                if next.map_or(false, is_it) {
+                    next = lines.next();
+                    held.push((name, piece));
+                } else if let Some(line) = held.iter().position(|(_, other)| other.covers(&piece)) {
+                    let by = &held[line].0;
+                    covered.push(format!("{name}: covered by line {line} ({by})\n"));
+                }
             }
         }
     }
@@ -41,7 +42,36 @@ fn listed(why: &str, lines: &[String]) -> String {
     }
 }
 
-/// A piece of a tidied clause.
+/// What loading comes to: a clause, or one reading of it, that tidying drops, by its name; or a piece,
+/// by the numbers of its clause and of itself, and by its name.
+enum Item<'a> {
+    AlwaysTrue(String),
+    Piece(usize, usize, String, Piece<'a>),
+}
+
+/// What loading comes to of a clause, in order.
+fn items(number: usize, clause: &Clause) -> Vec<Item<'_>> {
+    let readings = clause.readings();
+    if readings.iter().all(|reading| reading.pieces() == 0) {
+        return vec![Item::AlwaysTrue(format!("clause {number}"))];
+    }
+    let mut items = Vec::new();
+    let mut part = 0;
+    for reading in readings {
+        if reading.pieces() == 0 {
+            let half = of_half(reading.half);
+            items.push(Item::AlwaysTrue(format!("clause {number}{half}")));
+        }
+        for piece in pieces(&clause.literals, reading) {
+            let name = named(clause, number, part);
+            items.push(Item::Piece(number, part, name, piece));
+            part += 1;
+        }
+    }
+    items
+}
+
+/// A piece of a tidied reading.
 struct Piece<'a> {
     /// The clause's own; links are not among them.
     literals: &'a [Literal],
@@ -49,16 +79,17 @@ struct Piece<'a> {
     has_link: bool,
 }
 
-/// The pieces of a clause, in the order in which they load; none of one that always holds.
-fn pieces(clause: &Clause) -> Vec<Piece<'_>> {
-    let conditions = match clause.tidied() {
+/// The pieces of a reading of a clause with these literals, in the order in which they load; none of
+/// one that always holds.
+fn pieces(literals: &[Literal], reading: Reading) -> Vec<Piece<'_>> {
+    let conditions = match reading.conditions {
         Some(conditions) if conditions.is_empty() => vec![None],
         Some(conditions) => conditions.into_iter().map(Some).collect(),
         None => Vec::new(),
     };
     let has_link = conditions.len() > 1;
     let piece = |(part, condition)| Piece {
-        literals: if part == 0 { &clause.literals } else { &[] },
+        literals: if part == 0 { literals } else { &[] },
         condition,
         has_link,
     };

@@ -1,6 +1,6 @@
 //! A notation file: names, then clauses.
 
-use crate::clause::clauses;
+use crate::clause::clause;
 use crate::failure::Mistake;
 use crate::line::Line;
 use crate::names::Names;
@@ -60,7 +60,7 @@ impl Parser {
             self.names.figures = self.list(line, FIGURES, "figures")?;
             return Ok(());
         }
-        self.clauses(line, column)
+        self.clause(line, column)
     }
 
     /// Names are given once, before the clauses.
@@ -91,16 +91,15 @@ impl Parser {
         Ok(list)
     }
 
-    fn clauses(&mut self, mut line: Line, column: usize) -> Result<(), Mistake> {
-        for clause in clauses(&mut line, &self.names)? {
-            self.length += clause.length(self.names.figures.len());
-            self.links += clause.links();
-            self.question.clauses.push(clause);
-            if let Some(limit) = self.passed() {
-                return Err(line.mistake(column, format!("expected at most {limit}")));
-            }
+    fn clause(&mut self, mut line: Line, column: usize) -> Result<(), Mistake> {
+        let clause = clause(&mut line, &self.names)?;
+        self.length += clause.length(self.names.figures.len());
+        self.links += clause.links();
+        self.question.clauses.push(clause);
+        match self.passed() {
+            Some(limit) => Err(line.mistake(column, format!("expected at most {limit}"))),
+            None => Ok(()),
         }
-        Ok(())
     }
 
     /// The limit that the clauses so far have passed.
@@ -112,7 +111,10 @@ impl Parser {
             return Some("32,768 bytes".into());
         }
         (self.links > LINKS).then(|| {
-            format!("{LINKS} links; a clause takes one for each condition after its first")
+            format!(
+                "{LINKS} links; a clause takes one for each condition after its first, or two if it \
+                 has an '='"
+            )
         })
     }
 }

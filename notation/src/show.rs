@@ -37,6 +37,8 @@ fn show_condition(condition: &Condition, names: &Names) -> String {
     let relation = match condition.relation {
         Relation::AtMost => "<=",
         Relation::Below => "<",
+        Relation::Equal => "=",
+        Relation::AtLeast => ">=",
     };
     let sum = show_sum(&condition.coefficients, names);
     format!("{sum} {relation} {}", condition.bound)

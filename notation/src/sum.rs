@@ -32,23 +32,32 @@ impl Sum {
         Some(())
     }
 
+    fn has_figures(&self) -> bool {
+        self.coefficients.iter().any(|&amount| amount != 0)
+    }
+
     /// The condition `self comparison right`, figures to the left and constants to the right;
-    /// an equation gives its upper half.
+    /// there is no relation for `>`, so its sides are exchanged, and so are those of `7 = x`.
     pub fn condition(self, comparison: Comparison, right: Sum) -> Result<Condition, Beyond> {
-        let (less, more, relation) = match comparison {
-            Comparison::AtMost | Comparison::Equal => (self, right, Relation::AtMost),
-            Comparison::Below => (self, right, Relation::Below),
-            Comparison::AtLeast => (right, self, Relation::AtMost),
-            Comparison::Above => (right, self, Relation::Below),
+        let only_right = !self.has_figures() && right.has_figures();
+        let (left, right, relation) = match (comparison, only_right) {
+            (Comparison::Below, _) => (self, right, Relation::Below),
+            (Comparison::Above, _) => (right, self, Relation::Below),
+            (Comparison::AtMost, false) => (self, right, Relation::AtMost),
+            (Comparison::Equal, false) => (self, right, Relation::Equal),
+            (Comparison::AtLeast, false) => (self, right, Relation::AtLeast),
+            (Comparison::AtMost, true) => (right, self, Relation::AtLeast),
+            (Comparison::Equal, true) => (right, self, Relation::Equal),
+            (Comparison::AtLeast, true) => (right, self, Relation::AtMost),
         };
-        let pairs = less.coefficients.iter().zip(&more.coefficients);
-        let moved = pairs.enumerate().map(|(figure, (&less, &more))| {
-            difference(less, more).ok_or(Beyond::Coefficient(figure))
+        let pairs = left.coefficients.iter().zip(&right.coefficients);
+        let moved = pairs.enumerate().map(|(figure, (&left, &right))| {
+            difference(left, right).ok_or(Beyond::Coefficient(figure))
         });
         Ok(Condition {
             relation,
             coefficients: moved.collect::<Result<_, _>>()?,
-            bound: difference(more.constant, less.constant).ok_or(Beyond::Bound)?,
+            bound: difference(right.constant, left.constant).ok_or(Beyond::Bound)?,
         })
     }
 }
@@ -57,17 +66,4 @@ impl Sum {
 fn difference(left: i64, right: i64) -> Option<i32> {
     let amount = i32::try_from(left.checked_sub(right)?).ok()?;
     (-AMOUNT..=AMOUNT).contains(&amount).then_some(amount)
-}
-
-/// The same condition with all signs turned.
-pub fn turned(condition: &Condition) -> Condition {
-    Condition {
-        relation: condition.relation,
-        coefficients: condition
-            .coefficients
-            .iter()
-            .map(|amount| -amount)
-            .collect(),
-        bound: -condition.bound,
-    }
 }

@@ -61,21 +61,29 @@ figure arrears_c: 200
 fn the_payment_with_an_entry_missing() {
     let book = book("payment_missing");
     let lines: Vec<&str> = book.lines().collect();
-    assert_eq!(lines.len(), 27);
+    assert_eq!(lines.len(), 29);
     assert_eq!(lines[4], "line 4: clause 4: rent_a <= 0 or a_rent");
     assert_eq!(
-        lines[20],
-        "line 20: figure arrears_b from lines 7 and 13: b_arrears"
+        lines[13],
+        "line 13: clause 12, piece 0 (= as <=): heating_a + heating_b <= 300"
     );
     assert_eq!(
-        lines[24],
-        "line 24: figure heating_a from lines 16 and 17: b_heating"
+        lines[14],
+        "line 14: clause 12, piece 1 (= as >=): -heating_a - heating_b <= -300"
     );
     assert_eq!(
-        lines[25],
-        "line 25: mark b_heating from lines 24 and 8: not b_arrears"
+        lines[22],
+        "line 22: figure arrears_b from lines 7 and 16: b_arrears"
     );
-    assert!(lines[26].starts_with("line 26: mark b_arrears from lines 20 and 25: nothing"));
+    assert_eq!(
+        lines[26],
+        "line 26: figure heating_a from lines 19 and 20: b_heating"
+    );
+    assert_eq!(
+        lines[27],
+        "line 27: mark b_heating from lines 26 and 8: not b_arrears"
+    );
+    assert!(lines[28].starts_with("line 28: mark b_arrears from lines 22 and 27: nothing"));
 }
 
 #[test]
@@ -139,6 +147,56 @@ line 3: clause 2: x < 4
     assert!(words.contains(": link 0 from lines "), "{words}");
 }
 
+/// The lines of the second solver's book that are loaded.
+fn loaded(text: &str) -> String {
+    let Text { names, question } = notation::parse(text).unwrap();
+    let (_, book, _) = solved(&encode(&question));
+    let is_loaded = |line: &&[u8]| line[0] == 0 && line[1..].iter().any(|&byte| byte != 0);
+    let lines = book.chunks_exact(64).take_while(is_loaded).count().max(1);
+    explain_book(&question, &book, Some(lines), &names).unwrap()
+}
+
+#[test]
+fn halves_of_an_equality() {
+    let both = "\
+line 0: clause 0, piece 0 (= as <=): y <= 1 or a or link 0
+line 1: clause 0, piece 1 (= as <=): x <= 5 or not link 0 or link 1
+line 2: clause 0, piece 2 (= as <=): -z <= -2 or not link 1
+line 3: clause 0, piece 3 (= as >=): y <= 1 or a or link 2
+line 4: clause 0, piece 4 (= as >=): -x <= -5 or not link 2 or link 3
+line 5: clause 0, piece 5 (= as >=): -z <= -2 or not link 3
+line 6: clause 1: -x <= -6
+line 7: clause 2, piece 0 (= as <=): y <= 3
+line 8: clause 2, piece 1 (= as >=): -y <= -3
+";
+    let text = "marks a\nfigures x y z\ny <= 1 or x = 5 or z >= 2 or a\nx >= 6\ny = 3";
+    assert_eq!(loaded(text), both);
+    // of an '=' without figures one half is true, and dropped
+    let text = "marks a\nfigures x\n0 = 5 or a\n0 = -5 or x < 1 or x < 2";
+    let one = "\
+line 0: clause 0 (= as >=): a
+line 1: clause 1, piece 0 (= as <=): x < 1 or link 0
+line 2: clause 1, piece 1 (= as <=): x < 2 or not link 0
+";
+    assert_eq!(loaded(text), one);
+    let nothing = "line 0: clause 0 (= as <=): nothing: a contradiction\n";
+    assert_eq!(loaded("0 = -5"), nothing);
+}
+
+/// A piece that the clause does not have is of no half.
+#[test]
+fn a_piece_too_many() {
+    let question = notation::parse("figures x\nx = 5").unwrap().question;
+    let (_, mut book, _) = solved(&encode(&question));
+    book[4] = 2;
+    let words = explain_book(&question, &book, Some(2), &Names::numbered(&question)).unwrap();
+    let expected = "\
+line 0: clause 0, piece 2: x0 <= 5
+line 1: clause 0, piece 1 (= as >=): -x0 <= -5
+";
+    assert_eq!(words, expected);
+}
+
 #[test]
 fn what_cannot_be_explained() {
     let Text { names, question } = text("example_07");
@@ -155,7 +213,9 @@ fn what_cannot_be_explained() {
         said(70, 0),
         "line 1: expected amounts of 0 without a relation"
     );
-    assert_eq!(said(70, 3), "line 1: expected a relation, 0 to 2");
+    for relation in [3, 4, 5] {
+        assert_eq!(said(70, relation), "line 1: expected a relation, 0 to 2");
+    }
     assert_eq!(
         said(24, 1),
         "line 0: expected coefficients of 0 from figure 2 on"

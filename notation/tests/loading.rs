@@ -4,7 +4,7 @@
 mod common;
 
 use common::{solved, text};
-use notation::{decode, encode, explain_loading, parse, Question, Text};
+use notation::{decode, encode, explain_loading, parse, Question, Relation, Text};
 use questions::random::Random;
 use questions::rows;
 use reference::Answer;
@@ -74,15 +74,55 @@ clause 5: always true
     assert_eq!(said(&parse(text).unwrap()), expected);
 }
 
-/// The clauses behind an empty one are not come to.
+/// The halves of an `=` are covered or dropped each by itself.
 #[test]
-fn an_empty_clause_ends_the_loading() {
-    let text = parse("figures x\nx <= 1\nx <= 2\nfalse\nx <= 3\n0 <= 1").unwrap();
+fn halves_of_an_equality() {
+    let text = "\
+marks a b
+figures x y
+x <= 5
+x = 6 or a
+x = 4
+x >= 4
+-x >= -5
+0 = 3 or x <= 4 or b
+0 = -3 or x <= 3 or b
+0 = 0
+x = 5 or a or not a
+x <= 9 or y = 2 or x >= 1
+";
+    let expected = "\
+not loaded, covered by an earlier line: 8
+clause 1, piece 0 (= as <=): covered by line 0 (clause 0)
+clause 3: covered by line 3 (clause 2, piece 1 (= as >=))
+clause 4: covered by line 0 (clause 0)
+clause 5 (= as >=): covered by line 2 (clause 2, piece 0 (= as <=))
+clause 9, piece 0 (= as <=): covered by line 0 (clause 0)
+clause 9, piece 2 (= as <=): covered by line 3 (clause 2, piece 1 (= as >=))
+clause 9, piece 3 (= as >=): covered by line 0 (clause 0)
+clause 9, piece 5 (= as >=): covered by line 3 (clause 2, piece 1 (= as >=))
+not loaded, always true: 4
+clause 5 (= as <=): always true
+clause 6 (= as >=): always true
+clause 7: always true
+clause 8: always true
+";
+    assert_eq!(said(&parse(text).unwrap()), expected);
+}
+
+/// The clauses, and the half of one, behind an empty line are not come to.
+#[test]
+fn an_empty_line_ends_the_loading() {
     let expected = "\
 not loaded, covered by an earlier line: 1
 clause 1: covered by line 0 (clause 0)
 ";
-    assert_eq!(said(&text), expected);
+    for empty in ["false", "0 = -1"] {
+        let text = format!("figures x\nx <= 1\nx <= 2\n{empty}\nx <= 3\n0 <= 1\n0 = 0");
+        assert_eq!(said(&parse(&text).unwrap()), expected);
+    }
+    let first = "not loaded, always true: 1\nclause 0 (= as <=): always true\n";
+    assert_eq!(said(&parse("0 = 1\n0 = 2").unwrap()), first);
 }
 
 /// Pairs of clauses, of which the first covers the second, or nearly does.
@@ -128,13 +168,17 @@ fn what_covers() {
 #[test]
 fn of_random_questions() {
     let mut random = Random::new(3);
-    let (mut whole, mut pieces) = (0, 0);
+    let (mut whole, mut pieces, mut halves) = (0, 0, 0);
     for number in 0..4_000 {
         let problem = match number % 4 {
             0 => random.problem(),
             _ => rows::problem(&mut random),
         };
         let question = decode(&problem.encode()).unwrap();
+        let question = match number % 2 {
+            0 => question,
+            _ => with_relations(&mut random, question),
+        };
         let book = match book(&encode(&question)) {
             Some(book) if !ends_loading(&book) => book,
             _ => continue,
@@ -152,11 +196,29 @@ fn of_random_questions() {
                     whole += 1;
                     assert_eq!(lines, 1, "{number}: {line}");
                 }
+                None if line.contains("(= as") => halves += 1,
                 None => pieces += 1,
             }
         }
     }
-    assert!(whole > 1_000 && pieces > 100, "{whole}, {pieces}");
+    let enough = whole > 1_000 && pieces > 100 && halves > 1_000;
+    assert!(enough, "{whole}, {pieces}, {halves}");
+}
+
+/// With one condition in three at least its bound, and in one clause of two one equal to it.
+fn with_relations(random: &mut Random, mut question: Question) -> Question {
+    for clause in &mut question.clauses {
+        for condition in &mut clause.conditions {
+            if random.once_in(3) {
+                condition.relation = Relation::AtLeast;
+            }
+        }
+        let last = clause.conditions.len() as i64 - 1;
+        if last >= 0 && random.once_in(2) {
+            clause.conditions[random.between(0, last) as usize].relation = Relation::Equal;
+        }
+    }
+    question
 }
 
 /// Whether a loaded line is empty.
@@ -167,8 +229,8 @@ fn ends_loading(book: &[u8]) -> bool {
 
 /// All pieces of a question.
 fn count(question: &Question) -> usize {
-    let clauses = question.clauses.iter().filter_map(|clause| clause.tidied());
-    clauses.map(|conditions| conditions.len().max(1)).sum()
+    let readings = question.clauses.iter().flat_map(|clause| clause.readings());
+    readings.map(|reading| reading.pieces()).sum()
 }
 
 /// The lines that are loaded of the two clauses that a line names; none if it names a piece.

@@ -54,10 +54,15 @@ fn in_clauses() {
         ),
         ("a b", "3: expected 'or' or the end of the line, found 'b'"),
         ("false or a", "7: expected the end of the line, found 'or'"),
-        ("x = 5 or a", "3: expected '=' alone in its clause"),
-        ("a or x = 5", "8: expected '=' alone in its clause"),
         ("x = 5 a", "7: expected a figure, found mark 'a'"),
-        ("x = y = 5", "7: expected the end of the line, found '='"),
+        (
+            "x < y = 5",
+            "7: expected 'or' or the end of the line, found '='",
+        ),
+        (
+            "x = y <= 5",
+            "7: expected 'or' or the end of the line, found '<='",
+        ),
         (
             "x * 2 <= 1",
             "3: expected a name, a number or a sign, found '*'",
@@ -98,6 +103,26 @@ fn in_clauses() {
     for (clause, message) in cases {
         assert_eq!(said_of(clause), message, "{clause}");
     }
+}
+
+/// A second `=`, whatever stands behind it.
+#[test]
+fn two_equalities() {
+    let cases = [
+        ("x = 1 or y = 2", 12),
+        ("x = y = 5", 7),
+        ("0 = 0 or 0 = z", 12),
+        ("x = 1 or a or x < 3 or 2x - 5 = ", 31),
+        ("a or not a or x = 1 or y = 2000000000", 26),
+    ];
+    let message = "expected at most one '=' in a clause; write two clauses, and for 'or' between \
+                   them a mark: 'x = 1 or m' and 'y = 2 or not m'";
+    for (clause, column) in cases {
+        assert_eq!(said_of(clause), format!("{column}: {message}"), "{clause}");
+    }
+    assert_eq!(said_of("x = 1 or z = 2"), "10: unknown name 'z'");
+    let instead = "marks m\nfigures x y\nx = 1 or m\ny = 2 or not m";
+    assert_eq!(parse(instead).unwrap().question.clauses.len(), 2);
 }
 
 #[test]
@@ -153,10 +178,11 @@ fn beyond_the_limits() {
         said(&many),
         "payment.txt:257:1: expected at most 256 clauses"
     );
-    let equations = "figures x\n".to_string() + &"false\n".repeat(255) + "  x = 1";
+    let equations = "figures x\n".to_string() + &"x = 1\n".repeat(256);
+    assert!(parse(&equations).is_ok());
     assert_eq!(
-        said(&equations),
-        "payment.txt:257:3: expected at most 256 clauses"
+        said(&(equations + "  x = 1")),
+        "payment.txt:258:3: expected at most 256 clauses"
     );
 }
 
@@ -185,7 +211,9 @@ fn beyond_the_links() {
     let free = "x<1 or x<2 or 0<=0\nx<1 or x<2 or a or not a\nx<1 or 0<0\na\n";
     let full = head.clone() + &conditions(3) + free;
     assert!(parse(&full).is_ok());
-    let links = "expected at most 16 links; a clause takes one for each condition after its first";
+    let links =
+        "expected at most 16 links; a clause takes one for each condition after its first, \
+                 or two if it has an '='";
     assert_eq!(
         said(&(full + "  x<1 or x<2 or 1<0")),
         format!("payment.txt:10:3: {links}")
@@ -193,5 +221,13 @@ fn beyond_the_links() {
     assert_eq!(
         said(&(head + &conditions(4))),
         format!("payment.txt:5:1: {links}")
+    );
+    // an '=' without figures leaves one reading, its other side being true
+    let twice = "figures x\n".to_string() + &"x<1 or x=2 or x<3 or x<4\n".repeat(2);
+    let full = twice + "x<1 or x<2 or x<3 or 0=1\nx<1 or x<2 or x<3 or -1=0\n";
+    assert!(parse(&full).is_ok());
+    assert_eq!(
+        said(&(full + "x=1 or x<2\n")),
+        format!("payment.txt:6:1: {links}")
     );
 }

@@ -10,11 +10,18 @@ pub const BOOK_BYTES: usize = 65_536;
 /// The bytes of a sheet.
 pub const SHEET_BYTES: usize = 64;
 
-/// A refusal by its number, 1 to 17, and its place; the header says what each number means.
+/// A refusal by its number, 1 to 18, and its place; the header says what each number means.
 #[derive(Clone, Copy, Debug, PartialEq, Eq)]
 pub struct Refusal {
     pub number: u8,
     pub place: usize,
+}
+
+impl Refusal {
+    /// Whether the question itself is at fault: 3 to 13, and 18.
+    pub fn is_fault(&self) -> bool {
+        matches!(self.number, 3..=13 | 18)
+    }
 }
 
 #[derive(Clone, Copy, Debug, PartialEq, Eq)]
@@ -187,7 +194,7 @@ fn checked(told: Told) -> Checked {
     }
 }
 
-/// The library's refusals are 1 to 17; a number that is none of its own would come out as 255.
+/// The library's refusals are 1 to 18; a number that is none of its own would come out as 255.
 fn refusal(number: u64, place: usize) -> Refusal {
     Refusal {
         number: u8::try_from(number).unwrap_or(u8::MAX),

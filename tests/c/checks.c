@@ -1,4 +1,4 @@
-/* Calls the library from C on document 01's examples: right books and sheets, wrong ones, and solving. */
+/* Calls the library from C on document 01's examples and on = and at least: right books and sheets, wrong ones, and solving. */
 #include <stdio.h>
 #include <string.h>
 
@@ -32,6 +32,8 @@ static void right_ones(void)
     expect("book of example 7", BOOK(example_7_question, example_7_book), JEMULING_ACCEPTED, 0);
     expect("book of example 8", BOOK(example_8_question, example_8_book), JEMULING_ACCEPTED, 0);
     expect("sheet of example 9", SHEET(example_9_question, example_9_sheet), JEMULING_ACCEPTED, 0);
+    expect("sheet of an =", SHEET(equal_question, equal_sheet), JEMULING_ACCEPTED, 0);
+    expect("book of both readings of an =", BOOK(at_least_question, at_least_book), JEMULING_ACCEPTED, 0);
 }
 
 static void wrong_ones(void)
@@ -56,6 +58,24 @@ static void wrong_ones(void)
     expect("a sheet with other counts", SHEET(example_9_question, example_3_sheet), JEMULING_SLIP, 0);
     expect("a sheet of 63 bytes", jemuling_check_sheet(example_5_question, sizeof example_5_question, example_5_sheet, 63),
            JEMULING_SHEET, 0);
+}
+
+/* One half of an = is not enough for a sheet; its second reading is piece 1; and a second = comes before 16, 2 and 17. */
+static void wrong_equal_ones(void)
+{
+    unsigned char sheet[sizeof equal_sheet], book[sizeof at_least_book];
+    for (int x = 4; x <= 6; x++) {
+        memcpy(sheet, equal_sheet, sizeof sheet);
+        sheet[6] = (unsigned char)x;
+        expect("a sheet near an =", SHEET(equal_question, sheet), x == 5 ? JEMULING_ACCEPTED : JEMULING_FAILS, 0);
+    }
+    expect("x = 5 is not at least 6", SHEET(at_least_question, equal_sheet), JEMULING_FAILS, 1);
+    memcpy(book, at_least_book, sizeof book);
+    book[JEMULING_LINE_BYTES + 4] = 0;
+    expect("the second reading as piece 0", BOOK(at_least_question, book), JEMULING_FAILS, 1);
+    expect("two = before 16", jemuling_check_book(double_question, sizeof double_question, NULL, 0), JEMULING_DOUBLE, 15);
+    expect("two = before 2", jemuling_check_sheet(double_question, sizeof double_question, NULL, 0), JEMULING_DOUBLE, 15);
+    expect("two = before 17", SHEET(double_question, example_9_sheet), JEMULING_DOUBLE, 15);
 }
 
 static void handing_back(void)
@@ -106,16 +126,38 @@ static void solving(void)
     SOLVES("example 7", example_7_question, JEMULING_CANNOT, 5, example_7_book);
     SOLVES("example 8", example_8_question, JEMULING_CANNOT, 3, example_8_book);
     SOLVES("example 9", example_9_question, JEMULING_AGREES, 3, example_9_sheet);
+    SOLVES("an =", equal_question, JEMULING_AGREES, 2, equal_sheet);
+    SOLVES("an = and at least", at_least_question, JEMULING_CANNOT, 4, at_least_book);
     jemuling_solved said = jemuling_solve(example_1_question, sizeof example_1_question, NULL, 0, NULL, 0);
     expect("no book", (jemuling_told){ said.number, said.value }, JEMULING_BOOK, 0);
+}
+
+/* Two = in a clause: no pairs, and no byte of the buffers altered. */
+static void refusing(void)
+{
+    static unsigned char book[JEMULING_BOOK_BYTES], sheet[JEMULING_SHEET_BYTES];
+    size_t altered = 0;
+    memset(book, 0xab, sizeof book);
+    memset(sheet, 0xcd, sizeof sheet);
+    jemuling_solved said = jemuling_solve(double_question, sizeof double_question, book, sizeof book, sheet, sizeof sheet);
+    expect("two =", (jemuling_told){ said.number, said.value }, JEMULING_DOUBLE, 15);
+    for (size_t i = 0; i < sizeof book; i++)
+        altered += book[i] != 0xab;
+    for (size_t i = 0; i < sizeof sheet; i++)
+        altered += sheet[i] != 0xcd;
+    expect("pairs and bytes after two =", (jemuling_told){ said.pairs, altered }, 0, 0);
+    expect("handing back after two =", jemuling_hand_back(said.number, said.value, book, sizeof book, sheet, sizeof sheet),
+           JEMULING_OF_BOOK, 0);
 }
 
 int main(void)
 {
     right_ones();
     wrong_ones();
+    wrong_equal_ones();
     handing_back();
     solving();
+    refusing();
     printf("%d passed, %d failed\n", passed, failed);
     return failed != 0;
 }

@@ -113,6 +113,7 @@ def by_hand():
     for length in (0, 63, 64, 65):
         yield Input(f"sheet: {length} bytes", "M", three, b"", (sheet([1, 1], 1, [0, 0, 0]) + bytes(64))[:length])
     yield from weaker()
+    yield from stated()
     for number, lines in ((64, 3), (65, 3), (66, 3), (14, 3), (65, 1024), (64, 1025), (65, 0)):
         for book, given in ((BOOK, SHEET), (BOOK - 1, SHEET), (BOOK, SHEET - 1), (SHEET, BOOK)):
             yield Input(f"handing back: {number} {lines}, buffers of {book} and {given}", "H", b"", book, given, number, lines)
@@ -138,6 +139,59 @@ def weaker():
     # y <= 0; -y <= 0; x + y <= 10^9; -x <= 1
     wide = [alone(1, [0, 1], 0), alone(1, [0, -1], 0), alone(1, [1, 1], MOST), alone(1, [-1], 1)]
     yield solving("a wide result that a smaller bound covers", question(0, 2, wide))
+
+
+def stated():
+    """= and >=, relations 3 and 4: every two relations in a clause, every two clauses of a few, links, a second = cut everywhere."""
+    for first in range(6):
+        for second in range(6):
+            clause = ([0], [(first, [1], 5), (second, [0, 1], 1)])
+            # not a, and x and y on either side of their bounds
+            for x, y in ((4, 0), (4, 2), (6, 0), (6, 2)):
+                rest = [([128], []), alone(3, [1], x), alone(3, [0, 1], y)]
+                yield solving(f"relations {first} and {second}, x = {x}, y = {y}", question(1, 2, [clause] + rest))
+    conditions = [(relation, [factor], bound) for relation in (1, 2, 3, 4) for factor in (0, 1) for bound in (-1, 0, 1)]
+    conditions += [(3, [-2], 1), (4, [-2], 1), (3, [MOST], -MOST), (4, [1], -MOST), (4, [-MOST], MOST)]
+    for i, first in enumerate(conditions):
+        yield solving(f"condition {i} beside a mark", question(1, 1, [([0], [first])]))
+        yield solving(f"condition {i} beside two conditions", question(0, 2, [([], [(1, [1], 3), first, (1, [0, 1], 2)])]))
+        for j, second in enumerate(conditions):
+            yield solving(f"conditions {i} and {j}", question(0, 1, [([], [first]), ([], [second])]))
+    # two clauses that begin with =, of a figure or of none, and then have seven conditions, and so many
+    for row, bound in (([1], 5), ([0], 5), ([0], -5)):
+        for count in range(9):
+            more = [(1, [1], -i) for i in range(1, 8)]
+            halves = [([], [(3, row, bound)] + more), ([], [(3, row, bound)] + more[:count])]
+            yield solving(f"links of = {row[0]} x, {bound}, and {count} more", question(0, 1, halves + [alone(3, [1], 0)]))
+    # two = of three, cut everywhere
+    for places in ((0, 1), (0, 2), (1, 2)):
+        three = question(1, 1, [alone(3, [1], 1), ([0, 128], [(3 if i in places else 4, [1], i) for i in range(3)]), ([], [])])
+        for length in range(15, len(three) + 1):
+            yield solving(f"= at {places[0]} and {places[1]}, {length} bytes", three[:length])
+        for book, given in ((BOOK - 1, SHEET), (BOOK, SHEET - 1), (BOOK, SHEET)):
+            yield solving(f"= at {places[0]} and {places[1]}, buffers of {book} and {given}", three, book, given)
+        yield Input(f"book: = at {places[0]} and {places[1]}, no book", "B", three)
+        yield Input(f"sheet: = at {places[0]} and {places[1]}, no sheet", "M", three)
+    # sheets about their bounds, by quarters
+    asked = question(1, 2, [([0], [(3, [2, -1], 1), (4, [0, 1], 1)]), ([128], [(4, [1, 1], 2), (1, [1], 0)]), alone(3, [3, 0], 3)])
+    for marks in (0, 1):
+        for x in range(2, 7):
+            for y in range(2, 7):
+                yield Input(f"sheet: mark {marks}, {x} and {y} quarters", "M", asked, b"", sheet([marks], 4, [x, y]))
+    # a book that loads each piece of two readings with two links, and one more, by other numbers and links
+    asked = question(0, 2, [([], [(1, [0, 1], 1), (3, [1], 5)]), alone(4, [0, 1], 2)])
+    pieces = [(1, 0, [0, 1], 1), (0, 1, [1], 5), (2, 0, [0, 1], 1), (0, 2, [-1], -5)]
+    for i, (positive, negative, row, bound) in enumerate(pieces):
+        for piece in range(5):
+            yield Input(f"book: piece {i} as {piece}", "B", asked, line(0, 0, 0, piece, 1, positive, negative, row, bound))
+        for relation in (2, 3, 4):
+            yield Input(f"book: piece {i} with relation {relation}", "B", asked, line(0, 0, 0, i, relation, positive, negative, row, bound))
+        turned = [-amount for amount in row]
+        yield Input(f"book: piece {i} turned", "B", asked, line(0, 0, 0, i, 1, positive, negative, turned, -bound))
+        other = [mark ^ 3 if mark else 0 for mark in (positive, negative)]
+        yield Input(f"book: piece {i} with the other link", "B", asked, line(0, 0, 0, i, 1, *other, row, bound))
+    yield Input("book: clause 1 behind a clause with =", "B", asked, line(0, 0, 1, 0, 1, 0, 0, [0, -1], -2))
+    yield Input("book: clause 2 behind a clause with =", "B", asked, line(0, 0, 2, 0, 1, 0, 0, [0, -1], -2))
 
 
 # ---- at random
@@ -195,12 +249,20 @@ class Random:
         return bytes(out)
 
 
+class Stated(Random):
+    """The same with all four relations, a second = in a clause now and then."""
+
+    def constraint(self, r, size):
+        _, row, bound = super().constraint(r, size)
+        return (self.between(1, 4), row, bound)
+
+
 def at_random(count):
-    random = Random(1)
-    for i in range(count):
-        asked = random.problem()
-        yield solving(f"random question {i}", asked)
-        yield solving(f"random question {i}, damaged", random.damaged(asked))
+    for name, random in (("question", Random(1)), ("question of four relations", Stated(2))):
+        for i in range(count):
+            asked = random.problem()
+            yield solving(f"random {name} {i}", asked)
+            yield solving(f"random {name} {i}, damaged", random.damaged(asked))
 
 
 # ---- books and sheets that solving left, right and damaged
@@ -250,14 +312,16 @@ def sheets(given, right):
             yield checks(f", byte {place} is {changed[place]}", changed)
 
 
-def damaged(left, most_books=30, most_sheets=40):
-    """Of short books, and of sheets after "agrees"."""
+def damaged(left):
+    """Of short books, and of sheets after "agrees": the first of the vectors, and the first of those with = and >=."""
+    most_books, most_sheets = {False: 30, True: 15}, {False: 40, True: 10}
     for given, number, book, right in left:
-        if number == 65 and 3 * LINE <= len(book) <= 12 * LINE and most_books:
-            most_books -= 1
+        kind = given.name.startswith("(i) ")
+        if number == 65 and 3 * LINE <= len(book) <= 12 * LINE and most_books[kind]:
+            most_books[kind] -= 1
             yield from books(given, book)
         if number in (64, 66) and 2 * LINE <= len(book) <= 8 * LINE:
             yield Input(f"book of {given.name}", "B", given.question, book)
-        if number == 64 and most_sheets:
-            most_sheets -= 1
+        if number == 64 and most_sheets[kind]:
+            most_sheets[kind] -= 1
             yield from sheets(given, right)

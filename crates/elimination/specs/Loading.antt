@@ -1,7 +1,7 @@
 -- The parts of all clauses put behind one another.
 use mathlib.Core.Path.{_≡_, refl, sym, ap, _∙_}
 use mathlib.Core.Bool.{true, false}
-use mathlib.Core.List.{List, [], _∷_, _++_}
+use mathlib.Core.List.{List, []}
 use Prim.Native.Nat.{ℕ, suc, _+_, _*_, _-_, _≤_, _<_}
 use native.Mathlib.Numerals.{add-one}
 use native.Mathlib.Omega.{arith}
@@ -14,7 +14,7 @@ use Rattle.rules.specs.Problem.{Clause}
 use Rattle.rules.specs.Split.{partsOf, splitsOf}
 use Rattle.rules.specs.Steps.{Step}
 use Rattle.rules.specs.Needs.{pairsOf}
-use Rattle.rules.specs.Elimination.{Stops, State, running, ended, limited, partSteps, loadable, loadableOf, add, load}
+use Rattle.rules.specs.Elimination.{State, running, limited, partSteps, loadable, loadableOf, load}
 use Rattle.theory_elimination.specs.PairBound.{load-pairs}
 use Rattle.problem_scan.specs.declared.cursor.Sizes.{Sizes}
 use Rattle.problem_scan.specs.Values.{clauseAt, clauseEnd}
@@ -26,7 +26,7 @@ use Rattle.placing.specs.declared.point.Progress.the-variants.{Running}
 use Rattle.placing.specs.declared.point.Point.{Point}
 use Rattle.steps.specs.Held.{stepsIn}
 use Rattle.placing.specs.Point.{stateOf, stateAt, Standing, Leads, leads-none, leads-trans, pairs-at, isRunning, running-yes, Reaches}
-use Rattle.elimination.specs.LoadedParts.{LoadsParts, load-stays}
+use Rattle.elimination.specs.LoadedParts.{LoadsClause, load-stays, load-append}
 
 -- before the first
 abbrev pub origin : Point
@@ -39,14 +39,7 @@ standing-origin limits proof h = record {
   room = h;
 }
 
--- ---- loading part by part, and its count of pairs
-load-append : (stops : Stops) (xs ys : List Step) (state : State) → load stops (xs ++ ys) state ≡ load stops ys (load stops xs state)
-unfolding load
-load-append stops [] ys state = refl
-load-append stops (x ∷ xs) [] (ended e steps n) = refl
-load-append stops (x ∷ xs) (y ∷ ys) (ended e steps n) = refl
-load-append stops (x ∷ xs) ys (running steps n) = load-append stops xs ys (add stops false x steps n)
-
+-- ---- no pair is tried
 pub no-pairs : {limits : Limits} {start : List ℕ} {from : Point} {proof : List ℕ} {p : Point} (xs : List Step)
     → Reaches limits start from proof p (load (limited limits) xs (running [] 0)) → p .pairs ≡ 0
 unfolding pairsOf
@@ -106,7 +99,7 @@ module _ {limits : Limits} {q : List ℕ} {sizes : Sizes} {start : List ℕ} whe
       clause-splits = ahead-few (a .ahead) left
 
       module _ {after : List ℕ} {x : Point}
-          (reaches : LoadsParts limits clause (partsOf split (clauseAt q (sizes .rationals) at)) proof p after x) where
+          (reaches : LoadsClause limits q (sizes .rationals) at split clause proof p after x) where
         tried : load (limited limits) (loadable (suc clause) (split + splitsOf (clauseAt q (sizes .rationals) at))
             (clausesAt q (sizes .rationals) (sizes .clauses - clause - 1) (clauseEnd q (sizes .rationals) at))) (stateAt after x)
             ≡ allLoaded limits q sizes

@@ -1,11 +1,9 @@
 // The parts of all clauses.
-use crate::clause::load_parts;
+use crate::clause::load_clause;
 use placing::point::Point;
 use placing::point::Progress;
 use placing::point::is_running;
 use problem_clauses::places::next;
-use problem_parts::parts::begin;
-use problem_parts::parts::splits;
 use problem_scan::cursor::Sizes;
 use rules_types::layout::FIRST_CLAUSE;
 use rules_types::limits::Limits;
@@ -32,13 +30,13 @@ pub fn load(input: &[u8], sizes: Sizes, proof: &mut [u8], limits: Limits) -> Poi
     let mut split = sizes.booleans as usize;
     let mut clause: u64 = 0;
     while clause < n {
-        let parts = begin(input, at, r, split);
-        p = load_parts(input, r, parts, clause, proof, p, limits);
+        let loaded = load_clause(input, at, r, split, clause, proof, p, limits);
+        p = loaded.point;
         let progress = p.progress;
         if !is_running(progress) {
             return p;
         }
-        split += splits(parts) as usize;
+        split = loaded.split;
         at = next(input, at, r);
         clause += 1;
     }

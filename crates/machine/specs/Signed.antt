@@ -1,19 +1,22 @@
 -- Signed machine numbers, of 64 bits: what fits, and what the tests of the sign say. Each law is of plain integers.
 use mathlib.Core.Path.{_≡_, refl, sym, ap, _∙_, subst}
-use mathlib.Core.Bool.{true, false}
+use mathlib.Core.Bool.{Bool, true, false}
 use Prim.Native.Nat.{ℕ, zero, suc, _+_, _-_, _^_, _/_, _≤_, _<_}
 use native.Mathlib.Nat.{lt-of-le-of-lt, div-le-self}
 use native.Mathlib.Omega.{arith}
 use lib.IntN.{ℤ, pos, negsuc, negℤ, natAbs, _+ℤ_, _-ℤ_}
-use lib.Signed.{mag, ltZ, quotZ, nonNeg}
-use lib.Dec.{T, eqb}
+use lib.Signed.{mag, leZ, ltZ, quotZ, nonNeg}
+use lib.Dec.{T, eqb, leb}
 use mir.Syntax.{w64}
 use mir.Val.{Fits, SFits, ofZ, toZ}
 use mir.Facts.{toZ-ofZ, sfits-lit}
-use borrow.Author.Tests.{ltb-true, lt-ltb, le-ltb, ne-eqb}
+use borrow.Author.Tests.{leb-true, leb-false, ltb-true, le-leb, lt-leb, lt-ltb, le-ltb, eq-eqb, ne-eqb}
+use Rattle.rules_types.specs.Limits as limit
 use Rattle.theory_integers.specs.Difference.{v, #, ⊝, _⊕_, _⊖_, ≡-by}
 use Rattle.theory_integers.specs.Size.{abs-neg}
-use Rattle.rules.specs.Arithmetic.{isPositive, isNegative, isZero}
+use Rattle.theory_vectors.specs.Sign.{equal-yes, yes-equal}
+use Rattle.rules.specs.Arithmetic.{isPositive, isNegative, isZero, equal}
+use Rattle.rules.specs.Problem.{inRange}
 
 -- a number of a size below 2^63 fits
 pub fits-size : (z : ℤ) → natAbs z < 2 ^ 63 → SFits w64 z
@@ -43,6 +46,14 @@ zero-test (negsuc n) f = ne-eqb (ofZ w64 (negsuc n)) 0 (λ e. by (bits-injective
   where
     by : negsuc n ≡ pos 0 → ⊥
     by e = omega (arith, ap natAbs e)
+
+-- and of equality
+pub equal-test : (a b : ℤ) → SFits w64 a → SFits w64 b → eqb (ofZ w64 a) (ofZ w64 b) ≡ equal a b
+equal-test a b f g = by (equal a b) refl
+  where
+    by : (t : Bool) → equal a b ≡ t → eqb (ofZ w64 a) (ofZ w64 b) ≡ t
+    by true e = eq-eqb (ofZ w64 a) (ofZ w64 b) (ap (ofZ w64) (equal-yes a b (subst T (sym e) tt)))
+    by false e = ne-eqb (ofZ w64 a) (ofZ w64 b) (λ i. subst T e (yes-equal (bits-injective a b f g i)))
 
 -- ---- the size of a negative number, by way of its successor
 pub next-fits : (z : ℤ) → SFits w64 z → ltZ z (pos 0) ≡ true → SFits w64 (z +ℤ pos 1)
@@ -79,3 +90,21 @@ mag-quot (negsuc n) g = by (suc n / g) (div-le-self (suc n) g)
 
 pub fits-quot : (z : ℤ) (g : ℕ) → SFits w64 z → SFits w64 (quotZ z (pos g))
 fits-quot z g f = record { sfits = lt-of-le-of-lt (mag-quot z g) (f .sfits) }
+
+-- ---- amounts, by both ends of their range
+module _ (z : ℤ) where
+  pub range-above : leZ (negℤ (pos limit.amount)) z ≡ true → leZ z (pos limit.amount) ≡ inRange z
+  unfolding inRange
+  range-above = by z
+    where
+      by : (z : ℤ) → leZ (negℤ (pos limit.amount)) z ≡ true → leZ z (pos limit.amount) ≡ leb (natAbs z) limit.amount
+      by (pos n) e = refl
+      by (negsuc n) e = sym (le-leb (suc n) limit.amount (omega (arith, leb-true n 999999999 e)))
+
+  pub range-below : leZ (negℤ (pos limit.amount)) z ≡ false → false ≡ inRange z
+  unfolding inRange
+  range-below = by z
+    where
+      by : (z : ℤ) → leZ (negℤ (pos limit.amount)) z ≡ false → false ≡ leb (natAbs z) limit.amount
+      by (pos n) e = absurd (subst T e tt)
+      by (negsuc n) e = sym (lt-leb (suc n) limit.amount (omega (arith, leb-false n 999999999 e)))

@@ -1,9 +1,11 @@
 // The size and the sign of an integer.
 use rules_types::limits::Limits;
 ghost use mathlib.Core.Path.{_≡_};
+ghost use Prim.Native.Nat.{_^_, _≤_};
 ghost use lib.IntN.{pos, natAbs};
 ghost use Rattle.rules.specs.Arithmetic.{isPositive, isNegative, isZero, related};
 ghost use Rattle.rules.specs.Problem.{inRange};
+ghost use Rattle.rules.specs.Readings.{signed};
 
 // The least number has no negation of its width, its successor has.
 pub fn size(z: i64) -> u64
@@ -45,9 +47,21 @@ pub fn zero_related(strict: bool, bound: i64) -> bool
     !is_negative(bound)
 }
 
+// With its sign turned, or as it is.
+pub fn signed(turned: bool, z: i64) -> i64
+    requires { ⌜ natAbs z ≤ 2 ^ 32 ⌝ }
+    ensures { λ r. ⌜ r ≡ signed turned z ⌝ }
+{
+    if turned {
+        return 0 - z;
+    }
+    z
+}
+
 // Whether it is an amount.
 pub fn in_range(z: i64) -> bool
     ensures { λ r. ⌜ r ≡ inRange z ⌝ }
 {
-    size(z) <= Limits::AMOUNT
+    let limit = Limits::AMOUNT as i64;
+    0 - limit <= z && z <= limit
 }

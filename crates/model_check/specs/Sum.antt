@@ -1,22 +1,21 @@
--- Sums of coefficient × numerator over bytes, from the front; and the constraint that they decide.
+-- Sums of coefficient × numerator over bytes, from the front; and the comparison that they decide.
 use mathlib.Core.Path.{_≡_, refl, sym, ap, _∙_}
-use mathlib.Core.Bool.{Bool}
 use mathlib.Core.List.{List, [], _∷_, _++_}
 use Prim.Native.Nat.{ℕ, zero, suc, _+_, _*_, _-_, _≤_, _<_}
 use native.Mathlib.Omega.{arith}
 use lib.IntN.{ℤ, pos, natAbs, _+ℤ_, _*ℤ_}
-use lib.Dec.{eqb}
 use lib.ListN.{getD, replicate}
 use Rattle.rules_types.specs.Limits as limit
 use Rattle.rules_types.specs.Layout as layout
 use Rattle.theory_integers.specs.Ring.{+-identityʳ, +-identityˡ, +-assoc}
 use Rattle.theory_integers.specs.Size.{abs-+-≤}
-use Rattle.rules.specs.Arithmetic.{sum, related}
-use Rattle.rules.specs.Meaning.{constraintHolds}
+use Rattle.rules.specs.Arithmetic.{sum}
+use Rattle.rules.specs.Problem.{relationOf}
+use Rattle.rules.specs.Meaning.{compared, comparisonHolds}
 use Rattle.theory_vectors.specs.Amounts.{Small}
 use Rattle.theory_vectors.specs.Dot.{sum-values, sum-coefficients}
 use Rattle.rows.specs.Products.{product-≤}
-use Rattle.problem_scan.specs.Values.{valuesAt, behind, amountAt, constraintAt}
+use Rattle.problem_scan.specs.Values.{valuesAt, behind, amountAt, comparisonAt}
 use Rattle.problem_scan.specs.Sound.{Each, Amount, each-first, each-rest}
 use Rattle.problem_clauses.specs.Passes.{values-next, behind-next}
 use Rattle.models.specs.declared.model.Model.{Model}
@@ -102,13 +101,13 @@ module _ (q : List ℕ) (numerators : List ℤ) (from count at left i : ℕ) (to
             ap (λ (s : ℤ). z *ℤ value numerators i +ℤ s) (sum-values rest (λ f. ap (value numerators) (shift f)))
             ∙ ap (λ (k : ℕ). z *ℤ value numerators k +ℤ sum rest (λ f. value numerators (i + suc f))) e
 
--- ---- a constraint, by its sum and its bound × denominator
+-- ---- a comparison, by its sum and its bound × denominator
 module _ (q : List ℕ) (r at : ℕ) (m : Model) (s z b : ℤ)
-    (summed : s ≡ sum (valuesAt (amountAt q) 4 r (at + layout.constraintCoefficients)) (value (m .numerators)))
-    (read : z ≡ constraintAt q r at .bound) (scaled : b ≡ z *ℤ pos (m .denominator)) where
-  pub holds-is : (t : Bool) → eqb (getD q at 0) 2 ≡ t → related t s b ≡ constraintHolds (assignment m) (constraintAt q r at)
-  unfolding constraintHolds constraintAt assignment
-  holds-is t e =
-      let cs = valuesAt (amountAt q) 4 r (at + layout.constraintCoefficients) in
+    (summed : s ≡ sum (valuesAt (amountAt q) 4 r (at + layout.comparisonCoefficients)) (value (m .numerators)))
+    (read : z ≡ comparisonAt q r at .bound) (scaled : b ≡ z *ℤ pos (m .denominator)) where
+  pub holds-is : compared (relationOf (getD q at 0)) s b ≡ comparisonHolds (assignment m) (comparisonAt q r at)
+  unfolding comparisonHolds comparisonAt assignment
+  holds-is =
+      let cs = valuesAt (amountAt q) 4 r (at + layout.comparisonCoefficients) in
       let padded = sum-padded cs (limit.rationals - r) (value (m .numerators)) in
-      rw (← e, ← read, padded, summed, scaled)
+      rw (← read, padded, summed, scaled)

@@ -1,19 +1,19 @@
 // "A clause holds if one literal or condition holds".
-use crate::constraint::constraint_holds;
+use crate::comparison::comparison_holds;
 use crate::literal::literal_holds;
 use models::model::Model;
 use problem_clauses::places::count_place;
-use rules_types::layout::constraint_bytes;
+use rules_types::layout::comparison_bytes;
 ghost use mathlib.Core.Path.{_≡_};
 ghost use Prim.Native.Nat.{_+_, _≤_};
 ghost use lib.ListN.{length};
 ghost use Rattle.rules_types.specs.Limits.{rationals};
-ghost use Rattle.rules_types.specs.Layout.{constraintBytes};
+ghost use Rattle.rules_types.specs.Layout.{comparisonBytes};
 ghost use Rattle.rules.specs.Lists.{any};
-ghost use Rattle.rules.specs.Meaning.{literalHolds, constraintHolds, clauseHolds};
+ghost use Rattle.rules.specs.Meaning.{literalHolds, comparisonHolds, clauseHolds};
 ghost use Rattle.theory_vectors.specs.Amounts.{Amounts};
-ghost use Rattle.problem_scan.specs.Values.{valuesAt, behind, literalAt, constraintsAt, clauseAt};
-ghost use Rattle.problem_scan.specs.Sound.{Each, SoundConstraint, SoundClause};
+ghost use Rattle.problem_scan.specs.Values.{valuesAt, behind, literalAt, comparisonsAt, clauseAt};
+ghost use Rattle.problem_scan.specs.Sound.{Each, SoundComparison, SoundClause};
 ghost use Rattle.models.specs.Model.{assignment};
 
 // Of so many literals.
@@ -33,19 +33,19 @@ fn any_literal(input: &[u8], from: usize, count: u8, model: Model) -> bool
     false
 }
 
-// Of so many constraints.
-fn any_constraint(input: &[u8], from: usize, r: u8, count: u8, model: Model) -> bool
+// Of so many comparisons.
+fn any_comparison(input: &[u8], from: usize, r: u8, count: u8, model: Model) -> bool
     requires { ⌜ r ≤ rationals ⌝ }
-    requires { ⌜ behind (constraintBytes r) count from ≤ length (now input) ⌝ }
-    requires { ⌜ Each (SoundConstraint (now input) r) (constraintBytes r) count from ⌝ }
+    requires { ⌜ behind (comparisonBytes r) count from ≤ length (now input) ⌝ }
+    requires { ⌜ Each (SoundComparison (now input) r) (comparisonBytes r) count from ⌝ }
     requires { ⌜ Amounts (model .numerators) ⌝ }
-    ensures { λ t. ⌜ t ≡ any (constraintHolds (assignment model)) (constraintsAt (now (input .entry)) r count from) ⌝ }
+    ensures { λ t. ⌜ t ≡ any (comparisonHolds (assignment model)) (comparisonsAt (now (input .entry)) r count from) ⌝ }
 {
-    let size = constraint_bytes(r);
+    let size = comparison_bytes(r);
     let mut at = from;
     let mut left = count;
     while 0 < left {
-        if constraint_holds(input, at, r, model) {
+        if comparison_holds(input, at, r, model) {
             return true;
         }
         at += size;
@@ -64,5 +64,5 @@ pub fn clause_holds(input: &[u8], at: usize, r: u8, model: Model) -> bool
     if any_literal(input, at + 1, input[at], model) {
         return true;
     }
-    any_constraint(input, place + 1, r, input[place], model)
+    any_comparison(input, place + 1, r, input[place], model)
 }

@@ -4,4 +4,5 @@ pub mod Literals
 pub mod Zeros
 pub mod Settled
 pub mod Remaining
+pub mod Readings
 pub mod Splits

@@ -1,9 +1,15 @@
--- One pass of a loop over values of one size, from the first on or from the last back.
-use mathlib.Core.Path.{_≡_, ap}
+-- Values of one size one behind another: how many there are, and one pass of a loop over them, from the first on or from the last back.
+use mathlib.Core.Path.{_≡_, refl, ap}
 use mathlib.Core.List.{_∷_}
-use Prim.Native.Nat.{ℕ, suc, _+_, _-_, _<_}
+use Prim.Native.Nat.{ℕ, zero, suc, _+_, _-_, _<_}
 use native.Mathlib.Omega.{arith}
+use lib.ListN.{length}
 use Rattle.problem_scan.specs.Values.{valuesAt, behind}
+
+pub length-values : {A : Type 0} (one : ℕ → A) (size k at : ℕ) → length (valuesAt one size k at) ≡ k
+unfolding valuesAt
+length-values one size zero at = refl
+length-values one size (suc k) at = ap suc (length-values one size k (at + size))
 
 module _ {A : Type 0} (one : ℕ → A) (size at left : ℕ) (more : 0 < left) where
   pub values-next : valuesAt one size left at ≡ one at ∷ valuesAt one size (left - 1) (at + size)

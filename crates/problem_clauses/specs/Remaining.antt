@@ -6,7 +6,7 @@ use mathlib.Core.Option.{Option, none, some}
 use Prim.Native.Nat.{ℕ, _+_, _-_, _≤_, _<_}
 use native.Mathlib.Omega.{arith}
 use lib.ListN.{length}
-use Rattle.rules_types.specs.Layout.{constraintBytes}
+use Rattle.rules_types.specs.Layout.{comparisonBytes}
 use Rattle.rules.specs.Problem.{Constraint}
 use Rattle.rules.specs.Normalize.{Settled, always, never, kept, settled, settledAll}
 use Rattle.theory_lists.specs.Tests.{clash, of-true, of-false}
@@ -59,47 +59,48 @@ module _ (n : ℕ) (c : Constraint) (cs : List Constraint) where
   drop-by never e f = absurd (clash false (of-true false f) tt)
   drop-by (kept d) e f = absurd (clash false (of-true false f) tt)
 
-pub record Keeping (q : List ℕ) (r from count at left n : ℕ) : Type 0 where
-  pub end : behind (constraintBytes r) left at ≡ behind (constraintBytes r) count from
+pub record Keeping (q : List ℕ) (second : Bool) (r from count at left n : ℕ) : Type 0 where
+  pub end : behind (comparisonBytes r) left at ≡ behind (comparisonBytes r) count from
   pub few : n + left ≤ count
-  pub same : counted n (settledAll (constraintsAt q r left at))
-      ≡ counted 0 (settledAll (constraintsAt q r count from))
+  pub same : counted n (settledAll (constraintsAt q second r left at))
+      ≡ counted 0 (settledAll (constraintsAt q second r count from))
 
-module _ {q : List ℕ} {r from count at left n : ℕ} (run : Keeping q r from count at left n) where
-  pub keeping-done : left ≤ 0 → Count n ≡ counted 0 (settledAll (constraintsAt q r count from))
+module _ {q : List ℕ} {second : Bool} {r from count at left n : ℕ} (run : Keeping q second r from count at left n) where
+  pub keeping-done : left ≤ 0 → Count n ≡ counted 0 (settledAll (constraintsAt q second r count from))
   unfolding counted settledAll valuesAt
   keeping-done h =
       let e : left ≡ 0 = omega arith in
       let z : n ≡ n + 0 = omega arith in
-      ap Count z ∙ sym (ap (λ (i : ℕ). counted n (settledAll (constraintsAt q r i at))) e) ∙ run .same
+      ap Count z ∙ sym (ap (λ (i : ℕ). counted n (settledAll (constraintsAt q second r i at))) e) ∙ run .same
 
   module _ (more : 0 < left) where
-    pub keeping-within : at + constraintBytes r ≤ behind (constraintBytes r) count from
-    keeping-within = within-by (constraintBytes r) (left - 1) (at + constraintBytes r)
-        (sym (behind-next (constraintBytes r) at left more) ∙ run .end)
+    pub keeping-within : at + comparisonBytes r ≤ behind (comparisonBytes r) count from
+    keeping-within = within-by (comparisonBytes r) (left - 1) (at + comparisonBytes r)
+        (sym (behind-next (comparisonBytes r) at left more) ∙ run .end)
       where
-        within-by : (size k i : ℕ) → behind size k i ≡ behind (constraintBytes r) count from → i ≤ behind (constraintBytes r) count from
+        within-by : (size k i : ℕ) → behind size k i ≡ behind (comparisonBytes r) count from → i ≤ behind (comparisonBytes r) count from
         within-by size k i e = omega (arith, e, behind-is size k i)
 
-    module _ (f : Fate) (given : f ≡ fate (settled (constraintAt q r at))) where
-      pub keeping-drop : isAlways f ≡ true → Dropped ≡ counted 0 (settledAll (constraintsAt q r count from))
+    module _ (f : Fate) (given : f ≡ fate (settled (constraintAt q second r at))) where
+      pub keeping-drop : isAlways f ≡ true → Dropped ≡ counted 0 (settledAll (constraintsAt q second r count from))
       keeping-drop e =
-          sym (drop-by n (constraintAt q r at) (constraintsAt q r (left - 1) (at + constraintBytes r))
-          (settled (constraintAt q r at)) refl (ap isAlways (sym given) ∙ e))
-          ∙ ap (λ (cs : List Constraint). counted n (settledAll cs)) (sym (values-next (constraintAt q r) (constraintBytes r) at left more))
+          sym (drop-by n (constraintAt q second r at) (constraintsAt q second r (left - 1) (at + comparisonBytes r))
+          (settled (constraintAt q second r at)) refl (ap isAlways (sym given) ∙ e))
+          ∙ ap (λ (cs : List Constraint). counted n (settledAll cs))
+          (sym (values-next (constraintAt q second r) (comparisonBytes r) at left more))
           ∙ run .same
 
-      pub keeping-next : isAlways f ≡ false → Keeping q r from count (at + constraintBytes r) (left - 1) (n + weight f)
+      pub keeping-next : isAlways f ≡ false → Keeping q second r from count (at + comparisonBytes r) (left - 1) (n + weight f)
       keeping-next e =
           record {
-            end = sym (behind-next (constraintBytes r) at left more) ∙ run .end;
+            end = sym (behind-next (comparisonBytes r) at left more) ∙ run .end;
             few = omega (arith, weight-≤ f, run .few);
             same =
                 ap (λ (g : Fate). counted (n + weight g)
-                (settledAll (constraintsAt q r (left - 1) (at + constraintBytes r)))) given
-                ∙ sym (count-by n (constraintAt q r at) (constraintsAt q r (left - 1) (at + constraintBytes r))
-                (settled (constraintAt q r at)) refl (ap isAlways (sym given) ∙ e))
+                (settledAll (constraintsAt q second r (left - 1) (at + comparisonBytes r)))) given
+                ∙ sym (count-by n (constraintAt q second r at) (constraintsAt q second r (left - 1) (at + comparisonBytes r))
+                (settled (constraintAt q second r at)) refl (ap isAlways (sym given) ∙ e))
                 ∙ ap (λ (cs : List Constraint). counted n (settledAll cs))
-                (sym (values-next (constraintAt q r) (constraintBytes r) at left more))
+                (sym (values-next (constraintAt q second r) (comparisonBytes r) at left more))
                 ∙ run .same;
           }

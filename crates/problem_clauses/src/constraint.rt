@@ -1,24 +1,26 @@
-// The fields of the constraint at a place.
+// The fields of the comparison at a place, and of the constraint that it is read as.
 use fields::amount_at;
-use rules_types::layout::constraint_bound;
+use machine::sign::signed;
+use problem_scan::relation::turns;
+use rules_types::layout::comparison_bound;
 ghost use mathlib.Core.Path.{_≡_};
-ghost use Prim.Native.Nat.{_+_, _≤_, _<_};
-ghost use lib.Dec.{eqb};
-ghost use lib.ListN.{length, getD};
-ghost use Rattle.rules_types.specs.Layout.{constraintBytes};
-ghost use Rattle.problem_scan.specs.Values.{constraintAt};
+ghost use Prim.Native.Nat.{_+_, _≤_};
+ghost use lib.ListN.{length};
+ghost use Rattle.rules_types.specs.Layout.{comparisonBytes};
+ghost use Rattle.problem_scan.specs.Values.{comparisonAt, constraintAt};
 
-// "1 is ≤, 2 is <"
-pub fn is_strict(input: &[u8], at: usize) -> bool
-    requires { ⌜ at < length (now input) ⌝ }
-    ensures { λ t. ⌜ t ≡ eqb (getD (now (input .entry)) at 0) 2 ⌝ }
+// As written.
+pub fn written_bound(input: &[u8], at: usize, r: u8) -> i64
+    requires { ⌜ at + comparisonBytes r ≤ length (now input) ⌝ }
+    ensures { λ z. ⌜ z ≡ comparisonAt (now (input .entry)) r at .bound ⌝ }
 {
-    input[at] == 2
+    amount_at(input, at + comparison_bound(r))
 }
 
-pub fn bound_of(input: &[u8], at: usize, r: u8) -> i64
-    requires { ⌜ at + constraintBytes r ≤ length (now input) ⌝ }
-    ensures { λ z. ⌜ z ≡ constraintAt (now (input .entry)) r at .bound ⌝ }
+// As read, in the first or in the second reading of the clause.
+pub fn bound_of(input: &[u8], at: usize, r: u8, second: bool) -> i64
+    requires { ⌜ at + comparisonBytes r ≤ length (now input) ⌝ }
+    ensures { λ z. ⌜ z ≡ constraintAt (now (input .entry)) second r at .bound ⌝ }
 {
-    amount_at(input, at + constraint_bound(r))
+    signed(turns(second, input[at]), written_bound(input, at, r))
 }

@@ -2,4 +2,5 @@
 pub mod constraint;
 pub mod literals;
 pub mod places;
+pub mod readings;
 pub mod splits;

@@ -1,5 +1,5 @@
-// A clause's places in the problem's bytes: that of its count of constraints, and that of the clause behind it.
-use rules_types::layout::constraint_bytes;
+// A clause's places in the problem's bytes: that of its count of comparisons, and that of the clause behind it.
+use rules_types::layout::comparison_bytes;
 ghost use mathlib.Core.Path.{_≡_};
 ghost use Prim.Native.Nat.{_≤_, _<_};
 ghost use lib.ListN.{length};
@@ -18,5 +18,5 @@ pub fn next(input: &[u8], at: usize, r: u8) -> usize
     ensures { λ p. ⌜ p ≡ clauseEnd (now (input .entry)) r at ⌝ }
 {
     let place = count_place(input, at);
-    place + 1 + (input[place] as usize) * constraint_bytes(r)
+    place + 1 + (input[place] as usize) * comparison_bytes(r)
 }

@@ -1,18 +1,19 @@
-// What normalizing leaves of a clause that was read without fault: how many of its constraints stay, and its split variables.
+// What normalizing leaves of a clause that was read without fault: how many constraints of a reading stay, and its split variables.
 use crate::constraint::bound_of;
-use crate::constraint::is_strict;
 use crate::literals::literals;
 use crate::places::count_place;
+use crate::readings::has_equality;
 use fields::u32_at;
 use machine::sign::zero_related;
 use masks::meets;
-use rules_types::layout::CONSTRAINT_COEFFICIENTS;
-use rules_types::layout::constraint_bytes;
+use problem_scan::relation::is_strict;
+use rules_types::layout::COMPARISON_COEFFICIENTS;
+use rules_types::layout::comparison_bytes;
 ghost use mathlib.Core.Path.{_≡_};
 ghost use mathlib.Core.Bool.{false};
 ghost use Prim.Native.Nat.{_≤_, _+_};
 ghost use lib.ListN.{length};
-ghost use Rattle.rules_types.specs.Layout.{constraintBytes};
+ghost use Rattle.rules_types.specs.Layout.{comparisonBytes};
 ghost use Rattle.rules.specs.Lists.{all};
 ghost use Rattle.rules.specs.Arithmetic.{isZero};
 ghost use Rattle.rules.specs.Normalize.{settled, settledAll};
@@ -29,7 +30,7 @@ pub enum Fate {
     Kept,
 }
 
-// The clause is dropped, or so many constraints stay.
+// The reading is dropped, or so many constraints stay.
 pub enum Staying {
     Dropped,
     Count(u8),
@@ -52,14 +53,15 @@ fn zeros(input: &[u8], from: usize, count: u8) -> bool
     true
 }
 
-pub fn settled(input: &[u8], at: usize, r: u8) -> Fate
-    requires { ⌜ at + constraintBytes r ≤ length (now input) ⌝ }
-    ensures { λ s. ⌜ s ≡ fate (settled (constraintAt (now (input .entry)) r at)) ⌝ }
+// In the first or in the second reading of the clause.
+pub fn settled(input: &[u8], at: usize, r: u8, second: bool) -> Fate
+    requires { ⌜ at + comparisonBytes r ≤ length (now input) ⌝ }
+    ensures { λ s. ⌜ s ≡ fate (settled (constraintAt (now (input .entry)) second r at)) ⌝ }
 {
-    if !zeros(input, at + CONSTRAINT_COEFFICIENTS, r) {
+    if !zeros(input, at + COMPARISON_COEFFICIENTS, r) {
         return Fate::Kept;
     }
-    if zero_related(is_strict(input, at), bound_of(input, at, r)) {
+    if zero_related(is_strict(input[at]), bound_of(input, at, r, second)) {
         return Fate::Always;
     }
     Fate::Never
@@ -87,16 +89,16 @@ pub fn weight(f: Fate) -> u8
 }
 
 // Of so many constraints.
-pub fn remaining(input: &[u8], from: usize, r: u8, count: u8) -> Staying
-    requires { ⌜ behind (constraintBytes r) count from ≤ length (now input) ⌝ }
-    ensures { λ k. ⌜ k ≡ counted 0 (settledAll (constraintsAt (now (input .entry)) r count from)) ⌝ }
+pub fn remaining(input: &[u8], from: usize, r: u8, count: u8, second: bool) -> Staying
+    requires { ⌜ behind (comparisonBytes r) count from ≤ length (now input) ⌝ }
+    ensures { λ k. ⌜ k ≡ counted 0 (settledAll (constraintsAt (now (input .entry)) second r count from)) ⌝ }
 {
-    let size = constraint_bytes(r);
+    let size = comparison_bytes(r);
     let mut at = from;
     let mut left = count;
     let mut n: u8 = 0;
     while 0 < left {
-        let f = settled(input, at, r);
+        let f = settled(input, at, r, second);
         if is_always(f) {
             return Staying::Dropped;
         }
@@ -107,7 +109,7 @@ pub fn remaining(input: &[u8], from: usize, r: u8, count: u8) -> Staying
     Staying::Count(n)
 }
 
-// Split variables: one less than the constraints that stay, where the clause does.
+// Split variables: one less than the constraints that stay, where the reading does.
 pub fn between(k: Staying) -> u8
     ensures { λ n. ⌜ n ≡ splitsBy false k ⌝ }
 {
@@ -122,15 +124,24 @@ pub fn between(k: Staying) -> u8
     }
 }
 
-// The split variables of a clause.
-pub fn splits(input: &[u8], at: usize, r: u8) -> u8
+// The split variables of a clause, of both its readings where it has two. With at most one comparison there are none.
+pub fn splits(input: &[u8], at: usize, r: u8) -> u16
     requires { ⌜ clauseEnd (now input) r at ≤ length (now input) ⌝ }
     ensures { λ n. ⌜ n ≡ splitsOf (clauseAt (now (input .entry)) r at) ⌝ }
 {
     let place = count_place(input, at);
+    let count = input[place];
+    if count < 2 {
+        return 0;
+    }
     let l = literals(input, at + 1, input[at]);
     if meets(l.positive, l.negative) {
         return 0;
     }
-    between(remaining(input, place + 1, r, input[place]))
+    let from = place + 1;
+    let first = between(remaining(input, from, r, count, false)) as u16;
+    if !has_equality(input, from, r, count) {
+        return first;
+    }
+    first + between(remaining(input, from, r, count, true)) as u16
 }

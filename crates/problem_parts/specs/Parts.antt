@@ -1,29 +1,31 @@
 -- The parts of a clause that are left, and what is known of them.
 use mathlib.Core.Path.{_≡_, refl, sym, ap, _∙_}
-use mathlib.Core.Bool.{Bool, true, false}
+use mathlib.Core.Bool.{Bool, true, false, cond}
 use mathlib.Core.List.{List, [], _∷_}
 use mathlib.Core.Option.{Option, none, some}
-use Prim.Native.Nat.{ℕ, suc, _+_, _-_, _≤_}
+use Prim.Native.Nat.{ℕ, suc, _+_, _-_, _≤_, max}
 use native.Mathlib.Numerals.{add-one}
 use native.Mathlib.Omega.{arith}
 use borrow.Author.Tests.{lt-ltb, le-ltb}
 use lib.Dec.{ltb}
 use lib.ListN.{length, getD}
 use Rattle.rules_types.specs.Limits.{allBooleans}
-use Rattle.rules_types.specs.Layout.{constraintBytes}
-use Rattle.rules.specs.Problem.{Constraint, Clause}
+use Rattle.rules_types.specs.Layout.{comparisonBytes}
+use Rattle.rules.specs.Problem.{Constraint}
+use Rattle.rules.specs.Readings.{Disjunction, reading}
 use Rattle.rules.specs.Lines.{Booleans, noBooleans, including, meet}
 use Rattle.rules.specs.Lines as rules
 use Rattle.rules.specs.Normalize.{reduced, settledAll, membersOf, normalClause}
-use Rattle.rules.specs.Split.{chain, parts, partsOf, splitsOf}
+use Rattle.rules.specs.Split.{chain, parts, readingParts, readingSplits}
 use Rattle.masks.specs.Mask.{bits}
 use Rattle.problem_clauses.specs.declared.splits.Staying.{Staying}
 use Rattle.problem_clauses.specs.declared.splits.Staying.the-variants.{Dropped, Count}
 use Rattle.problem_clauses.specs.Passes.{values-next}
 use Rattle.problem_clauses.specs.Remaining.{counted}
+use Rattle.problem_clauses.specs.Readings.{constraints-at}
 use Rattle.problem_clauses.specs.Splits.{splitsBy, splits-at}
 use Rattle.problem_scan.specs.Values.{valuesAt, literalAt, constraintAt, constraintsAt, countOf, clauseAt}
-use Rattle.problem_scan.specs.Sound.{Each, SoundConstraint, SoundClause}
+use Rattle.problem_scan.specs.Sound.{Each, SoundComparison, SoundClause}
 use Rattle.problem_parts.specs.declared.parts.Parts.{Parts}
 use Rattle.problem_parts.specs.declared.skip.ConstraintsAt.{ConstraintsAt}
 use Rattle.problem_parts.specs.Skip.{Skipped, kept-first}
@@ -47,37 +49,41 @@ partsIf true k p n o = partsBy k p n o
 
 unfoldable pub partsFrom : List ℕ → ℕ → Parts → List rules.Line
 partsFrom q r c = partsIf (c .more) (c .split) (positiveOf c) (negativeOf c)
-    (settledAll (constraintsAt q r (c .left) (c .at)))
+    (settledAll (constraintsAt q (c .second) r (c .left) (c .at)))
 
 -- the constraints are sound, and those that stay are counted
 pub record SoundParts (q : List ℕ) (r : ℕ) (c : Parts) : Type 0 where
-  pub each : Each (SoundConstraint q r) (constraintBytes r) (c .left) (c .at)
-  pub stays : c .more ≡ true → counted 0 (settledAll (constraintsAt q r (c .left) (c .at))) ≡ Count (c .stay)
+  pub each : Each (SoundComparison q r) (comparisonBytes r) (c .left) (c .at)
+  pub stays : c .more ≡ true → counted 0 (settledAll (constraintsAt q (c .second) r (c .left) (c .at))) ≡ Count (c .stay)
   pub few : c .split + c .stay ≤ 1000
+
+-- how many there are
+unfoldable pub partsLeft : Parts → ℕ
+partsLeft c = cond (c .more) (max 1 (c .stay)) 0
 
 -- the split variables that they take
 abbrev pub splitsIn : Parts → ℕ
 splitsIn c = splitsBy false (Count (c .stay))
 
 -- ---- from the first part on
-module _ (k : ℕ) (c : Clause) where
+module _ (k : ℕ) (c : Disjunction) where
   abbrev positives : Booleans
   positives = membersOf false (c .literals)
 
   abbrev negatives : Booleans
   negatives = membersOf true (c .literals)
 
-  clash-parts : meet positives negatives ≡ true → partsOf k c ≡ []
-  unfolding partsOf normalClause
-  clash-parts e = rw (e, normalClause, partsOf)
+  clash-parts : meet positives negatives ≡ true → readingParts k c ≡ []
+  unfolding readingParts normalClause
+  clash-parts e = rw (e, normalClause, readingParts)
 
   normal-parts : (o : Option (List Constraint)) → meet positives negatives ≡ false → settledAll (c .constraints) ≡ o
-      → partsOf k c ≡ partsBy k positives negatives o
-  unfolding partsOf normalClause partsBy
-  normal-parts none e f = rw (e, f, normalClause, partsOf)
-  normal-parts (some cs) e f = rw (e, f, normalClause, partsOf)
+      → readingParts k c ≡ partsBy k positives negatives o
+  unfolding readingParts normalClause partsBy
+  normal-parts none e f = rw (e, f, normalClause, readingParts)
+  normal-parts (some cs) e f = rw (e, f, normalClause, readingParts)
 
--- all parts of a clause: its constraints and its literals
+-- all parts of a reading: its constraints and its literals
 pub record Started (q : List ℕ) (r at : ℕ) (c : Parts) : Type 0 where
   pub place : c .at ≡ countOf q at + 1
   pub count : c .left ≡ getD q (countOf q at) 0
@@ -86,39 +92,43 @@ pub record Started (q : List ℕ) (r at : ℕ) (c : Parts) : Type 0 where
 
 module _ (q : List ℕ) (r at : ℕ) (c : Parts) (start : Started q r at c) where
   pub begin-clash : c .more ≡ false → meet (positiveOf c) (negativeOf c) ≡ true
-      → partsFrom q r c ≡ partsOf (c .split) (clauseAt q r at)
-  unfolding partsFrom partsIf clauseAt
-  begin-clash m e = rw m (sym (clash-parts (c .split) (clauseAt q r at) (rw (start .positive, start .negative) at e)))
+      → partsFrom q r c ≡ readingParts (c .split) (reading (c .second) (clauseAt q r at))
+  unfolding partsFrom partsIf reading clauseAt
+  begin-clash m e = rw m (sym (clash-parts (c .split) (reading (c .second) (clauseAt q r at)) (rw (start .positive, start .negative) at e)))
 
   module _ (e : meet (positiveOf c) (negativeOf c) ≡ false) where
-    normal-here : partsBy (c .split) (positiveOf c) (negativeOf c) (settledAll (constraintsAt q r (c .left) (c .at)))
-        ≡ partsOf (c .split) (clauseAt q r at)
-    unfolding clauseAt
+    normal-here : partsBy (c .split) (positiveOf c) (negativeOf c) (settledAll (constraintsAt q (c .second) r (c .left) (c .at)))
+        ≡ readingParts (c .split) (reading (c .second) (clauseAt q r at))
+    unfolding reading clauseAt
     normal-here = rw (start .place, start .count, start .positive, start .negative)
-        (sym (normal-parts (c .split) (clauseAt q r at) _ (rw (start .positive, start .negative) at e) refl))
+        (sym (normal-parts (c .split) (reading (c .second) (clauseAt q r at)) _ (rw (start .positive, start .negative) at e)
+        (ap settledAll (constraints-at q (c .second) r at))))
 
-    pub begin-kept : c .more ≡ true → partsFrom q r c ≡ partsOf (c .split) (clauseAt q r at)
+    pub begin-kept : c .more ≡ true → partsFrom q r c ≡ readingParts (c .split) (reading (c .second) (clauseAt q r at))
     unfolding partsFrom partsIf
     begin-kept m = rw m normal-here
 
-    pub begin-dropped : c .more ≡ false → counted 0 (settledAll (constraintsAt q r (c .left) (c .at))) ≡ Dropped
-        → partsFrom q r c ≡ partsOf (c .split) (clauseAt q r at)
+    pub begin-dropped : c .more ≡ false → counted 0 (settledAll (constraintsAt q (c .second) r (c .left) (c .at))) ≡ Dropped
+        → partsFrom q r c ≡ readingParts (c .split) (reading (c .second) (clauseAt q r at))
     unfolding partsFrom partsIf partsBy counted
-    begin-dropped m d = rw m (by (settledAll (constraintsAt q r (c .left) (c .at))) d normal-here)
+    begin-dropped m d = rw m (by (settledAll (constraintsAt q (c .second) r (c .left) (c .at))) d normal-here)
       where
         by : (o : Option (List Constraint)) → counted 0 o ≡ Dropped → partsBy (c .split) (positiveOf c) (negativeOf c) o
-            ≡ partsOf (c .split) (clauseAt q r at) → [] ≡ partsOf (c .split) (clauseAt q r at)
+            ≡ readingParts (c .split) (reading (c .second) (clauseAt q r at))
+            → [] ≡ readingParts (c .split) (reading (c .second) (clauseAt q r at))
         by none i h = h
         by (some cs) i h = let z : _≡_ {A = ℕ} 0 1 = cc in absurd (omega arith)
 
   pub begin-splits : (m : Bool) (k : Staying) → meet (positiveOf c) (negativeOf c) ≡ m
-      → k ≡ counted 0 (settledAll (constraintsAt q r (c .left) (c .at))) → splitsBy m k ≡ splitsOf (clauseAt q r at)
+      → k ≡ counted 0 (settledAll (constraintsAt q (c .second) r (c .left) (c .at)))
+      → splitsBy m k ≡ readingSplits (reading (c .second) (clauseAt q r at))
   begin-splits m k e i = ap (splitsBy m) i ∙ rw (start .place, start .count)
-      (sym (splits-at q r at (c .positive) (c .negative) (start .positive) (start .negative) m (countOf q at) e refl))
+      (sym (splits-at q r at (c .positive) (c .negative) (start .positive) (start .negative) (c .second) m (countOf q at) e refl))
 
-  pub begin-sound : SoundClause q r at → (c .more ≡ true → counted 0 (settledAll (constraintsAt q r (c .left) (c .at))) ≡ Count (c .stay))
+  pub begin-sound : SoundClause q r at
+      → (c .more ≡ true → counted 0 (settledAll (constraintsAt q (c .second) r (c .left) (c .at))) ≡ Count (c .stay))
       → c .split + c .stay ≤ 1000 → SoundParts q r c
-  begin-sound sound k h = record { each = rw (start .place, start .count) (sound .constraints); stays = k; few = h }
+  begin-sound sound k h = record { each = rw (start .place, start .count) (sound .comparisons); stays = k; few = h }
 
 -- ---- one part more
 -- the part's own split variable, except the last's
@@ -153,7 +163,7 @@ module _ (k : ℕ) (p n : Booleans) (d : Constraint) (stay : ℕ) where
 -- the parts behind the one whose constraint stands at a place
 unfoldable pub partsBehind : List ℕ → ℕ → Parts → ConstraintsAt → List rules.Line
 partsBehind q r c p = partsIf (ltb 1 (c .stay)) (c .split + 1) noBooleans (including (c .split) noBooleans)
-    (settledAll (constraintsAt q r (p .left - 1) (p .at + constraintBytes r)))
+    (settledAll (constraintsAt q (c .second) r (p .left - 1) (p .at + comparisonBytes r)))
 
 -- the only part, without a constraint
 pub bare-part : (k : ℕ) (p n : Booleans) (o : Option (List Constraint)) → counted 0 o ≡ Count 0 → partsBy k p n o ≡ record {
@@ -176,18 +186,19 @@ module _ (q : List ℕ) (r : ℕ) (c : Parts) (sound : SoundParts q r c) (more :
   unfolding partsFrom partsIf
   from-bare e = rw more (bare-part (c .split) (positiveOf c) (negativeOf c) _ (sound .stays more ∙ ap Count e))
 
-  module _ (p : ConstraintsAt) (skipped : Skipped q r (c .at) (c .left) p) where
+  module _ (p : ConstraintsAt) (skipped : Skipped q (c .second) r (c .at) (c .left) p) where
     abbrev here : Constraint
-    here = constraintAt q r (p .at)
+    here = constraintAt q (c .second) r (p .at)
 
     abbrev behind : Option (List Constraint)
-    behind = settledAll (constraintsAt q r (p .left - 1) (p .at + constraintBytes r))
+    behind = settledAll (constraintsAt q (c .second) r (p .left - 1) (p .at + comparisonBytes r))
 
-    first-kept : settledAll (constraintsAt q r (c .left) (c .at)) ≡ elim behind [ none ↦ none | some ds ↦ some (reduced here ∷ ds) ]
+    first-kept : settledAll (constraintsAt q (c .second) r (c .left) (c .at))
+        ≡ elim behind [ none ↦ none | some ds ↦ some (reduced here ∷ ds) ]
     first-kept =
         sym (skipped .same)
-        ∙ ap settledAll (values-next (constraintAt q r) (constraintBytes r) (p .at) (p .left) (skipped .more))
-        ∙ kept-first here (constraintsAt q r (p .left - 1) (p .at + constraintBytes r)) (skipped .stays)
+        ∙ ap settledAll (values-next (constraintAt q (c .second) r) (comparisonBytes r) (p .at) (p .left) (skipped .more))
+        ∙ kept-first here (constraintsAt q (c .second) r (p .left - 1) (p .at + comparisonBytes r)) (skipped .stays)
 
     count-kept : counted 0 (elim behind [ none ↦ none | some ds ↦ some (reduced here ∷ ds) ]) ≡ Count (c .stay)
     count-kept = sym (ap (counted 0) first-kept) ∙ sound .stays more

@@ -7,7 +7,7 @@ use Prim.Native.Nat.{ℕ, zero, suc, _+_, _-_, _<_}
 use native.Mathlib.Omega.{arith}
 use lib.IntN.{pos}
 use lib.Dec.{eqb}
-use Rattle.rules_types.specs.Layout.{constraintBytes}
+use Rattle.rules_types.specs.Layout.{comparisonBytes}
 use Rattle.rules.specs.Lists.{all}
 use Rattle.rules.specs.Arithmetic.{isZero, related}
 use Rattle.rules.specs.Problem.{Constraint}
@@ -17,7 +17,7 @@ use Rattle.problem_clauses.specs.Passes.{values-next}
 use Rattle.problem_clauses.specs.Settled.{fate}
 use Rattle.problem_clauses.specs.Remaining.{weight, counted}
 use Rattle.problem_scan.specs.Values.{valuesAt, constraintAt, constraintsAt}
-use Rattle.problem_scan.specs.Sound.{Each, SoundConstraint, each-first, each-rest}
+use Rattle.problem_scan.specs.Sound.{Each, SoundComparison, each-first, each-rest}
 use Rattle.problem_parts.specs.declared.skip.ConstraintsAt.{ConstraintsAt}
 
 -- ---- whether a constraint stays
@@ -54,40 +54,41 @@ module _ (c : Constraint) where
       by false i k = rw (e, i, settled, settledAll)
 
 -- ---- the loop
-pub record Skipping (q : List ℕ) (r from count stay at left : ℕ) : Type 0 where
-  pub each : Each (SoundConstraint q r) (constraintBytes r) left at
-  pub same : settledAll (constraintsAt q r left at) ≡ settledAll (constraintsAt q r count from)
-  pub stays : counted 0 (settledAll (constraintsAt q r left at)) ≡ Count stay
+pub record Skipping (q : List ℕ) (second : Bool) (r from count stay at left : ℕ) : Type 0 where
+  pub each : Each (SoundComparison q r) (comparisonBytes r) left at
+  pub same : settledAll (constraintsAt q second r left at) ≡ settledAll (constraintsAt q second r count from)
+  pub stays : counted 0 (settledAll (constraintsAt q second r left at)) ≡ Count stay
 
 -- the first that stays, and those behind it
-pub record Skipped (q : List ℕ) (r from count : ℕ) (p : ConstraintsAt) : Type 0 where
+pub record Skipped (q : List ℕ) (second : Bool) (r from count : ℕ) (p : ConstraintsAt) : Type 0 where
   pub more : 0 < p .left
-  pub each : Each (SoundConstraint q r) (constraintBytes r) (p .left) (p .at)
-  pub same : settledAll (constraintsAt q r (p .left) (p .at)) ≡ settledAll (constraintsAt q r count from)
-  pub stays : all isZero (constraintAt q r (p .at) .coefficients) ≡ false
+  pub each : Each (SoundComparison q r) (comparisonBytes r) (p .left) (p .at)
+  pub same : settledAll (constraintsAt q second r (p .left) (p .at)) ≡ settledAll (constraintsAt q second r count from)
+  pub stays : all isZero (constraintAt q second r (p .at) .coefficients) ≡ false
 
-module _ (q : List ℕ) (r from count stay at left : ℕ) (run : Skipping q r from count stay at left) (some-stay : 0 < stay) where
+module _ (q : List ℕ) (second : Bool) (r from count stay at left : ℕ) (run : Skipping q second r from count stay at left)
+    (some-stay : 0 < stay) where
   pub skipping-more : 0 < left
   unfolding counted settledAll valuesAt
   skipping-more = by left (run .stays)
     where
-      by : (k : ℕ) → counted 0 (settledAll (constraintsAt q r k at)) ≡ Count stay → 0 < k
+      by : (k : ℕ) → counted 0 (settledAll (constraintsAt q second r k at)) ≡ Count stay → 0 < k
       by zero e = let z : 0 + 0 ≡ stay = cc in absurd (omega arith)
       by (suc k) e = omega arith
 
-  pub skipping-sound : SoundConstraint q r at
-  skipping-sound = each-first (SoundConstraint q r) (constraintBytes r) left at skipping-more (run .each)
+  pub skipping-sound : SoundComparison q r at
+  skipping-sound = each-first (SoundComparison q r) (comparisonBytes r) left at skipping-more (run .each)
 
-  pub skipping-next : all isZero (constraintAt q r at .coefficients) ≡ true
-      → Skipping q r from count stay (at + constraintBytes r) (left - 1)
+  pub skipping-next : all isZero (constraintAt q second r at .coefficients) ≡ true
+      → Skipping q second r from count stay (at + comparisonBytes r) (left - 1)
   skipping-next z =
-      let e = values-next (constraintAt q r) (constraintBytes r) at left skipping-more in
-      let cs = constraintsAt q r (left - 1) (at + constraintBytes r) in
-      let k : counted 0 (settledAll (constraintAt q r at ∷ cs)) ≡ Count stay =
+      let e = values-next (constraintAt q second r) (comparisonBytes r) at left skipping-more in
+      let cs = constraintsAt q second r (left - 1) (at + comparisonBytes r) in
+      let k : counted 0 (settledAll (constraintAt q second r at ∷ cs)) ≡ Count stay =
       sym (ap (λ (ds : List Constraint). counted 0 (settledAll ds)) e) ∙ run .stays in
-      let s = struck-first (constraintAt q r at) cs stay z k in
+      let s = struck-first (constraintAt q second r at) cs stay z k in
       record {
-        each = each-rest (SoundConstraint q r) (constraintBytes r) left at skipping-more (run .each);
+        each = each-rest (SoundComparison q r) (comparisonBytes r) left at skipping-more (run .each);
         same = sym s ∙ sym (ap settledAll e) ∙ run .same;
         stays = sym (ap (counted 0) s) ∙ k;
       }

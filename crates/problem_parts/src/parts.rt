@@ -1,4 +1,4 @@
-// The parts of a clause one after another: "Piece 0 has the literals, condition 0 and its link; each later piece has the previous
+// The parts of a reading one after another: "Piece 0 has the literals, condition 0 and its link; each later piece has the previous
 // link negated, its condition and, except the last, the next link."
 use crate::constraint::constraint_line;
 use crate::skip::ConstraintsAt;
@@ -12,7 +12,7 @@ use problem_clauses::places::count_place;
 use problem_clauses::splits::Staying;
 use problem_clauses::splits::between;
 use problem_clauses::splits::remaining;
-use rules_types::layout::constraint_bytes;
+use rules_types::layout::comparison_bytes;
 use rules_types::limits::Limits;
 ghost use mathlib.Core.Path.{_≡_};
 ghost use mathlib.Core.Bool.{true, false};
@@ -24,16 +24,19 @@ ghost use Rattle.rules_types.specs.Limits.{rationals, allBooleans};
 ghost use Rattle.rules.specs.Lists.{all};
 ghost use Rattle.rules.specs.Arithmetic.{isZero};
 ghost use Rattle.rules.specs.Normalize.{reduced};
-ghost use Rattle.rules.specs.Split.{partsOf, splitsOf};
+ghost use Rattle.rules.specs.Readings.{reading};
+ghost use Rattle.rules.specs.Split.{readingParts, readingSplits};
 ghost use Rattle.masks.specs.Mask.{bits};
 ghost use Rattle.problem_scan.specs.Values.{constraintAt, clauseAt};
-ghost use Rattle.problem_scan.specs.Sound.{SoundConstraint, SoundClause};
+ghost use Rattle.problem_scan.specs.Sound.{SoundComparison, SoundClause};
 ghost use Rattle.lines.specs.Line.{meaning, Ready};
 ghost use Rattle.problem_parts.specs.Constraint.{lineOf};
-ghost use Rattle.problem_parts.specs.Parts.{partsFrom, SoundParts, splitsIn, withSplit, partsBehind};
+ghost use Rattle.problem_parts.specs.Parts.{partsFrom, SoundParts, splitsIn, partsLeft, withSplit, partsBehind};
 ghost use Rattle.problem_parts.specs.Skip.{Skipped};
 
 pub struct Parts {
+    // Whether it is the second reading of its clause.
+    pub second: bool,
     // Whether a part is left.
     pub more: bool,
     // The place of the first constraint that is left, how many are left, and how many of them stay.
@@ -52,18 +55,19 @@ pub struct Part {
     pub rest: Parts,
 }
 
-// Before the first part of a clause; `split` is the next split variable.
-pub fn begin(input: &[u8], at: usize, r: u8, split: usize) -> Parts
+// Before the first part of the first or of the second reading of a clause; `split` is the next split variable.
+pub fn begin(input: &[u8], at: usize, r: u8, split: usize, second: bool) -> Parts
     requires { ⌜ SoundClause (now input) r at ⌝ }
     requires { ⌜ split ≤ allBooleans ⌝ }
-    ensures { λ p. ⌜ partsFrom (now (input .entry)) r p ≡ partsOf split (clauseAt (now (input .entry)) r at) ⌝ }
+    ensures { λ p. ⌜ partsFrom (now (input .entry)) r p ≡ readingParts split (reading second (clauseAt (now (input .entry)) r at)) ⌝ }
     ensures { λ p. ⌜ SoundParts (now (input .entry)) r p ⌝ }
-    ensures { λ p. ⌜ splitsIn p ≡ splitsOf (clauseAt (now (input .entry)) r at) ⌝ }
+    ensures { λ p. ⌜ splitsIn p ≡ readingSplits (reading second (clauseAt (now (input .entry)) r at)) ⌝ }
 {
     let place = count_place(input, at);
     let l = literals(input, at + 1, input[at]);
     let count = input[place];
     let mut first = Parts {
+        second: second,
         more: false,
         at: place + 1,
         left: count,
@@ -75,7 +79,7 @@ pub fn begin(input: &[u8], at: usize, r: u8, split: usize) -> Parts
     if meets(l.positive, l.negative) {
         return first;
     }
-    let k = remaining(input, place + 1, r, count);
+    let k = remaining(input, place + 1, r, count, second);
     let Staying::Count(n) = k else {
         return first;
     };
@@ -89,6 +93,19 @@ pub fn splits(parts: Parts) -> u8
     ensures { λ n. ⌜ n ≡ splitsIn parts ⌝ }
 {
     between(Staying::Count(parts.stay))
+}
+
+// How many parts are left.
+pub fn count(parts: Parts) -> u8
+    ensures { λ n. ⌜ n ≡ partsLeft parts ⌝ }
+{
+    if !parts.more {
+        return 0;
+    }
+    if parts.stay == 0 {
+        return 1;
+    }
+    parts.stay
 }
 
 // The positive literals of the next part: with its split variable, except the last.
@@ -116,26 +133,27 @@ pub fn bare(parts: Parts) -> Line
 }
 
 // A constraint that stays, divided by its content.
-fn reduced_line(input: &[u8], at: usize, r: u8, positive: u32, negative: u32) -> Line
+fn reduced_line(input: &[u8], at: usize, r: u8, second: bool, positive: u32, negative: u32) -> Line
     requires { ⌜ r ≤ rationals ⌝ }
-    requires { ⌜ SoundConstraint (now input) r at ⌝ }
-    requires { ⌜ all isZero (constraintAt (now input) r at .coefficients) ≡ false ⌝ }
-    ensures { λ l. ⌜ meaning l ≡ lineOf positive negative (some (reduced (constraintAt (now (input .entry)) r at))) ⌝ }
+    requires { ⌜ SoundComparison (now input) r at ⌝ }
+    requires { ⌜ all isZero (constraintAt (now input) second r at .coefficients) ≡ false ⌝ }
+    ensures { λ l. ⌜ meaning l ≡ lineOf positive negative (some (reduced (constraintAt (now (input .entry)) second r at))) ⌝ }
     ensures { λ l. ⌜ Ready l ⌝ }
 {
-    reduce(constraint_line(input, at, r, positive, negative))
+    reduce(constraint_line(input, at, r, second, positive, negative))
 }
 
 // Behind the part whose constraint is the first of these.
 fn rest(input: &[u8], r: u8, parts: Parts, from: ConstraintsAt) -> Parts
     requires { ⌜ SoundParts (now input) r parts ⌝ }
-    requires { ⌜ Skipped (now input) r (parts .at) (parts .left) from ⌝ }
+    requires { ⌜ Skipped (now input) (parts .second) r (parts .at) (parts .left) from ⌝ }
     requires { ⌜ (parts .more ≡ true) × (0 < parts .stay) ⌝ }
     ensures { λ p. ⌜ partsFrom (now (input .entry)) r p ≡ partsBehind (now (input .entry)) r parts from ⌝ }
     ensures { λ p. ⌜ SoundParts (now (input .entry)) r p ⌝ }
 {
-    let size = constraint_bytes(r);
+    let size = comparison_bytes(r);
     Parts {
+        second: parts.second,
         more: 1 < parts.stay,
         at: from.at + size,
         left: from.left - 1,
@@ -163,9 +181,9 @@ pub fn next(input: &[u8], r: u8, parts: Parts) -> Part
             rest: ended,
         };
     }
-    let first = skip(input, parts.at, r, parts.left, parts.stay);
+    let first = skip(input, parts.at, r, parts.second, parts.left, parts.stay);
     Part {
-        line: reduced_line(input, first.at, r, own(parts), parts.negative),
+        line: reduced_line(input, first.at, r, parts.second, own(parts), parts.negative),
         rest: rest(input, r, parts, first),
     }
 }

@@ -1,11 +1,11 @@
 pub mod Seen
-pub mod Run
 pub mod Fields
 pub mod Values
 pub mod Sound
 pub mod Valued
+pub mod Run
 pub mod Steady
-pub mod Constraints
+pub mod Comparisons
 pub mod Clauses
 pub mod Scans
 pub mod Read

@@ -33,7 +33,7 @@ unfoldable pub outline : Read Problem → Scan
 outline (fault f place) = Fault f place
 outline (got p bytes place) = Sound (sizesOf p)
 
--- 3, before 4 to 12: "question over 32,768 bytes; 32,768"
+-- 3, before the others: "question over 32,768 bytes; 32,768"
 unfoldable pub scanned : List ℕ → Scan
 scanned q =
     elim (ltb limit.problemBytes (length q)) [

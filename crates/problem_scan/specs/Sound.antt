@@ -1,4 +1,4 @@
--- The limits that a clause keeps to, said of the bytes: its counts, relations and amounts.
+-- The limits that a clause keeps to, said of the bytes: its counts and amounts.
 use mathlib.Core.Path.{_≡_, subst}
 use mathlib.Core.List.{List, _++_}
 use Prim.Native.Nat.{ℕ, zero, suc, _+_, _-_, _≤_, _<_}
@@ -30,17 +30,16 @@ module _ (P : ℕ → Type 0) (size left at : ℕ) (more : 0 < left) (each : Eac
 abbrev pub Amount : List ℕ → ℕ → Type 0
 Amount q at = Small (amountAt q at)
 
-pub record SoundConstraint (q : List ℕ) (r at : ℕ) : Type 0 where
-  pub within : at + layout.constraintBytes r ≤ length q
-  pub related : (0 < getD q at 0) × (getD q at 0 ≤ 2)
-  pub coefficients : Each (Amount q) 4 r (at + layout.constraintCoefficients)
+pub record SoundComparison (q : List ℕ) (r at : ℕ) : Type 0 where
+  pub within : at + layout.comparisonBytes r ≤ length q
+  pub coefficients : Each (Amount q) 4 r (at + layout.comparisonCoefficients)
   pub bound : Amount q (boundOf q r at)
 
 pub record SoundClause (q : List ℕ) (r at : ℕ) : Type 0 where
   pub within : clauseEnd q r at ≤ length q
   pub literals : getD q at 0 ≤ limit.literals
-  pub count : getD q (countOf q at) 0 ≤ limit.constraints
-  pub constraints : Each (SoundConstraint q r) (layout.constraintBytes r) (getD q (countOf q at) 0) (countOf q at + 1)
+  pub count : getD q (countOf q at) 0 ≤ limit.comparisons
+  pub comparisons : Each (SoundComparison q r) (layout.comparisonBytes r) (getD q (countOf q at) 0) (countOf q at + 1)
 
 -- a coefficient that is not there is 0
 pub padded-small : (q : List ℕ) (k at n : ℕ) → Each (Amount q) 4 k at → (i : ℕ)

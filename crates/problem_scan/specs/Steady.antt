@@ -4,9 +4,9 @@ use mathlib.Core.List.{List, _∷_}
 use Prim.Native.Nat.{ℕ, zero, suc}
 use lib.ListN.{drop}
 use Rattle.rules_types.specs.declared.answers.Refusal.{Refusal}
-use Rattle.rules.specs.Problem.{Read, fault, got, Reader, after, return, _>>=_, repeat, amount, literal, constraint, clause}
+use Rattle.rules.specs.Problem.{Read, fault, got, Reader, after, return, _>>=_, repeat, amount, literal, clause}
 use Rattle.problem_scan.specs.Seen.{Aligned, Steady}
-use Rattle.problem_scan.specs.Valued.{Valued, faulty, given, amount-valued, literal-valued, constraint-valued, clause-valued}
+use Rattle.problem_scan.specs.Valued.{Valued, faulty, given, amount-valued, literal-valued, clause-valued}
 
 -- ---- one after another, and repeated
 module _ (q : List ℕ) {A B : Type 0} where
@@ -38,9 +38,6 @@ module _ (q : List ℕ) where
 
   pub steady-literal : (b : ℕ) → Steady q (literal b)
   steady-literal b at h = aligned-valued (literal-valued q b at h)
-
-  pub steady-constraint : (r : ℕ) → Steady q (constraint r)
-  steady-constraint r at h = aligned-valued (constraint-valued q r at h)
 
   pub steady-clause : (b r : ℕ) → Steady q (clause b r)
   steady-clause b r at h = aligned-valued (clause-valued q b r at h)

@@ -1,7 +1,7 @@
 // Literals and clauses: each function comes to what the definition of reading does from its place on.
 use crate::cursor::Cursor;
 use crate::cursor::Sizes;
-use crate::numbers::constraints;
+use crate::numbers::comparisons;
 use rules_types::answers::Refusal;
 use rules_types::limits::Limits;
 ghost use mathlib.Core.Path.{_≡_};
@@ -9,7 +9,7 @@ ghost use Prim.Native.Nat.{_≤_};
 ghost use lib.ListN.{length, drop};
 ghost use Rattle.rules.specs.Problem.{repeat, literal, clause};
 ghost use Rattle.problem_scan.specs.Seen.{seen};
-ghost use Rattle.problem_scan.specs.Clauses.{constraintList, clausesOf};
+ghost use Rattle.problem_scan.specs.Clauses.{comparisonList, clausesOf};
 
 // So many literals: "mark not below b; its byte".
 fn literals(input: &[u8], from: usize, b: u8, count: u8) -> Cursor
@@ -32,21 +32,21 @@ fn literals(input: &[u8], from: usize, b: u8, count: u8) -> Cursor
 }
 
 // "a byte t, 0 to 8, then t conditions"
-fn constraint_list(input: &[u8], at: usize, r: u8) -> Cursor
+fn comparison_list(input: &[u8], at: usize, r: u8) -> Cursor
     requires { ⌜ at ≤ length (now input) ⌝ }
-    ensures { λ c. ⌜ c ≡ seen (constraintList r (drop at (now (input .entry))) at) ⌝ }
+    ensures { λ c. ⌜ c ≡ seen (comparisonList r (drop at (now (input .entry))) at) ⌝ }
 {
     if input.len() <= at {
         return Cursor::Fault(Refusal::Truncated, input.len());
     }
     let count = input[at];
-    if Limits::CONSTRAINTS < count as usize {
-        return Cursor::Fault(Refusal::Constraints, at);
+    if Limits::COMPARISONS < count as usize {
+        return Cursor::Fault(Refusal::Comparisons, at);
     }
-    constraints(input, at + 1, r, count)
+    comparisons(input, at + 1, r, count)
 }
 
-// "a byte m, 0 to 32, then m literals", and the constraints
+// "a byte m, 0 to 32, then m literals", and the comparisons
 fn clause(input: &[u8], at: usize, b: u8, r: u8) -> Cursor
     requires { ⌜ at ≤ length (now input) ⌝ }
     ensures { λ c. ⌜ c ≡ seen (clause b r (drop at (now (input .entry))) at) ⌝ }
@@ -62,7 +62,7 @@ fn clause(input: &[u8], at: usize, b: u8, r: u8) -> Cursor
     let Cursor::Next(next) = read else {
         return read;
     };
-    constraint_list(input, next, r)
+    comparison_list(input, next, r)
 }
 
 // All clauses of a problem of these sizes.

@@ -2,4 +2,5 @@
 mod clauses;
 pub mod cursor;
 mod numbers;
+pub mod relation;
 pub mod scan;

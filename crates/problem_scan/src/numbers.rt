@@ -1,15 +1,17 @@
-// Amounts and constraints: each function comes to what the definition of reading does from its place on.
+// Amounts and comparisons: each function comes to what the definition of reading does from its place on.
 use crate::cursor::Cursor;
+use crate::relation::is_equality;
+use crate::relation::is_relation;
 use fields::amount_at;
 use machine::sign::in_range;
 use rules_types::answers::Refusal;
-use rules_types::layout::CONSTRAINT_COEFFICIENTS;
+use rules_types::layout::COMPARISON_COEFFICIENTS;
 ghost use mathlib.Core.Path.{_≡_};
+ghost use mathlib.Core.Bool.{false};
 ghost use Prim.Native.Nat.{_≤_};
 ghost use lib.ListN.{length, drop};
-ghost use Rattle.rules.specs.Problem.{repeat, amount, constraint};
+ghost use Rattle.rules.specs.Problem.{repeat, amount, comparison, comparisons};
 ghost use Rattle.problem_scan.specs.Seen.{seen};
-ghost use Rattle.problem_scan.specs.Constraints.{isRelation};
 
 fn amount(input: &[u8], at: usize) -> Cursor
     requires { ⌜ at ≤ length (now input) ⌝ }
@@ -42,17 +44,11 @@ fn amounts(input: &[u8], from: usize, count: u8) -> Cursor
     Cursor::Next(at)
 }
 
-// "a relation byte (1 is ≤, 2 is <)"
-fn is_relation(code: u8) -> bool
-    ensures { λ r. ⌜ r ≡ isRelation code ⌝ }
-{
-    code == 1 || code == 2
-}
-
-// The bytes of a constraint: its relation, r coefficients and the bound.
-fn constraint(input: &[u8], at: usize, r: u8) -> Cursor
+// The bytes of a comparison: its relation, r coefficients and the bound. 18: "a second = in one clause, raised at its relation byte
+// right after 10"; `equated` says that an = stands before it.
+fn comparison(input: &[u8], at: usize, r: u8, equated: bool) -> Cursor
     requires { ⌜ at ≤ length (now input) ⌝ }
-    ensures { λ c. ⌜ c ≡ seen (constraint r (drop at (now (input .entry))) at) ⌝ }
+    ensures { λ c. ⌜ c ≡ seen (comparison equated r (drop at (now (input .entry))) at) ⌝ }
 {
     if input.len() <= at {
         return Cursor::Fault(Refusal::Truncated, input.len());
@@ -61,25 +57,30 @@ fn constraint(input: &[u8], at: usize, r: u8) -> Cursor
     if !is_relation(relation) {
         return Cursor::Fault(Refusal::Relation, at);
     }
-    let coefficients = amounts(input, at + CONSTRAINT_COEFFICIENTS, r);
+    if equated && is_equality(relation) {
+        return Cursor::Fault(Refusal::SecondEquality, at);
+    }
+    let coefficients = amounts(input, at + COMPARISON_COEFFICIENTS, r);
     let Cursor::Next(bound) = coefficients else {
         return coefficients;
     };
     amount(input, bound)
 }
 
-// So many of them.
-pub fn constraints(input: &[u8], from: usize, r: u8, count: u8) -> Cursor
+// So many of them, all of a clause.
+pub fn comparisons(input: &[u8], from: usize, r: u8, count: u8) -> Cursor
     requires { ⌜ from ≤ length (now input) ⌝ }
-    ensures { λ c. ⌜ c ≡ seen (repeat count (constraint r) (drop from (now (input .entry))) from) ⌝ }
+    ensures { λ c. ⌜ c ≡ seen (comparisons count false r (drop from (now (input .entry))) from) ⌝ }
 {
     let mut at = from;
     let mut left = count;
+    let mut equated = false;
     while 0 < left {
-        let one = constraint(input, at, r);
+        let one = comparison(input, at, r, equated);
         let Cursor::Next(next) = one else {
             return one;
         };
+        equated = equated || is_equality(input[at]);
         at = next;
         left -= 1;
     }

@@ -1,4 +1,4 @@
-// A problem read to its first fault 3 to 12, each byte once.
+// A problem read to its first fault 3 to 12 or 18, each byte once.
 use crate::clauses::clauses;
 use crate::cursor::Cursor;
 use crate::cursor::Scan;
@@ -34,7 +34,7 @@ fn body(input: &[u8], sizes: Sizes) -> Scan
     }
 }
 
-// 4 to 12.
+// 4 to 12, and 18.
 fn problem(input: &[u8]) -> Scan
     ensures { λ s. ⌜ s ≡ outline (problem (now (input .entry)) 0) ⌝ }
 {

@@ -3,7 +3,9 @@ use mathlib.Core.Path.{_≡_}
 use mathlib.Core.Logic.{_↔_}
 use mathlib.Core.List.{List, []}
 use mathlib.Core.Option.{some}
-use Prim.Native.Nat.{ℕ, _+_, _-_, _≤_, _<_}
+use Prim.Native.Nat.{ℕ, _+_, _≤_, _<_}
+use native.Mathlib.Omega.{arith}
+use lib.IntN.{ℤ}
 use lib.Dec.{T}
 use lib.ListN.{length, getElem?, take}
 use Rattle.rules_types.specs.declared.answers.Checked.the-variants.{Accepted}
@@ -11,7 +13,10 @@ use Rattle.rules_types.specs.declared.limits.Limits.{Limits}
 use Rattle.rules_types.specs.declared.terms.Terms.{Terms}
 use Rattle.rules_types.specs.Limits as limit
 use Rattle.rules_types.specs.Answers.{answerNumber, answerValue}
-use Rattle.rules.specs.Problem.{Clause, Problem, inEdition}
+use Rattle.rules.specs.Lists.{all}
+use Rattle.rules.specs.Problem.{Relation, le, lt, eq, ge, Clause, Problem, inEdition, relationOf}
+use Rattle.rules.specs.Readings.{readings}
+use Rattle.rules.specs.Meaning.{Assignment, compared, clauseHolds, Satisfies}
 use Rattle.rules.specs.Lines.{Line, Variable}
 use Rattle.rules.specs.Split.{partsOf, splitsOf}
 use Rattle.rules.specs.Resolve.{resolve}
@@ -21,15 +26,21 @@ use Rattle.rules.specs.Elimination.{chosenRun, elimination}
 use Rattle.rules.specs.Needs.{stepsOf}
 use Rattle.rules.specs.Calls.{sound, read, solve, proofChecked, modelChecked, evidence}
 use Rattle.theory_lists.specs.All.{All, Any}
+use Rattle.theory_lists.specs.Places.{element-all}
 use Rattle.theory_saturation.specs.Order.{Ordered}
 use Rattle.theory_saturation.specs.Taken.{problem-ordered}
 use Rattle.theory_saturation.specs.Drops.{Subsumes, drops-exactly, covered-exactly}
 use Rattle.theory_bytes.specs.Bytes.{AllBytes}
+use Rattle.theory_bytes.specs.Relations.{relation-bytes}
 use Rattle.theory_splitting.specs.EveryPart.{EveryPart, every-part}
 use Rattle.theory_resolution.specs.Result.{IsResolvent, resolve-is}
-use Rattle.theory_splitting.specs.WellFormed.{splitsIn}
-use Rattle.theory_splitting.specs.SplitsInto.{SplitsInto, clause-splits}
-use Rattle.theory_splitting.specs.Count.{splits-number}
+use Rattle.theory_splitting.specs.WellFormed.{WellFormedClause, splitsIn}
+use Rattle.theory_splitting.specs.NormalClause.{readingHolds}
+use Rattle.theory_splitting.specs.Readings.{Relates, compared-exactly, clause-readings}
+use Rattle.theory_splitting.specs.PartsChosen.{Chosen}
+use Rattle.theory_splitting.specs.SplitProblem.{StepsHold, splitting-keeps}
+use Rattle.theory_splitting.specs.SplitsInto.{SplitsInto, splits-into, clause-splits}
+use Rattle.theory_splitting.specs.Few.{splits-few}
 use Rattle.theory_splitting.specs.Reading.{posed-well-formed}
 use Rattle.theory_elimination.specs.Sound.{Sound}
 use Rattle.theory_elimination.specs.Origins.{Each, Justified, Fresh, Distinct}
@@ -56,9 +67,18 @@ pub record Demand2 (edition : ℕ) (input : List ℕ) (p : Problem) : Type 0 whe
   -- drops one, no two are equal, and all are normalized: no Boolean variable in both signs, no constant constraint, no common divisor
   pub lines : (stops : Stops) → Each (Justified (orderOf p) (loadableOf p)) [] (stepsOf (elimination stops p))
   pub parts : EveryPart p (loadableOf p)
-  pub splits : (k : ℕ) (c : Clause) → splitsOf c ≡ length (partsOf k c) - 1
+  pub splits : (c : Clause) → All (λ l. l .boolean < limit.allBooleans) (c .literals) → length (c .comparisons) ≤ limit.comparisons
+      → (k : ℕ) → k ≤ limit.booleans → SplitsInto k c (partsOf k c) (splitsOf c)
   pub pieces : (n : ℕ) (c : Clause) → getElem? (p .clauses) n ≡ some c
-      → let k = p .booleans + splitsIn (take n (p .clauses)) in SplitsInto k c (partsOf k c)
+      → let k = p .booleans + splitsIn (take n (p .clauses)) in SplitsInto k c (partsOf k c) (splitsOf c)
+  -- (i): "Relation 3 shall mean =, 4 ≥"; "satisfaction is meant with the new relations"; a clause, as it is written, holds exactly if each
+  -- of its readings does; and an assignment satisfies the problem exactly if some values of the split variables make every part hold
+  pub bytes : (relationOf 1 ≡ le) × (relationOf 2 ≡ lt) × (relationOf 3 ≡ eq) × (relationOf 4 ≡ ge)
+  pub relations : (ρ : Relation) (a b : ℤ) → T (compared ρ a b) ↔ Relates ρ a b
+  pub readings : (χ : Assignment) (n : ℕ) (c : Clause) → getElem? (p .clauses) n ≡ some c
+      → clauseHolds χ c ≡ all (readingHolds χ) (readings c)
+  pub splitting : (χ : Assignment) → 1 ≤ χ .denominator → Satisfies χ p
+      ↔ Chosen χ (p .booleans) (p .booleans + splitsIn (p .clauses)) (λ ψ. StepsHold ψ (loadableOf p))
   pub resolvents : (v : Variable) (u l : Line) → IsResolvent v u l (resolve v u l)
   pub undropped : (stops : Stops) → Each Fresh [] (stepsOf (elimination stops p))
   pub distinct : (stops : Stops) → Each Distinct [] (stepsOf (elimination stops p))
@@ -92,8 +112,14 @@ pub demand2 : (edition : ℕ) (input : List ℕ) (q : Problem) → read input �
 demand2 edition input q e = let p = inEdition edition q in record {
   lines = elimination-lines p;
   parts = every-part p;
-  splits = splits-number;
+  splits = λ c w few k h. splits-into c w k (omega (arith, splits-few c few));
   pieces = clause-splits p (posed-well-formed edition input q e);
+  bytes = relation-bytes;
+  relations = compared-exactly;
+  readings = λ χ n c h.
+      let w = posed-well-formed edition input q e .clauses in
+      clause-readings χ c (element-all (WellFormedClause (p .booleans) (p .rationals)) (p .clauses) n c h w .single);
+  splitting = splitting-keeps p (posed-well-formed edition input q e);
   resolvents = resolve-is;
   undropped = elimination-undropped p;
   distinct = elimination-distinct p;

@@ -7,8 +7,8 @@ use native.Mathlib.Omega.{arith}
 use lib.ListN.{getD}
 use Rattle.rules_types.specs.declared.answers.Refusal.{Refusal}
 use Rattle.rules_types.specs.declared.answers.Refusal.the-variants.{ShortProof, ShortModel, LongProblem, Truncated, Booleans, Rationals}
-use Rattle.rules_types.specs.declared.answers.Refusal.the-variants.{Clauses, Literal, Constraints, Relation, Amount, Trailing, Splits}
-use Rattle.rules_types.specs.declared.answers.Refusal.the-variants.{Overflow, OutOfSteps, ProofLength, BadModel}
+use Rattle.rules_types.specs.declared.answers.Refusal.the-variants.{Clauses, Literal, Comparisons, Relation, Amount, Trailing, Splits}
+use Rattle.rules_types.specs.declared.answers.Refusal.the-variants.{Overflow, OutOfSteps, ProofLength, BadModel, SecondEquality}
 use Rattle.rules_types.specs.declared.answers.Verdict.{Verdict}
 use Rattle.rules_types.specs.declared.answers.Verdict.the-variants.{Satisfiable, Unsatisfiable, Unwritten}
 use Rattle.rules_types.specs.declared.answers.Answer.{Answer}
@@ -24,11 +24,11 @@ use Rattle.promises.specs.Words.{Comes, IsRefused}
 -- ---- refusals have different numbers: the refusal comes back from its number
 refusals : List Refusal
 refusals =
-    ShortProof ∷ ShortModel ∷ LongProblem ∷ Truncated ∷ Booleans ∷ Rationals ∷ Clauses ∷ Literal ∷ Constraints ∷ Relation ∷ Amount
-    ∷ Trailing ∷ Splits ∷ Overflow ∷ OutOfSteps ∷ ProofLength ∷ BadModel ∷ []
+    ShortProof ∷ ShortModel ∷ LongProblem ∷ Truncated ∷ Booleans ∷ Rationals ∷ Clauses ∷ Literal ∷ Comparisons ∷ Relation ∷ Amount
+    ∷ Trailing ∷ Splits ∷ Overflow ∷ OutOfSteps ∷ ProofLength ∷ BadModel ∷ SecondEquality ∷ []
 
 refusalOf : ℕ → Refusal
-refusalOf n = getD refusals (n - 1) BadModel
+refusalOf n = getD refusals (n - 1) SecondEquality
 
 refusal-back : (f : Refusal) → refusalOf (refusalNumber f) ≡ f
 unfolding refusalOf refusals refusalNumber
@@ -40,7 +40,7 @@ refusal-back Booleans = refl
 refusal-back Rationals = refl
 refusal-back Clauses = refl
 refusal-back Literal = refl
-refusal-back Constraints = refl
+refusal-back Comparisons = refl
 refusal-back Relation = refl
 refusal-back Amount = refl
 refusal-back Trailing = refl
@@ -49,6 +49,7 @@ refusal-back Overflow = refl
 refusal-back OutOfSteps = refl
 refusal-back ProofLength = refl
 refusal-back BadModel = refl
+refusal-back SecondEquality = refl
 
 pub refusals-differ : (f g : Refusal) → refusalNumber f ≡ refusalNumber g → f ≡ g
 refusals-differ f g e = sym (refusal-back f) ∙ ap refusalOf e ∙ refusal-back g
@@ -64,7 +65,7 @@ refusal-below Booleans = omega arith
 refusal-below Rationals = omega arith
 refusal-below Clauses = omega arith
 refusal-below Literal = omega arith
-refusal-below Constraints = omega arith
+refusal-below Comparisons = omega arith
 refusal-below Relation = omega arith
 refusal-below Amount = omega arith
 refusal-below Trailing = omega arith
@@ -73,6 +74,7 @@ refusal-below Overflow = omega arith
 refusal-below OutOfSteps = omega arith
 refusal-below ProofLength = omega arith
 refusal-below BadModel = omega arith
+refusal-below SecondEquality = omega arith
 
 verdict-above : (v : Verdict) → 64 ≤ verdictNumber v
 unfolding verdictNumber

@@ -1,4 +1,4 @@
--- An answer comes for every input: a verdict or 14 or 15 for a problem read without fault and full-size buffers, else one of 1 to 13.
+-- An answer comes for every input: a verdict or 14 or 15 for a problem read without fault and full-size buffers, else one of 1 to 13 or 18.
 use mathlib.Core.Path.{_≡_, refl, sym, ap, subst}
 use mathlib.Core.Logic.{_⊎_, inl, inr, ⊎-elim}
 use mathlib.Core.List.{List}
@@ -24,11 +24,15 @@ use Rattle.rules.specs.Calls.{Reading, faulty, sound, read, Solving, concluded,
 use Rattle.theory_lists.specs.Tests.{split}
 use Rattle.theory_bytes.specs.Bytes.{AllBytes}
 use Rattle.theory_reading.specs.Theorems.{names-first}
-use Rattle.theory_reading.specs.Numbers.{fault-named}
+use Rattle.theory_reading.specs.Numbers.{Named, to-13, is-18, fault-named}
 use Rattle.promises.specs.Words.{Comes, IsRefused, LimitMet, FullSize}
 use Rattle.promises.specs.Outcomes.{answerOf, finished, walkModel, concluded-running}
 use Rattle.promises.specs.Reported.{solve-is}
 use Rattle.promises.specs.Left as left
+
+-- 1 to 13; 18: "wherever 3 to 13 are named, it is one of them"
+abbrev pub BeforeCourse : Refusal → Type 0
+BeforeCourse f = ((1 ≤ refusalNumber f) × (refusalNumber f ≤ 13)) ⊎ (refusalNumber f ≡ 18)
 
 pub record Total (terms : Terms) (input proof model : List ℕ) (answer : Answer) : Type 0 where
   -- for a problem read without fault and full-size buffers
@@ -36,7 +40,7 @@ pub record Total (terms : Terms) (input proof model : List ℕ) (answer : Answer
       → ((v : Verdict) × Comes v answer) ⊎ LimitMet answer
   -- for all others
   pub refuses : ((p : Problem) → read input ≡ sound p → FullSize (terms .limits) proof model → ⊥)
-      → (f : Refusal) × IsRefused f answer × (1 ≤ refusalNumber f) × (refusalNumber f ≤ 13)
+      → (f : Refusal) × IsRefused f answer × BeforeCourse f
 
 abbrev Ends : Answer → Type 0
 Ends a = ((v : Verdict) × Comes v a) ⊎ LimitMet a
@@ -60,20 +64,25 @@ module _ (terms : Terms) (input proof model : List ℕ) (are : AllBytes input) w
   abbrev answer : Answer
   answer = solve terms input proof model .solved .answer
 
-  abbrev OneOfThirteen : Answer → Type 0
-  OneOfThirteen a = (f : Refusal) × IsRefused f a × (1 ≤ refusalNumber f) × (refusalNumber f ≤ 13)
+  abbrev Refuses : Answer → Type 0
+  Refuses a = (f : Refusal) × IsRefused f a × BeforeCourse f
 
-  refused : (f : Refusal) (place : ℕ) → answer ≡ Refused f place → 1 ≤ refusalNumber f → refusalNumber f ≤ 13 → OneOfThirteen answer
-  refused f place e a b = (f, subst (IsRefused f) (sym e) refl, a, b)
+  refused : (f : Refusal) (place : ℕ) → answer ≡ Refused f place → BeforeCourse f → Refuses answer
+  refused f place e b = (f, subst (IsRefused f) (sym e) refl, b)
 
-  others : ((p : Problem) → read input ≡ sound p → FullSize limits proof model → ⊥) → OneOfThirteen answer
+  -- a fault of the input is one of 3 to 13 or 18
+  before : (f : Refusal) → Named f → BeforeCourse f
+  before f (to-13 a b) = inl (omega arith, b)
+  before f (is-18 e) = inr e
+
+  others : ((p : Problem) → read input ≡ sound p → FullSize limits proof model → ⊥) → Refuses answer
   unfolding refusalNumber
   others never =
       ⊎-elim (λ t. refused ShortProof 0 (of (left.short-proof terms input proof model (ltb→lt (length proof) (limit.proofBytes limits) t)))
-      (omega arith) (omega arith))
+      (inl (omega arith, omega arith)))
       (λ t. let z = nltb→le (length proof) (limit.proofBytes limits) t in
       ⊎-elim (λ u. refused ShortModel 0 (of (left.short-model terms input proof model z (ltb→lt (length model) limit.modelBytes u)))
-      (omega arith) (omega arith))
+      (inl (omega arith, omega arith)))
       (λ u. by (record { proofSize = z; modelSize = nltb→le (length model) limit.modelBytes u }) (read input) refl)
       (split (ltb (length model) limit.modelBytes)))
       (split (ltb (length proof) (limit.proofBytes limits)))
@@ -81,10 +90,10 @@ module _ (terms : Terms) (input proof model : List ℕ) (are : AllBytes input) w
       of : {s : Solving} → solve terms input proof model ≡ s → answer ≡ s .solved .answer
       of e = ap (λ (s : Solving). s .solved .answer) e
 
-      by : FullSize limits proof model → (r : Reading) → read input ≡ r → OneOfThirteen answer
+      by : FullSize limits proof model → (r : Reading) → read input ≡ r → Refuses answer
       by full (faulty f place) e =
-          let n = fault-named input f place (names-first input are f place .0 e) in
-          refused f place (of (left.faulty-input terms input proof model full f place e)) (omega (arith, n .least)) (n .most)
+          refused f place (of (left.faulty-input terms input proof model full f place e))
+          (before f (fault-named input f place (names-first input are f place .0 e)))
       by full (sound p) e = absurd (never p e full)
 
   pub total : Total terms input proof model answer

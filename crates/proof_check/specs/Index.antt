@@ -24,7 +24,7 @@ use Rattle.step_check.specs.Named.{partNamed}
 -- clause c stands there, and that is its first split variable
 pub record Entry (q : List ℕ) (sizes : Sizes) (place variable c : ℕ) : Type 0 where
   pub sound : SoundClause q (sizes .rationals) place
-  pub small : variable ≤ limit.allBooleans
+  pub small : variable + splitsOf (clauseAt q (sizes .rationals) place) ≤ limit.allBooleans
   pub named : (k : ℕ) → partNamed (sizes .booleans) (allClauses q sizes) c k
       ≡ getElem? (partsOf variable (clauseAt q (sizes .rationals) place)) k
 
@@ -111,7 +111,7 @@ module _ {q : List ℕ} {sizes : Sizes} {places variables : List ℕ} {at variab
   entry h =
       record {
         sound = ahead-sound (run .ahead) left;
-        small = omega (arith, indexing-small h);
+        small = indexing-small h;
         named = λ k.
             let z : m ≡ m + 0 = omega arith in
             ap (λ (c : ℕ). partNamed (sizes .booleans) (allClauses q sizes) c k) z ∙ run .rest 0 k

@@ -18,12 +18,12 @@ pub fn index(input: &[u8], sizes: Sizes, places: &mut [u16], variables: &mut [u8
     let r = sizes.rationals;
     let n = sizes.clauses as usize;
     let mut at: usize = FIRST_CLAUSE;
-    let mut variable = sizes.booleans;
+    let mut variable = sizes.booleans as usize;
     let mut c: usize = 0;
     while c < n {
         places[c] = at as u16;
-        variables[c] = variable;
-        variable += splits(input, at, r);
+        variables[c] = variable as u8;
+        variable += splits(input, at, r) as usize;
         at = next(input, at, r);
         c += 1;
     }

@@ -2,3 +2,4 @@
 pub mod combine;
 pub mod content;
 pub mod product;
+pub mod turned;

@@ -27,12 +27,12 @@ use Rattle.rules.specs.Values.{walk}
 use Rattle.rules.specs.Model.{written, model}
 use Rattle.rules.specs.Checker.{checkProof, checkClauses}
 
--- ---- a problem, or its first fault 3 to 13
+-- ---- a problem, or its first fault 3 to 13; 18, too: "wherever 3 to 13 are named, it is one of them"
 pub data Reading : Type 0 where
   faulty : Refusal → ℕ → Reading
   sound : Problem → Reading
 
--- 13, after 4 to 12
+-- 13, after 4 to 12 and 18
 unfoldable pub withinSplits : Read Problem → Reading
 withinSplits (fault f place) = faulty f place
 withinSplits (got p bytes place) = elim (overSplit 0 (p .clauses)) [ none ↦ sound p | some start ↦ faulty refusal.Splits start ]
@@ -46,7 +46,7 @@ read input =
     ]
 
 -- ---- what solving comes to
--- a fault 1 to 13; 14 or 15 with the lines held and the pairs tried; or a verdict with the proof's lines, the pairs and the model
+-- a fault 1 to 13 or 18; 14 or 15 with the lines held and the pairs tried; or a verdict with the proof's lines, the pairs and the model
 pub data Outcome : Type 0 where
   faulted : Refusal → ℕ → Outcome
   stopped : Refusal → ℕ → ℕ → Outcome
@@ -82,7 +82,7 @@ lent terms input proof model =
       | false ↦ elim (ltb (length model) limit.modelBytes) [ true ↦ faulted refusal.ShortModel 0 | false ↦ outcome terms input ]
     ]
 
--- what it says: "1 to 13 report no pairs"
+-- what it says: "1 to 13 report no pairs"; (i): "Like 1 to 13, it and all later refusals report no pairs and alter no byte, unless said."
 unfoldable pub said : Outcome → Solved
 said (faulted f place) = record { answer = answer.Refused f place; pairs = 0 }
 said (stopped f steps pairs) = record { answer = answer.Refused f steps; pairs = pairs }

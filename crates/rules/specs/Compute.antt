@@ -13,13 +13,14 @@ use Rattle.rules_types.specs.Terms.{standard}
 use Rattle.rules.specs.Lists.{any, all, filter, concat, same, tabulate, put}
 use Rattle.rules.specs.Arithmetic.{gcdWithin, gcd, gcdAll, lcm, sum, scale, combine, related, isPositive, isNegative, isZero, equal}
 use Rattle.rules.specs.Bytes.{toBytes, fromBytes, fromUnsigned, toUnsigned, amountBytes, fieldAt, padded}
-use Rattle.rules.specs.Problem.{fault, got, after, repeat, byte, number, tested, field, inRange, amount, literal, constraint, clause}
-use Rattle.rules.specs.Problem.{end, problem}
-use Rattle.rules.specs.Meaning.{literalHolds, constraintHolds, clauseHolds}
+use Rattle.rules.specs.Problem.{fault, got, after, repeat, byte, number, tested, field, inRange, amount, literal, clause, end}
+use Rattle.rules.specs.Problem.{problem, isRelation, relationOf, isEquality, relation, comparison, comparisons}
+use Rattle.rules.specs.Meaning.{literalHolds, compared, comparisonHolds, constraintHolds, clauseHolds}
 use Rattle.rules.specs.Lines.{noBooleans, including, excluding, union, meet, someYes, aLiteralHolds, theConstraintHolds, lineHolds}
 use Rattle.rules.specs.Lines.{coefficient, positively, negatively, contains, noConstraint, isEmpty, subset}
+use Rattle.rules.specs.Readings.{isStrict, turns, signed, readAs, reading, hasEquality, readings}
 use Rattle.rules.specs.Normalize.{membersOf, reduced, settled, settledAll, normalClause, settledLine, normalLine}
-use Rattle.rules.specs.Split.{chain, parts, partsOf, splitsOf, overSplit}
+use Rattle.rules.specs.Split.{chain, parts, readingParts, readingSplits, allParts, allSplits, partsOf, splitsOf, overSplit}
 use Rattle.rules.specs.Resolve.{combination, combinationOf, oneOf, resolvent, resolve}
 use Rattle.rules.specs.Steps.{Origin, header, headerBytes, relationByte, mask, row, lineBytes, encodeStep, encodeProof}
 use Rattle.rules.specs.Elimination.{orderBy, remaining, rationalsAfter, orderAfter, roundOf, overflows, limited, unlimited}
@@ -43,7 +44,9 @@ use Rattle.rules.specs.Needs.{stepsOf, pairsOf, needs, listed, triedReso
 unfoldable abbrev pub definitions : Unit {0}
 unfolding any all filter concat same tabulate put gcdWithin gcd gcdAll lcm sum scale combine related isPositive isNegative isZero equal
     toBytes fromBytes fromUnsigned toUnsigned amountBytes fieldAt padded after repeat byte number tested field inRange amount literal
-    constraint clause end problem literalHolds constraintHolds clauseHolds noBooleans including excluding union meet someYes aLiteralHolds
+    isRelation relationOf isEquality relation comparison comparisons clause end problem literalHolds compared comparisonHolds
+    constraintHolds clauseHolds isStrict turns signed readAs reading hasEquality readings readingParts readingSplits allParts
+    allSplits noBooleans including excluding union meet someYes aLiteralHolds
     theConstraintHolds lineHolds coefficient positively negatively contains noConstraint isEmpty subset membersOf reduced settled
     settledAll normalClause settledLine normalLine chain parts partsOf splitsOf overSplit combination combinationOf oneOf resolvent
     resolve header headerBytes relationByte mask row lineBytes encodeStep encodeProof orderBy remaining rationalsAfter orderAfter roundOf
@@ -104,3 +107,8 @@ shownOf q (decided v steps pairs bytes) =
 
 abbrev pub shown : List ℕ → Shown
 shown q = shownOf q (outcome standard q)
+
+-- an example: a problem, and what the paper says of it
+pub record Example : Type 0 where
+  pub input : List ℕ
+  pub shows : Shown

@@ -1,5 +1,5 @@
--- Document 01's starred examples 1 to 10, each variant; example 12 and questions that tell readings of requests (vii) and (viii) apart;
--- computed from the problem's bytes.
+-- Document 01's starred examples 1 to 10, each variant; example 12 and questions that tell readings of requests (vii), (viii) and, in
+-- Equalities, (i) apart; computed from the problem's bytes.
 use mathlib.Core.Path.{_≡_, refl}
 use mathlib.Core.Bool.{true, false}
 use mathlib.Core.List.{List, [], _∷_, _++_, map}
@@ -13,12 +13,8 @@ use Rattle.rules.specs.Steps.{Origin, loaded, resolved}
 use Rattle.rules_types.specs.Terms.{standard}
 use Rattle.rules.specs.Print.{ascii, printed}
 use Rattle.rules.specs.Write.{atMost, below, clauseOf, alone, problemOf}
-use Rattle.rules.specs.Compute.{definitions, Shown, bare, satisfiable, unsatisfiable, shown}
-
--- an example: a problem, and what the paper says of it
-pub record Example : Type 0 where
-  pub input : List ℕ
-  pub shows : Shown
+use Rattle.rules.specs.Compute.{definitions, Example, bare, satisfiable, unsatisfiable, shown}
+use Rattle.rules.specs.Equalities.{equalities}
 
 -- 1. Bytes 0 0 0 0: agrees, 0, 0.
 abbrev one : Example
@@ -340,7 +336,7 @@ table =
     ∷ allKinds ∷ named
     ∷ subsets ∷ eachSign ∷ bareLines ∷ smaller ∷ asStrict ∷ asNormalized ∷ partsToo ∷ splitVariables
     ∷ byResolvents ∷ pairsCount ∷ overflowFirst
-    ∷ twelve 24 ∷ twelve 25 ∷ []
+    ∷ twelve 24 ∷ twelve 25 ∷ equalities
 
 -- the tabled result
 pub starred : map (λ e. shown (e .input)) table ≡ map (λ e. e .shows) table

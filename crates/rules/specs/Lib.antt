@@ -4,6 +4,7 @@ pub mod Bytes
 pub mod Problem
 pub mod Meaning
 pub mod Lines
+pub mod Readings
 pub mod Normalize
 pub mod Split
 pub mod Resolve
@@ -18,5 +19,6 @@ pub mod Print
 pub mod Write
 pub mod Written
 pub mod Compute
+pub mod Equalities
 pub mod Examples
 pub mod Traps

@@ -6,7 +6,8 @@ use lib.IntN.{pos}
 use lib.Signed.{quotZ}
 use Rattle.rules.specs.Lists.{all}
 use Rattle.rules.specs.Arithmetic.{gcdAll, related, isZero}
-use Rattle.rules.specs.Problem.{Literal, Constraint, Clause}
+use Rattle.rules.specs.Problem.{Literal, Constraint}
+use Rattle.rules.specs.Readings.{Disjunction}
 use Rattle.rules.specs.Lines.{Booleans, noBooleans, including, meet, Line}
 
 -- "a literal written twice counts as one": the Boolean variables of one sign, as a set
@@ -49,8 +50,8 @@ settledAll (c ∷ cs) =
       | kept d ↦ elim (settledAll cs) [ none ↦ none | some ds ↦ some (d ∷ ds) ]
     ]
 
--- a clause normalized, or none where it is dropped; "A mark in both signs: the clause is dropped."
-unfoldable pub normalClause : Clause → Option Normal
+-- a reading of a clause normalized, or none where it is dropped; "A mark in both signs: the clause is dropped."
+unfoldable pub normalClause : Disjunction → Option Normal
 normalClause c =
     let p = membersOf false (c .literals) in
     let n = membersOf true (c .literals) in

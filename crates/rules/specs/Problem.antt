@@ -1,5 +1,5 @@
--- The problem ("the question"): what it consists of, and its bytes read field by field to the first fault 4 to 12 with its place.
-use mathlib.Core.Bool.{Bool, true, false, _||_}
+-- The problem ("the question"): what it consists of, and its bytes read field by field to the first fault 4 to 12 or 18 with its place.
+use mathlib.Core.Bool.{Bool, true, false, not, cond, _&&_, _||_}
 use mathlib.Core.List.{List, [], _∷_, _++_}
 use Prim.Native.Nat.{ℕ, zero, suc, _+_, _*_, _-_, _%_}
 use lib.IntN.{ℤ, pos, natAbs}
@@ -16,17 +16,27 @@ pub record Literal : Type 0 where
   pub boolean : ℕ
   pub negated : Bool
 
--- a constraint ("condition"): sum of coefficient × rational variable, ≤ or (strict) <, bound; eight coefficients, 0 from r on
+-- ≤, <, =, ≥
+pub data Relation : Type 0 where
+  le lt eq ge : Relation
+
+-- a comparison ("condition"), as written: sum of coefficient × rational variable, relation, bound; eight coefficients, 0 from r on
+pub record Comparison : Type 0 where
+  pub relation : Relation
+  pub coefficients : List ℤ
+  pub bound : ℤ
+
+-- a constraint, what a comparison is read as and a line holds: ≤ or (strict) <
 pub record Constraint : Type 0 where
   pub strict : Bool
   pub coefficients : List ℤ
   pub bound : ℤ
 
--- a clause as read; `start` is the place of its first byte
+-- a clause as written; `start` is the place of its first byte
 pub record Clause : Type 0 where
   pub start : ℕ
   pub literals : List Literal
-  pub constraints : List Constraint
+  pub comparisons : List Comparison
 
 -- b, r and the clauses
 pub record Problem : Type 0 where
@@ -103,13 +113,43 @@ literal b = do
   code ← field 1 (λ code. ltb (code % 128) b) refusal.Literal
   return (record { boolean = code % 128; negated = leb 128 code })
 
--- "a relation byte (1 is ≤, 2 is <), r coefficients, one bound"
-unfoldable pub constraint : ℕ → Reader Constraint
-constraint r = do
-  relation ← field 1 (λ n. eqb n 1 || eqb n 2) refusal.Relation
+-- "1 is ≤, 2 is <"; "Relation 3 shall mean =, 4 ≥"; 10: "other bytes"
+unfoldable pub isRelation : ℕ → Bool
+isRelation n = leb 1 n && leb n 4
+
+unfoldable pub relationOf : ℕ → Relation
+relationOf n = cond (eqb n 2) lt (cond (eqb n 3) eq (cond (eqb n 4) ge le))
+
+unfoldable pub isEquality : Relation → Bool
+isEquality le = false
+isEquality lt = false
+isEquality eq = true
+isEquality ge = false
+
+-- 18: "a second = in one clause, raised at its relation byte right after 10"; `equated` says that an = stands before it in the clause
+unfoldable pub relation : Bool → Reader Relation
+relation equated = λ bytes place. after (field 1 isRelation refusal.Relation bytes place) (second place)
+  where
+    second : ℕ → ℕ → Reader Relation
+    second place n = do
+      code ← tested (not (equated && isEquality (relationOf n))) refusal.SecondEquality place n
+      return (relationOf code)
+
+-- "a relation byte ..., r coefficients, one bound"
+unfoldable pub comparison : Bool → ℕ → Reader Comparison
+comparison equated r = do
+  relation ← relation equated
   coefficients ← repeat r (amount refusal.Amount)
   bound ← amount refusal.Amount
-  return (record { strict = eqb relation 2; coefficients = coefficients ++ replicate (limit.rationals - r) (pos 0); bound = bound })
+  return (record { relation = relation; coefficients = coefficients ++ replicate (limit.rationals - r) (pos 0); bound = bound })
+
+-- k of them
+unfoldable pub comparisons : ℕ → Bool → ℕ → Reader (List Comparison)
+comparisons zero equated r = return []
+comparisons (suc k) equated r = do
+  c ← comparison equated r
+  cs ← comparisons k (equated || isEquality (c .relation)) r
+  return (c ∷ cs)
 
 -- "a byte m, 0 to 32, then m literals"; "a byte t, 0 to 8, then t conditions"
 unfoldable pub clause : ℕ → ℕ → Reader Clause
@@ -119,9 +159,9 @@ clause b r = λ bytes start. body start bytes start
     body start = do
       m ← field 1 (λ m. leb m limit.literals) refusal.Literal
       literals ← repeat m (literal b)
-      t ← field 1 (λ t. leb t limit.constraints) refusal.Constraints
-      constraints ← repeat t (constraint r)
-      return (record { start = start; literals = literals; constraints = constraints })
+      t ← field 1 (λ t. leb t limit.comparisons) refusal.Comparisons
+      comparisons ← comparisons t false r
+      return (record { start = start; literals = literals; comparisons = comparisons })
 
 -- 12: "bytes follow the last clause; the first"
 unfoldable pub end : Problem → Reader Problem

@@ -1,18 +1,20 @@
--- Document 01's "Traps of this trade", where the starred examples would let a wrong rule pass: one small theorem each.
+-- Document 01's "Traps of this trade", where the starred examples would let a wrong rule pass, and those of request (i) in the checks:
+-- one small theorem each.
 use mathlib.Core.Path.{_≡_, refl}
-use mathlib.Core.List.{List, [], _∷_}
+use mathlib.Core.List.{List, [], _∷_, _++_, map}
 use mathlib.Core.Bool.{false}
-use mathlib.Core.Option.{some}
+use mathlib.Core.Option.{none, some}
 use Prim.Native.Nat.{ℕ}
 use lib.IntN.{ℤ, pos, negsuc}
 use lib.ListN.{replicate}
 use Rattle.rules_types.specs.declared.answers.Checked.{Checked}
-use Rattle.rules_types.specs.declared.answers.Checked.the-variants.{Fails}
+use Rattle.rules_types.specs.declared.answers.Checked.the-variants.{Accepted, Fails}
 use Rattle.rules_types.specs.Terms.{standard}
+use Rattle.rules.specs.Bytes.{toBytes, padded}
 use Rattle.rules.specs.Lines.{noBooleans, rational}
 use Rattle.rules.specs.Steps.{Origin, loaded, resolved, Step, encodeProof}
-use Rattle.rules.specs.Calls.{proofChecked}
-use Rattle.rules.specs.Write.{atMost, below, clauseOf, alone, problemOf}
+use Rattle.rules.specs.Calls.{proofChecked, modelChecked}
+use Rattle.rules.specs.Write.{atMost, below, equals, clauseOf, alone, problemOf}
 use Rattle.rules.specs.Compute.{definitions, satisfiable, unsatisfiable, shown}
 
 -- a line without literals whose constraint is coefficient × x ≤ bound
@@ -87,3 +89,21 @@ pub equal-once-divided : shown (problemOf 0 1
     ≡ unsatisfiable 3 1 (loaded 0 0 ∷ loaded 2 0 ∷ resolved (rational 0) 0 1 ∷ [])
 unfolding definitions
 equal-once-divided = refl
+
+-- (i), "satisfaction is meant with the new relations": a model that meets one reading of x = 5 alone is refused; x is 4, 5, 6
+pub equal-as-written : map (λ x. modelChecked standard (problemOf 0 1 (alone (equals (pos 1 ∷ []) (pos 5)) ∷ []))
+    (padded 64 (0 ∷ 1 ∷ toBytes 4 1 ++ toBytes 4 x))) (4 ∷ 5 ∷ 6 ∷ [])
+    ≡ Fails 0 ∷ Accepted ∷ Fails 0 ∷ []
+unfolding definitions
+equal-as-written = refl
+
+-- (i), "the second's pieces numbered on": of x = 5; x ≤ 4, where -x ≤ -5 is part 1 and not 0
+pub numbered-on : map (λ part. proofCheck (problemOf 0 1 (alone (equals (pos 1 ∷ []) (pos 5)) ∷ alone (atMost (pos 1 ∷ []) (pos 4)) ∷ []))
+    (encodeProof (stepOf (loaded 0 part) (negsuc 0) (negsuc 4) ∷ stepOf (loaded 1 0) (pos 1) (pos 4)
+    ∷ record {
+      origin = resolved (rational 0) 1 0;
+      line = record { positive = noBooleans; negative = noBooleans; constraint = none };
+    } ∷ []))) (0 ∷ 1 ∷ [])
+    ≡ Fails 0 ∷ Accepted ∷ []
+unfolding definitions
+numbered-on = refl

@@ -1,5 +1,5 @@
 -- The problem as written: every field as it stands, whatever its number, before any is tested; its bytes; and what it means.
-use mathlib.Core.Bool.{Bool, _||_}
+use mathlib.Core.Bool.{Bool, false, not, cond, _&&_, _||_}
 use mathlib.Core.List.{List, [], _∷_, _++_, map}
 use Prim.Native.Nat.{ℕ, _+_, _-_, _%_}
 use lib.IntN.{pos}
@@ -11,7 +11,7 @@ use Rattle.rules_types.specs.Limits as limit
 use Rattle.rules_types.specs.Layout as layout
 use Rattle.rules.specs.Lists.{concat}
 use Rattle.rules.specs.Bytes.{toBytes, fromUnsigned}
-use Rattle.rules.specs.Problem.{Literal, Constraint, Clause, Problem, inRange}
+use Rattle.rules.specs.Problem.{Literal, Comparison, Clause, Problem, inRange, relationOf}
 
 -- ---- fields
 -- a number in so many bytes; whether it is within its limits; and the fault where it is not
@@ -28,8 +28,8 @@ unfoldable pub bytesOf : List Field → List ℕ
 bytesOf xs = concat (map fieldBytes xs)
 
 -- ---- what is written, and its fields in order
--- "a relation byte (1 is ≤, 2 is <), r coefficients, one bound"
-pub record WrittenConstraint : Type 0 where
+-- "a relation byte (1 is ≤, 2 is <), r coefficients, one bound"; "Relation 3 shall mean =, 4 ≥"
+pub record WrittenComparison : Type 0 where
   pub relation : ℕ
   pub coefficients : List ℕ
   pub bound : ℕ
@@ -37,7 +37,7 @@ pub record WrittenConstraint : Type 0 where
 -- "each clause: a byte m, 0 to 32, then m literals of one byte"; "a byte t, 0 to 8, then t conditions"
 pub record WrittenClause : Type 0 where
   pub literals : List ℕ
-  pub constraints : List WrittenConstraint
+  pub comparisons : List WrittenComparison
 
 -- "byte: b, the marks, 0 to 16. Byte: r, the figures, 0 to 8. Two bytes: n, the clauses, 0 to 256."
 pub record WrittenProblem : Type 0 where
@@ -49,11 +49,25 @@ pub record WrittenProblem : Type 0 where
 unfoldable pub amountFields : ℕ → List Field
 amountFields n = record { size = 4; number = n; within = inRange (fromUnsigned n); fault = refusal.Amount } ∷ []
 
--- 10: "not 1 or 2"
-unfoldable pub constraintFields : WrittenConstraint → List Field
-constraintFields c =
-    record { size = 1; number = c .relation; within = eqb (c .relation) 1 || eqb (c .relation) 2; fault = refusal.Relation }
-    ∷ (concat (map amountFields (c .coefficients)) ++ amountFields (c .bound))
+-- 10: "Refusal 10 narrows to other bytes"; 18: "a second = in one clause, raised at its relation byte right after 10", where `equated`
+-- says that one stands before it
+unfoldable pub relationField : Bool → ℕ → Field
+relationField equated n =
+    let known = leb 1 n && leb n 4 in
+    record {
+      size = 1;
+      number = n;
+      within = known && not (equated && eqb n 3);
+      fault = cond known refusal.SecondEquality refusal.Relation;
+    }
+
+unfoldable pub comparisonFields : Bool → WrittenComparison → List Field
+comparisonFields equated c =
+    relationField equated (c .relation) ∷ (concat (map amountFields (c .coefficients)) ++ amountFields (c .bound))
+
+unfoldable pub comparisonsFields : Bool → List WrittenComparison → List Field
+comparisonsFields equated [] = []
+comparisonsFields equated (c ∷ cs) = comparisonFields equated c ++ comparisonsFields (equated || eqb (c .relation) 3) cs
 
 -- 8: "m over 32 or mark not below b"
 unfoldable pub literalFields : ℕ → ℕ → List Field
@@ -65,13 +79,13 @@ literalsFields b codes =
     record { size = 1; number = m; within = leb m limit.literals; fault = refusal.Literal } ∷ concat (map (literalFields b) codes)
 
 -- 9: "t over 8"
-unfoldable pub constraintsFields : List WrittenConstraint → List Field
-constraintsFields cs =
+unfoldable pub comparisonListFields : List WrittenComparison → List Field
+comparisonListFields cs =
     let t = length cs in
-    record { size = 1; number = t; within = leb t limit.constraints; fault = refusal.Constraints } ∷ concat (map constraintFields cs)
+    record { size = 1; number = t; within = leb t limit.comparisons; fault = refusal.Comparisons } ∷ comparisonsFields false cs
 
 unfoldable pub clauseFields : ℕ → WrittenClause → List Field
-clauseFields b c = literalsFields b (c .literals) ++ constraintsFields (c .constraints)
+clauseFields b c = literalsFields b (c .literals) ++ comparisonListFields (c .comparisons)
 
 -- 5: "b over 16"; 6: "r over 8"; 7: "n over 256"
 unfoldable pub headerFields : ℕ → ℕ → ℕ → List Field
@@ -91,17 +105,17 @@ unfoldable pub literalMeant : ℕ → Literal
 literalMeant code = record { boolean = code % 128; negated = leb 128 code }
 
 -- "sum of coefficient × figure, relation, bound", with coefficients 0 from r on
-unfoldable pub constraintMeant : WrittenConstraint → Constraint
-constraintMeant c =
+unfoldable pub comparisonMeant : WrittenComparison → Comparison
+comparisonMeant c =
     record {
-      strict = eqb (c .relation) 2;
+      relation = relationOf (c .relation);
       coefficients = map fromUnsigned (c .coefficients) ++ replicate (limit.rationals - length (c .coefficients)) (pos 0);
       bound = fromUnsigned (c .bound);
     }
 
 unfoldable pub clauseMeant : ℕ → WrittenClause → Clause
 clauseMeant start c =
-    record { start = start; literals = map literalMeant (c .literals); constraints = map constraintMeant (c .constraints) }
+    record { start = start; literals = map literalMeant (c .literals); comparisons = map comparisonMeant (c .comparisons) }
 
 -- each clause starts where the one before it ends
 unfoldable pub clausesMeant : ℕ → ℕ → List WrittenClause → List Clause

@@ -1,10 +1,11 @@
--- The numbers and values of every answer. A refusal's number is document 01's; the words that have none there take 64 to 70,
+-- The numbers and values of every answer. A refusal's number is document 01's, or 02's; the words that have none there take 64 to 70,
 -- above every refusal of documents 01 and 02 (docs/DECISIONS.md).
 use Prim.Native.Nat.{ℕ}
 use Rattle.rules_types.specs.declared.answers.Refusal.{Refusal}
 use Rattle.rules_types.specs.declared.answers.Refusal.the-variants.{ShortProof, ShortModel, LongProblem, Truncated, Booleans}
-use Rattle.rules_types.specs.declared.answers.Refusal.the-variants.{Rationals, Clauses, Literal, Constraints, Relation, Amount}
+use Rattle.rules_types.specs.declared.answers.Refusal.the-variants.{Rationals, Clauses, Literal, Comparisons, Relation, Amount}
 use Rattle.rules_types.specs.declared.answers.Refusal.the-variants.{Trailing, Splits, Overflow, OutOfSteps, ProofLength, BadModel}
+use Rattle.rules_types.specs.declared.answers.Refusal.the-variants.{SecondEquality}
 use Rattle.rules_types.specs.declared.answers.Verdict.{Verdict}
 use Rattle.rules_types.specs.declared.answers.Verdict.the-variants.{Satisfiable, Unsatisfiable, Unwritten}
 use Rattle.rules_types.specs.declared.answers.Answer.{Answer}
@@ -14,7 +15,7 @@ use Rattle.rules_types.specs.declared.answers.Checked.the-variants as ch
 use Rattle.rules_types.specs.declared.answers.Evidence.{Evidence}
 use Rattle.rules_types.specs.declared.answers.Evidence.the-variants.{OfProof, OfModel}
 
--- document 01's word after each
+-- its word in document 01, or 02, after each
 unfoldable pub refusalNumber : Refusal → ℕ
 refusalNumber ShortProof = 1  -- "book"
 refusalNumber ShortModel = 2  -- "sheet"
@@ -24,7 +25,7 @@ refusalNumber Booleans = 5  -- "marks"
 refusalNumber Rationals = 6  -- "figures"
 refusalNumber Clauses = 7  -- "clauses"
 refusalNumber Literal = 8  -- "literal"
-refusalNumber Constraints = 9  -- "conditions"
+refusalNumber Comparisons = 9  -- "conditions"
 refusalNumber Relation = 10  -- "relation"
 refusalNumber Amount = 11  -- "amount"
 refusalNumber Trailing = 12  -- "tail"
@@ -33,6 +34,7 @@ refusalNumber Overflow = 14  -- "wide"
 refusalNumber OutOfSteps = 15  -- "full"
 refusalNumber ProofLength = 16  -- "claim"
 refusalNumber BadModel = 17  -- "slip"
+refusalNumber SecondEquality = 18  -- "double"
 
 -- "agrees", "cannot agree", "unwritten"
 unfoldable pub verdictNumber : Verdict → ℕ

@@ -14,15 +14,15 @@ problemClauses = 2
 abbrev pub firstClause : ℕ
 firstClause = 4
 
--- of a constraint: "a relation byte ... r coefficients, one bound"; and the bytes of the whole
-abbrev pub constraintCoefficients : ℕ
-constraintCoefficients = 1
+-- of a comparison: "a relation byte ... r coefficients, one bound"; and the bytes of the whole
+abbrev pub comparisonCoefficients : ℕ
+comparisonCoefficients = 1
 
-abbrev pub constraintBound : ℕ → ℕ
-constraintBound r = 1 + r * 4
+abbrev pub comparisonBound : ℕ → ℕ
+comparisonBound r = 1 + r * 4
 
-abbrev pub constraintBytes : ℕ → ℕ
-constraintBytes r = 5 + r * 4
+abbrev pub comparisonBytes : ℕ → ℕ
+comparisonBytes r = 5 + r * 4
 
 -- of a step: "Byte 0: how ... Byte 1: which ... Two bytes: first parent ... Two: second parent ... Byte 6: relation ... Four bytes each:
 -- positive marks, negative marks ... Eight coefficients ... bound; 12 zero bytes"

@@ -27,8 +27,8 @@ clauses = 256
 abbrev pub literals : ℕ
 literals = 32
 
-abbrev pub constraints : ℕ
-constraints = 8
+abbrev pub comparisons : ℕ
+comparisons = 8
 
 abbrev pub splits : ℕ
 splits = 16

@@ -2,7 +2,7 @@
 ghost use mathlib.Core.Path.{_≡_};
 ghost use Rattle.rules_types.specs.Answers.{refusalNumber};
 
-// A refusal of document 01's table, 1 to 17.
+// A refusal of document 01's table, 1 to 17, or of document 02, from 18 on.
 pub enum Refusal {
     ShortProof,
     ShortModel,
@@ -12,7 +12,7 @@ pub enum Refusal {
     Rationals,
     Clauses,
     Literal,
-    Constraints,
+    Comparisons,
     Relation,
     Amount,
     Trailing,
@@ -21,6 +21,7 @@ pub enum Refusal {
     OutOfSteps,
     ProofLength,
     BadModel,
+    SecondEquality,
 }
 
 impl Refusal {
@@ -36,7 +37,7 @@ impl Refusal {
             Refusal::Rationals => 6,
             Refusal::Clauses => 7,
             Refusal::Literal => 8,
-            Refusal::Constraints => 9,
+            Refusal::Comparisons => 9,
             Refusal::Relation => 10,
             Refusal::Amount => 11,
             Refusal::Trailing => 12,
@@ -45,6 +46,7 @@ impl Refusal {
             Refusal::OutOfSteps => 15,
             Refusal::ProofLength => 16,
             Refusal::BadModel => 17,
+            Refusal::SecondEquality => 18,
         }
     }
 }

@@ -1,8 +1,8 @@
 // Where each field stands in the bytes of a problem, a step and a model (specs/Layout.antt): the one place that has these numbers.
 ghost use mathlib.Core.Path.{_≡_};
-ghost use Rattle.rules_types.specs.Layout.{constraintBound, constraintBytes, modelRationals, modelDenominator, modelNumerators};
+ghost use Rattle.rules_types.specs.Layout.{comparisonBound, comparisonBytes, modelRationals, modelDenominator, modelNumerators};
 
-// Of a problem: b, r and n, then the clauses. Of a constraint, behind its relation: the coefficients.
+// Of a problem: b, r and n, then the clauses. Of a comparison, behind its relation: the coefficients.
 pub const PROBLEM_BOOLEANS: usize = 0;
 
 pub const PROBLEM_RATIONALS: usize = 1;
@@ -11,7 +11,7 @@ pub const PROBLEM_CLAUSES: usize = 2;
 
 pub const FIRST_CLAUSE: usize = 4;
 
-pub const CONSTRAINT_COEFFICIENTS: usize = 1;
+pub const COMPARISON_COEFFICIENTS: usize = 1;
 
 // Of a step: its origin, then its line.
 pub const STEP_HOW: usize = 0;
@@ -37,16 +37,16 @@ pub const MODEL_BOOLEANS: usize = 0;
 
 pub const MODEL_FLAGS: usize = 1;
 
-// Of a constraint with r coefficients: its bound.
-pub fn constraint_bound(r: u8) -> usize
-    ensures { λ at. ⌜ at ≡ constraintBound r ⌝ }
+// Of a comparison with r coefficients: its bound.
+pub fn comparison_bound(r: u8) -> usize
+    ensures { λ at. ⌜ at ≡ comparisonBound r ⌝ }
 {
     1 + (r as usize) * 4
 }
 
-// All bytes of such a constraint.
-pub fn constraint_bytes(r: u8) -> usize
-    ensures { λ n. ⌜ n ≡ constraintBytes r ⌝ }
+// All bytes of such a comparison.
+pub fn comparison_bytes(r: u8) -> usize
+    ensures { λ n. ⌜ n ≡ comparisonBytes r ⌝ }
 {
     5 + (r as usize) * 4
 }

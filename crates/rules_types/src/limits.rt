@@ -1,7 +1,7 @@
 // The limits of document 01, named once: the reader, the elimination and the checker cite them here.
 ghost use mathlib.Core.Path.{_≡_};
 ghost use Rattle.rules_types.specs.Limits.{problemBytes, stepBytes, modelBytes, booleans, rationals, clauses, literals};
-ghost use Rattle.rules_types.specs.Limits.{constraints, splits, allBooleans, amount, steps, standard, proofBytes};
+ghost use Rattle.rules_types.specs.Limits.{comparisons, splits, allBooleans, amount, steps, standard, proofBytes};
 
 // What may differ from caller to caller: the most steps that a proof holds.
 pub struct Limits {
@@ -21,10 +21,10 @@ impl Limits {
     pub const RATIONALS: usize = 8;
 
     pub const CLAUSES: usize = 256;
-    // Literals and constraints of a clause; split variables of a problem.
+    // Literals and comparisons of a clause; split variables of a problem.
     pub const LITERALS: usize = 32;
 
-    pub const CONSTRAINTS: usize = 8;
+    pub const COMPARISONS: usize = 8;
 
     pub const SPLITS: usize = 16;
     // Boolean variables of a line, the split variables among them.
@@ -57,7 +57,7 @@ impl Limits {
         ensures model { λ _. do ⌜ (← ⟦Limits::MODEL_BYTES⟧ .entry) ≡ modelBytes ⌝ }
         ensures problem { λ _. do ⌜ ((← ⟦Limits::BOOLEANS⟧ .entry) ≡ booleans) × ((← ⟦Limits::RATIONALS⟧ .entry) ≡ rationals) ⌝ }
         ensures clause { λ _. do ⌜ ((← ⟦Limits::CLAUSES⟧ .entry) ≡ clauses) × ((← ⟦Limits::LITERALS⟧ .entry) ≡ literals) ⌝ }
-        ensures split { λ _. do ⌜ ((← ⟦Limits::CONSTRAINTS⟧ .entry) ≡ constraints) × ((← ⟦Limits::SPLITS⟧ .entry) ≡ splits) ⌝ }
+        ensures split { λ _. do ⌜ ((← ⟦Limits::COMPARISONS⟧ .entry) ≡ comparisons) × ((← ⟦Limits::SPLITS⟧ .entry) ≡ splits) ⌝ }
         ensures line { λ _. do ⌜ (← ⟦Limits::ALL_BOOLEANS⟧ .entry) ≡ allBooleans ⌝ }
         ensures elimination { λ _. do ⌜ ((← ⟦Limits::AMOUNT⟧ .entry) ≡ amount) × ((← ⟦Limits::STEPS⟧ .entry) ≡ steps) ⌝ }
     {

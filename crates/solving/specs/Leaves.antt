@@ -23,7 +23,7 @@ abbrev pub outcomeAt : Terms → List ℕ → Sizes → Outcome
 outcomeAt terms q sizes =
     let p = inEdition (terms .edition) (problemAt q sizes) in concluded p (elimination (limited (terms .limits)) p)
 
--- ---- faults 1 to 13
+-- ---- faults 1 to 13 and 18
 abbrev pub faultedBy : Refusal → ℕ → Solved
 faultedBy f place = record { answer = Refused f place; pairs = 0 }
 

@@ -5,7 +5,7 @@ use mathlib.Core.List.{List, [], _∷_, _++_, append-assoc}
 use Prim.Native.Nat.{ℕ, _*_, _-_, _^_, _≤_, _<_}
 use native.Mathlib.Nat.{eq-zero-or-pos}
 use native.Mathlib.Omega.{arith}
-use lib.IntN.{ℤ, pos, negsuc}
+use lib.IntN.{ℤ, pos, negsuc, natAbs}
 use lib.Signed.{mag}
 use lib.ListN.{length, length-append}
 use borrow.Author.Tests.{lt-ltb, le-ltb}
@@ -29,6 +29,12 @@ pub toUnsigned-< : (z : ℤ) → mag z < 2 ^ 31 → toUnsigned z < 2 ^ 32
 unfolding toUnsigned
 toUnsigned-< (pos n) h = omega arith
 toUnsigned-< (negsuc n) h = omega arith
+
+pub fromUnsigned-size : (n : ℕ) → natAbs (fromUnsigned n) ≤ 2 ^ 31
+fromUnsigned-size n = ⊎-elim
+    (λ k. rw (fromUnsigned-high n (omega arith)) (omega arith))
+    (λ k. rw (fromUnsigned-low n (omega arith)) (omega arith))
+    (eq-zero-or-pos (2147483648 - n))
 
 pub fromUnsigned-toUnsigned : (z : ℤ) → mag z < 2 ^ 31 → fromUnsigned (toUnsigned z) ≡ z
 unfolding toUnsigned

@@ -1,6 +1,7 @@
 pub mod Bytes
 pub mod Amounts
 pub mod Fields
+pub mod Relations
 pub mod Headers
 pub mod Lines
 pub mod Steps

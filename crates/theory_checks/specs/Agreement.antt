@@ -10,13 +10,13 @@ use lib.ListN.{getD}
 use Rattle.rules_types.specs.declared.answers.Checked.{Checked}
 use Rattle.rules_types.specs.declared.answers.Checked.the-variants.{Fails}
 use Rattle.rules.specs.Arithmetic.{sum}
-use Rattle.rules.specs.Problem.{Literal, Constraint, Clause}
-use Rattle.rules.specs.Meaning.{Assignment, literalHolds, constraintHolds, clauseHolds}
+use Rattle.rules.specs.Problem.{Literal, Comparison, Clause}
+use Rattle.rules.specs.Meaning.{Assignment, literalHolds, comparisonHolds, clauseHolds}
 use Rattle.rules.specs.Checker.{checkClauses}
 use Rattle.theory_lists.specs.Tests.{split}
 use Rattle.theory_lists.specs.All.{All, all-map, any-agree}
 use Rattle.theory_vectors.specs.Dot.{sum-terms}
-use Rattle.theory_splitting.specs.WellFormed.{WellFormedConstraint, WellFormedClause}
+use Rattle.theory_splitting.specs.WellFormed.{WellFormedComparison, WellFormedClause}
 
 -- on b Boolean variables, r rational ones and the denominator
 pub record Agree (b r : ℕ) (χ ξ : Assignment) : Type 0 where
@@ -29,7 +29,7 @@ module _ (b r : ℕ) (χ ξ : Assignment) (agree : Agree b r χ ξ) where
   unfolding literalHolds
   literal-agrees l h = rw (agree .booleans (l .boolean) h)
 
-  sums-agree : (c : Constraint) → WellFormedConstraint r c → sum (c .coefficients) (χ .numerators) ≡ sum (c .coefficients) (ξ .numerators)
+  sums-agree : (c : Comparison) → WellFormedComparison r c → sum (c .coefficients) (χ .numerators) ≡ sum (c .coefficients) (ξ .numerators)
   sums-agree c w = sum-terms cs cs (χ .numerators) (ξ .numerators)
       (λ i. ⊎-elim (λ h. below i (ltb→lt i r h)) (λ h. beyond i (nltb→le i r h)) (split (ltb i r)))
     where
@@ -42,9 +42,9 @@ module _ (b r : ℕ) (χ ξ : Assignment) (agree : Agree b r χ ξ) where
       beyond : (i : ℕ) → r ≤ i → getD cs i (pos 0) *ℤ χ .numerators i ≡ getD cs i (pos 0) *ℤ ξ .numerators i
       beyond i h = rw (w .beyond i h) (zero-*ℤ (χ .numerators i) ∙ sym (zero-*ℤ (ξ .numerators i)))
 
-  constraint-agrees : (c : Constraint) → WellFormedConstraint r c → constraintHolds χ c ≡ constraintHolds ξ c
-  unfolding constraintHolds
-  constraint-agrees c w = rw (sums-agree c w, agree .denominator)
+  comparison-agrees : (c : Comparison) → WellFormedComparison r c → comparisonHolds χ c ≡ comparisonHolds ξ c
+  unfolding comparisonHolds
+  comparison-agrees c w = rw (sums-agree c w, agree .denominator)
 
   clause-agrees : (c : Clause) → WellFormedClause b r c → clauseHolds χ c ≡ clauseHolds ξ c
   unfolding clauseHolds
@@ -52,9 +52,9 @@ module _ (b r : ℕ) (χ ξ : Assignment) (agree : Agree b r χ ξ) where
       rw (
         any-agree (literalHolds χ) (literalHolds ξ) (c .literals)
             (all-map (λ l. l .boolean < b) (λ l. literalHolds χ l ≡ literalHolds ξ l) (c .literals) literal-agrees (w .literals)),
-        any-agree (constraintHolds χ) (constraintHolds ξ) (c .constraints)
-            (all-map (WellFormedConstraint r) (λ k. constraintHolds χ k ≡ constraintHolds ξ k) (c .constraints)
-            constraint-agrees (w .constraints)),
+        any-agree (comparisonHolds χ) (comparisonHolds ξ) (c .comparisons)
+            (all-map (WellFormedComparison r) (λ k. comparisonHolds χ k ≡ comparisonHolds ξ k) (c .comparisons)
+            comparison-agrees (w .comparisons)),
       )
 
   -- so the check of the clauses comes to the same

@@ -3,28 +3,29 @@ use mathlib.Core.Path.{_≡_, refl, _∙_}
 use mathlib.Core.Logic.{_⊎_, ⊎-elim}
 use mathlib.Core.List.{List, [], _∷_}
 use mathlib.Core.Option.{Option, none, some}
-use Prim.Native.Nat.{ℕ, suc, _+_, _≤_}
+use Prim.Native.Nat.{ℕ, suc, _≤_}
 use lib.IntN.{pos}
 use lib.Dec.{T}
 use Rattle.rules.specs.Arithmetic.{gcdAll, isZero}
-use Rattle.rules.specs.Problem.{Constraint, Clause, Problem}
+use Rattle.rules.specs.Problem.{Constraint, Problem}
+use Rattle.rules.specs.Readings.{Disjunction}
 use Rattle.rules.specs.Lines.{Booleans, noBooleans, including, Line, Variable, rational, coefficient, positively, negatively, contains}
 use Rattle.rules.specs.Normalize.{Settled, always, never, kept, settled, settledAll, reduced, Normal, normalClause}
-use Rattle.rules.specs.Split.{chain, parts, partsOf, splitsOf}
+use Rattle.rules.specs.Split.{chain, parts, readingParts}
 use Rattle.rules.specs.Resolve.{resolve}
 use Rattle.rules.specs.Needs.{stepsOf}
-use Rattle.rules.specs.Elimination.{Stops, orderOf, partSteps, loadable, loadableOf, elimination}
+use Rattle.rules.specs.Elimination.{Stops, orderOf, loadableOf, elimination}
 use Rattle.theory_integers.specs.Quotient.{quot-zero}
 use Rattle.theory_lists.specs.Tests.{split}
-use Rattle.theory_lists.specs.All.{All, all-map, all-append}
+use Rattle.theory_lists.specs.All.{All, all-map}
 use Rattle.theory_lists.specs.Dropped.{DroppedOr, dropped-then, dropped-is}
 use Rattle.theory_vectors.specs.Sign.{zero-yes}
 use Rattle.theory_vectors.specs.Constraint.{getD-quotients}
 use Rattle.theory_resolution.specs.Settled.{settled-cases}
 use Rattle.theory_resolution.specs.Variables.{contains-rational, resolve-variables}
-use Rattle.theory_splitting.specs.WellFormed.{WellFormedConstraint, WellFormedClause, WellFormed}
+use Rattle.theory_splitting.specs.WellFormed.{WellFormedConstraint, WellFormed}
 use Rattle.theory_splitting.specs.NormalClause.{clause-ends}
-use Rattle.theory_splitting.specs.SplitProblem.{partSteps-all}
+use Rattle.theory_splitting.specs.SplitProblem.{loadable-each}
 use Rattle.theory_elimination.specs.Closed.{elimination-closed}
 use Rattle.theory_elimination.specs.Chosen.{elimination-ordered}
 
@@ -79,9 +80,9 @@ module _ (r : ℕ) where
   parts-few k p n [] h = (none-few, tt)
   parts-few k p n (c ∷ cs) h = chain-few k p n c cs (h .0) (h .1)
 
-  clause-few : (k : ℕ) (c : Clause) → Fews (c .constraints) → All NarrowLine (partsOf k c)
-  unfolding partsOf
-  clause-few k c h =
+  reading-few : (k : ℕ) (c : Disjunction) → Fews (c .constraints) → All NarrowLine (readingParts k c)
+  unfolding readingParts
+  reading-few k c h =
       by (normalClause c)
       (clause-ends (DroppedOr (λ n. Fews (n .constraints))) c (λ m. tt) (λ n. dropped-then Fews (λ n. Fews (n .constraints)) _
       (settledAll (c .constraints)) (settled-few (c .constraints) h) (λ cs k. k)))
@@ -89,13 +90,6 @@ module _ (r : ℕ) where
       by : (o : Option Normal) → DroppedOr (λ n. Fews (n .constraints)) o → All NarrowLine (elim o [ none ↦ [] | some n ↦ parts k n ])
       by none d = tt
       by (some n) d = parts-few k (n .positive) (n .negative) (n .constraints) d
-
-  loadable-few : (c k : ℕ) (xs : List Clause) → All (λ x. Fews (x .constraints)) xs → All (λ s. NarrowLine (s .line)) (loadable c k xs)
-  unfolding loadable
-  loadable-few c k [] h = tt
-  loadable-few c k (x ∷ xs) h =
-      all-append (λ s. NarrowLine (s .line)) (partSteps c 0 (partsOf k x)) (loadable (suc c) (k + splitsOf x) xs)
-      (partSteps-all NarrowLine c 0 (partsOf k x) (clause-few k x (h .0))) (loadable-few (suc c) (k + splitsOf x) xs (h .1))
 
   -- ---- and so of the resolvents
   absent : (l : Line) (f : ℕ) → coefficient f (l .constraint) ≡ pos 0 → T (contains (rational f) l) → ⊥
@@ -112,14 +106,12 @@ module _ (r : ℕ) where
 
 pub elimination-narrow : (stops : Stops) (p : Problem) → WellFormed p
     → All (λ s. NarrowLine (p .rationals) (s .line)) (stepsOf (elimination stops p))
-unfolding loadableOf coefficient
+unfolding coefficient
 elimination-narrow stops p w =
     rw (elimination-ordered stops p)
     (elimination-closed (NarrowLine (p .rationals)) stops (orderOf p) (loadableOf p) (resolve-few (p .rationals))
-    (loadable-few (p .rationals) 0 (p .booleans) (p .clauses)
-    (all-map (WellFormedClause (p .booleans) (p .rationals)) (λ x. All (λ c. Few (p .rationals) (some c)) (x .constraints)) (p .clauses)
-    (λ x k. all-map (WellFormedConstraint (p .rationals)) (λ c. Few (p .rationals) (some c)) (x .constraints) constraint-few
-    (k .constraints)) (w .clauses))))
+    (loadable-each p w (NarrowLine (p .rationals)) (λ k d h. reading-few (p .rationals) k d
+    (all-map (WellFormedConstraint (p .rationals)) (λ c. Few (p .rationals) (some c)) (d .constraints) constraint-few (h .constraints)))))
   where
     constraint-few : (c : Constraint) → WellFormedConstraint (p .rationals) c → Few (p .rationals) (some c)
     constraint-few c k f h = k .beyond f h

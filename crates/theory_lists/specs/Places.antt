@@ -3,7 +3,7 @@ use mathlib.Core.Path.{_≡_, refl, sym, subst}
 use mathlib.Core.Logic.{inl, inr}
 use mathlib.Core.List.{List, [], _∷_, _++_}
 use mathlib.Core.Option.{some}
-use Prim.Native.Nat.{ℕ, zero, suc, _<_}
+use Prim.Native.Nat.{ℕ, zero, suc, _-_, _≤_, _<_}
 use native.Mathlib.Omega.{arith}
 use lib.ListN.{length, getElem?}
 use Rattle.theory_lists.specs.All.{All, Any, all-any}
@@ -58,3 +58,16 @@ module _ {A : Type 0} where
   pub element-last : (s : List A) (a : A) → getElem? (s ++ (a ∷ [])) (length s) ≡ some a
   element-last [] a = refl
   element-last (x ∷ s) a = element-last s a
+
+-- ---- in joined lists
+module _ {A : Type 0} where
+  pub element-left : (s t : List A) (j : ℕ) → j < length s → getElem? s j ≡ getElem? (s ++ t) j
+  element-left [] t j h = absurd (omega arith)
+  element-left (a ∷ s) t zero h = refl
+  element-left (a ∷ s) t (suc j) h = element-left s t j (omega arith)
+
+  pub element-right : (s t : List A) (j : ℕ) → length s ≤ j → getElem? t (j - length s) ≡ getElem? (s ++ t) j
+  element-right [] t j h = let e : j - 0 ≡ j = omega arith in rw e
+  element-right (a ∷ s) t zero h = absurd (omega arith)
+  element-right (a ∷ s) t (suc j) h = let e : suc j - suc (length s) ≡ j - length s = omega arith in
+      rw e (element-right s t j (omega arith))

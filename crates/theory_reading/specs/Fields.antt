@@ -1,6 +1,6 @@
 -- A tested field is judged by itself: its number in its bytes, within the limits exactly if the test says so.
 use mathlib.Core.Path.{_≡_, refl, ap}
-use mathlib.Core.Bool.{Bool, true, false}
+use mathlib.Core.Bool.{Bool, true, false, not, cond, _&&_}
 use mathlib.Core.List.{List, [], _∷_, _++_}
 use Prim.Native.Nat.{ℕ, zero, suc, _+_, _*_, _/_, _%_, _^_, _<_}
 use native.Mathlib.Nat.{pow-succ'}
@@ -9,7 +9,7 @@ use lib.ListN.{length}
 use Rattle.rules_types.specs.declared.answers.Refusal.{Refusal}
 use Rattle.rules_types.specs.declared.answers.Refusal.the-variants as refusal
 use Rattle.rules.specs.Bytes.{toBytes}
-use Rattle.rules.specs.Problem.{Read, fault, got, after, return, byte, number, tested, field}
+use Rattle.rules.specs.Problem.{Read, fault, got, Reader, after, return, byte, number, tested, field}
 use Rattle.rules.specs.Written.{Field}
 use Rattle.theory_lists.specs.All.{All}
 use Rattle.theory_bytes.specs.Bytes.{AllBytes, length-toBytes}
@@ -77,20 +77,23 @@ number-short (suc k) n (x ∷ input) missing place e m =
     let p : suc place + length input ≡ place + suc (length input) = omega arith in
     rw (number-short k (n / 256) input missing (suc place) t m, p)
 
--- ---- a tested field
-module _ (size : ℕ) (good : ℕ → Bool) (f : Refusal) where
+-- ---- a tested field, whose fault may depend on its number
+module _ (size : ℕ) (good : ℕ → Bool) (f : ℕ → Refusal) where
   abbrev pub only : ℕ → List Field
-  only n = record { size = size; number = n; within = good n; fault = f } ∷ []
+  only n = record { size = size; number = n; within = good n; fault = f n } ∷ []
 
-  reads : (input : List ℕ) → AllBytes input → (place : ℕ) → Followed only (λ n. Unit {0}) return input place (field size good f input place)
-  unfolding field after tested
+  abbrev pub tried : Reader ℕ
+  tried = λ bytes place. after (number size bytes place) (λ n. tested (good n) (f n) place n)
+
+  reads : (input : List ℕ) → AllBytes input → (place : ℕ) → Followed only (λ n. Unit {0}) return input place (tried input place)
+  unfolding after tested
   reads input h place = let r = number-reads size input h place in by (r .0) (r .1) (r .2)
     where
       by : (n : ℕ) → n < 256 ^ size → Numbered size input place n (number size input place)
-          → Followed only (λ n. Unit {0}) return input place (field size good f input place)
+          → Followed only (λ n. Unit {0}) return input place (tried input place)
       by n l (whole rest e q) = go (good n) refl
         where
-          go : (b : Bool) → good n ≡ b → Followed only (λ n. Unit {0}) return input place (field size good f input place)
+          go : (b : Bool) → good n ≡ b → Followed only (λ n. Unit {0}) return input place (tried input place)
           go true t = record {
             written = n;
             made = tt;
@@ -103,7 +106,7 @@ module _ (size : ℕ) (good : ℕ → Bool) (f : Refusal) where
             written = n;
             made = tt;
             fits = (l, tt);
-            outcome = failed f place;
+            outcome = failed (f n) place;
             follows = fails rest e t refl;
             is = rw (q, t);
           }
@@ -117,11 +120,32 @@ module _ (size : ℕ) (good : ℕ → Bool) (f : Refusal) where
       }
 
   back : (n : ℕ) → All Fits (only n) → (input : List ℕ) (place : ℕ) (o : Outcome) → Follows (only n) input place o
-      → field size good f input place ≡ finish (return n) o
-  unfolding field after tested
+      → tried input place ≡ finish (return n) o
+  unfolding after tested
   back n h input place o (passes rest e w c) = rw (c, e, number-whole size n rest place (h .0), w)
   back n h input place o (fails rest e w c) = rw (c, e, number-whole size n rest place (h .0), w)
   back n h input place o (ends missing e m c) = rw (c, number-short size n input missing place e m)
 
-  pub field-judged : Judged (field size good f) only (λ n. Unit {0}) (λ place n. return n)
-  field-judged = record { reads = reads; back = λ n p h. back n h }
+  pub tried-judged : Judged tried only (λ n. Unit {0}) (λ place n. return n)
+  tried-judged = record { reads = reads; back = λ n p h. back n h }
+
+pub field-judged : (size : ℕ) (good : ℕ → Bool) (f : Refusal)
+    → Judged (field size good f) (only size good (λ n. f)) (λ n. Unit {0}) (λ place n. return n)
+unfolding field
+field-judged size good f = tried-judged size good (λ n. f)
+
+-- two tests of one field, the second right after the first, are one test with two faults
+module _ {A : Type 0} (first second : ℕ → Bool) (m : ℕ → A) (f g : Refusal) (place : ℕ) where
+  pub tried-twice : (r : Read ℕ)
+      → after (after r (λ n. tested (first n) f place n))
+      (λ n bytes next. after (tested (not (second n)) g place n bytes next) (λ n. return (m n)))
+      ≡ after (after r (λ n. tested (first n && not (second n)) (cond (first n) g f) place n)) (λ n. return (m n))
+  unfolding after tested
+  tried-twice (fault h p) = refl
+  tried-twice (got n rest next) = by (first n)
+    where
+      by : (t : Bool) → after (tested t f place n rest next)
+          (λ n bytes next. after (tested (not (second n)) g place n bytes next) (λ n. return (m n)))
+          ≡ after (tested (t && not (second n)) (cond t g f) place n rest next) (λ n. return (m n))
+      by true = refl
+      by false = refl

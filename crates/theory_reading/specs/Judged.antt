@@ -130,6 +130,16 @@ module _ {A B : Type 0} (g : A → B) where
     back = λ w p h input place o f. finish-mapped (first input place) (m place w) o (j .back w p h input place o f);
   }
 
+-- ---- another reader that reads the same
+pub same-judged : {A W : Type 0} {reader other : Reader A} {xs : W → List Field} {P : W → Type 0} {last : ℕ → W → Reader A}
+    → ((input : List ℕ) (place : ℕ) → other input place ≡ reader input place)
+    → Judged reader xs P last
+    → Judged other xs P last
+same-judged e j = record {
+  reads = λ input h place. rw (e input place) (j .reads input h place);
+  back = λ w p h input place o f. e input place ∙ j .back w p h input place o f;
+}
+
 -- ---- the same fields, of another type
 module _ {A W X : Type 0} where
   pub record Renamed (xs : W → List Field) (last : ℕ → W → Reader A) (ys : X → List Field) (Q : X → Type 0)

@@ -15,10 +15,10 @@ use Rattle.rules.specs.Written.{Field, fieldBytes, bytesOf, WrittenProblem, fie
 use Rattle.theory_lists.specs.All.{All, Any}
 use Rattle.theory_splitting.specs.WellFormed.{splitsIn}
 
--- it can be written at all: each number fits its bytes, and each constraint has r coefficients
+-- it can be written at all: each number fits its bytes, and each comparison has r coefficients
 pub record Writable (w : WrittenProblem) : Type 0 where
   pub numbers : All (λ x. x .number < 256 ^ x .size) (fieldsOf w)
-  pub coefficients : All (λ c. All (λ k. length (k .coefficients) ≡ w .rationals) (c .constraints)) (w .clauses)
+  pub coefficients : All (λ c. All (λ k. length (k .coefficients) ≡ w .rationals) (c .comparisons)) (w .clauses)
 
 abbrev pub AllWithin : List Field → Type 0
 AllWithin xs = All (λ x. x .within ≡ true) xs
@@ -63,7 +63,7 @@ pub record Cut (input : List ℕ) (f : Refusal) (place : ℕ) : Type 0 where
   pub fault-is : f ≡ refusal.Truncated
   pub place-is : place ≡ length input
 
--- 5 to 11, "as fields are read": the first field outside its limits, with its fault; its first byte
+-- 5 to 11, "as fields are read", and 18, "right after 10": the first field outside its limits, with its fault; its first byte
 pub record Outside (input : List ℕ) (f : Refusal) (place : ℕ) : Type 0 where
   pub before : List Field
   pub it : Field

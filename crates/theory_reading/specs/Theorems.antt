@@ -27,7 +27,7 @@ some-answer input h = (read input, says input h)
 pub one-answer : (input : List ℕ) (a b : Reading) → Says input a → Says input b → a ≡ b
 one-answer input a b h k = sym (answered input a h) ∙ answered input b k
 
--- ---- 5 to 11: with the field read, no problem as written that begins with these bytes is without the fault
+-- ---- 5 to 11 and 18: with the field read, no problem as written that begins with these bytes is without the fault
 pub none-without : (input : List ℕ) (f : Refusal) (place : ℕ) (h : Outside input f place) (w : WrittenProblem) → Writable w
     → (rest : List ℕ)
     → bytesOf (fieldsOf w) ≡ take (place + h .it .size) input ++ rest

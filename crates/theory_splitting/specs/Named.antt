@@ -14,7 +14,7 @@ use Rattle.rules.specs.Elimination.{partSteps, loadable, loadableOf}
 use Rattle.theory_lists.specs.All.{All, all-map, all-append}
 use Rattle.theory_lists.specs.Places.{element-any, element-all}
 use Rattle.theory_splitting.specs.WellFormed.{WellFormedClause, splitsIn, WellFormed}
-use Rattle.theory_splitting.specs.SplitClause.{splits-apart}
+use Rattle.theory_splitting.specs.SplitReadings.{splits-apart}
 
 -- a part of these, the first of which is named `from`
 pub record PartOf (c from : ℕ) (ls : List Line) (s : Step) : Type 0 where

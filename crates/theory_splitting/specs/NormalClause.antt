@@ -1,4 +1,4 @@
--- Normalizing a clause keeps its meaning: it holds exactly if it is dropped or the normal clause holds.
+-- Normalizing a reading of a clause keeps its meaning: it holds exactly if it is dropped or the normal clause holds.
 use mathlib.Core.Path.{_≡_, sym, _∙_}
 use mathlib.Core.Bool.{Bool, true, false, not, _||_, or-assoc, Bool·beq}
 use mathlib.Core.Logic.{_↔_, ⊎-elim}
@@ -12,8 +12,9 @@ use Rattle.rules_types.specs.Limits as limit
 use Rattle.theory_lists.specs.Tests.{split, is-true, is-false, or-l, or-r, or-map, or-left-comm}
 use Rattle.theory_lists.specs.All.{All}
 use Rattle.rules.specs.Lists.{any}
-use Rattle.rules.specs.Problem.{Literal, Constraint, Clause}
-use Rattle.rules.specs.Meaning.{Assignment, literalHolds, constraintHolds, clauseHolds}
+use Rattle.rules.specs.Problem.{Literal, Constraint}
+use Rattle.rules.specs.Readings.{Disjunction}
+use Rattle.rules.specs.Meaning.{Assignment, literalHolds, constraintHolds}
 use Rattle.rules.specs.Lines.{Booleans, including, meet, someYes}
 use Rattle.rules.specs.Normalize.{membersOf, Settled, always, never, kept, settled, Normal, settledAll, normalClause}
 use Rattle.theory_resolution.specs.Members.{none-yes, length-none, length-including, yes-including}
@@ -21,7 +22,11 @@ use Rattle.theory_lists.specs.Dropped.{DroppedOr, dropped-holds}
 use Rattle.theory_resolution.specs.Holds.{both-signs}
 use Rattle.theory_resolution.specs.Settled.{SettledHolds, settled-holds}
 
--- some literal of either sign holds, or some constraint
+-- a reading holds by a literal or a constraint
+unfoldable pub readingHolds : Assignment → Disjunction → Bool
+readingHolds χ d = any (literalHolds χ) (d .literals) || any (constraintHolds χ) (d .constraints)
+
+-- normalized: some literal of either sign holds, or some constraint
 unfoldable pub normalHolds : Assignment → Normal → Bool
 normalHolds χ n = (someYes (n .positive) (χ .booleans) || someYes (n .negative) (λ i. not (χ .booleans i)))
     || any (constraintHolds χ) (n .constraints)
@@ -83,8 +88,8 @@ module _ (χ : Assignment) where
   settled-all-holds d (c ∷ cs) = one-constraint (constraintHolds χ c) (any (constraintHolds χ) cs) (settled c) (settledAll cs)
       (settled-holds χ d c) (settled-all-holds d cs)
 
--- ---- clauses: the ends of one, for any claim of them
-abbrev pub normalOf : Clause → Option (List Constraint) → Option Normal
+-- ---- readings: the ends of one, for any claim of them
+abbrev pub normalOf : Disjunction → Option (List Constraint) → Option Normal
 normalOf c o = elim o [
   | none ↦ none
   | some cs ↦ some (record {
@@ -94,20 +99,20 @@ normalOf c o = elim o [
   })
 ]
 
-abbrev pub meets : Clause → Bool
+abbrev pub meets : Disjunction → Bool
 meets c = meet (membersOf false (c .literals)) (membersOf true (c .literals))
 
-pub clause-ends : (P : Option Normal → Type 0) (c : Clause) → (T (meets c) → P none)
+pub clause-ends : (P : Option Normal → Type 0) (c : Disjunction) → (T (meets c) → P none)
     → (T (not (meets c)) → P (normalOf c (settledAll (c .constraints)))) → P (normalClause c)
 unfolding normalClause
 clause-ends P c m n =
     ⊎-elim (λ h. rw (is-true (meets c) h, normalClause) (m h)) (λ h. rw (is-false (meets c) h, normalClause) (n h)) (split (meets c))
 
-module _ (χ : Assignment) (d : 0 < χ .denominator) (c : Clause) (w : All (λ l. l .boolean < limit.allBooleans) (c .literals)) where
+module _ (χ : Assignment) (d : 0 < χ .denominator) (c : Disjunction) (w : All (λ l. l .boolean < limit.allBooleans) (c .literals)) where
   with-constraints : (o : Option (List Constraint)) → T (any (constraintHolds χ) (c .constraints))
       ↔ DroppedOr (λ ds. T (any (constraintHolds χ) ds)) o
-      → T (clauseHolds χ c) ↔ DroppedOr (λ n. T (normalHolds χ n)) (normalOf c o)
-  unfolding clauseHolds normalHolds
+      → T (readingHolds χ c) ↔ DroppedOr (λ n. T (normalHolds χ n)) (normalOf c o)
+  unfolding readingHolds normalHolds
   with-constraints none e = (λ h. tt, λ h. or-r (any (literalHolds χ) (c .literals)) (any (constraintHolds χ) (c .constraints)) (e .1 tt))
   with-constraints (some cs) e =
       let L = any (literalHolds χ) (c .literals) in
@@ -115,8 +120,8 @@ module _ (χ : Assignment) (d : 0 < χ .denominator) (c : Clause) (w : All (λ l
       let D = any (constraintHolds χ) cs in
       rw (← literals-hold χ (c .literals) w) (or-map L C L D (λ h. h) (e .0), or-map L D L C (λ h. h) (e .1))
 
-  meets-holds : T (meets c) → T (clauseHolds χ c)
-  unfolding clauseHolds
+  meets-holds : T (meets c) → T (readingHolds χ c)
+  unfolding readingHolds
   meets-holds m =
       let p = membersOf false (c .literals) in
       let n = membersOf true (c .literals) in
@@ -125,10 +130,10 @@ module _ (χ : Assignment) (d : 0 < χ .denominator) (c : Clause) (w : All (λ l
       or-l (any (literalHolds χ) (c .literals)) (any (constraintHolds χ) (c .constraints))
       (rw (literals-hold χ (c .literals) w) (⊎-elim (or-l P N) (or-r P N) (both-signs χ p n m)))
 
-  pub normal-clause-holds : T (clauseHolds χ c) ↔ DroppedOr (λ n. T (normalHolds χ n)) (normalClause c)
+  pub normal-clause-holds : T (readingHolds χ c) ↔ DroppedOr (λ n. T (normalHolds χ n)) (normalClause c)
   normal-clause-holds =
-      clause-ends (λ o. T (clauseHolds χ c) ↔ DroppedOr (λ n. T (normalHolds χ n)) o) c (λ m. (λ h. tt, λ h. meets-holds m))
+      clause-ends (λ o. T (readingHolds χ c) ↔ DroppedOr (λ n. T (normalHolds χ n)) o) c (λ m. (λ h. tt, λ h. meets-holds m))
       (λ m. with-constraints (settledAll (c .constraints)) (settled-all-holds χ d (c .constraints)))
 
-  pub dropped-clause-holds : normalClause c ≡ none → T (clauseHolds χ c)
+  pub dropped-clause-holds : normalClause c ≡ none → T (readingHolds χ c)
   dropped-clause-holds = dropped-holds (λ n. T (normalHolds χ n)) (normalClause c) normal-clause-holds

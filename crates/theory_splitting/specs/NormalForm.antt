@@ -1,4 +1,4 @@
--- The form of a normal clause: its Boolean variables, each in one sign, are those of the clause, and its constraints keep their
+-- The form of a normal clause: its Boolean variables, each in one sign, are those of the reading, and its constraints keep their
 -- length and the range of their amounts.
 use mathlib.Core.Path.{_≡_, sym, _∙_, subst}
 use mathlib.Core.Bool.{Bool, true, false, not, Bool·beq}
@@ -11,7 +11,8 @@ use lib.Dec.{T}
 use lib.ListN.{length}
 use Rattle.rules_types.specs.Limits as limit
 use Rattle.theory_lists.specs.All.{All}
-use Rattle.rules.specs.Problem.{Literal, Constraint, Clause}
+use Rattle.rules.specs.Problem.{Literal, Constraint}
+use Rattle.rules.specs.Readings.{Disjunction}
 use Rattle.rules.specs.Lines.{Booleans, noBooleans, including, meet}
 use Rattle.rules.specs.Normalize.{membersOf, Settled, always, never, kept, settled, Normal, settledAll, normalClause}
 use Rattle.theory_vectors.specs.Amounts.{SmallAmounts, reduced-small}
@@ -95,7 +96,7 @@ pub record NormalForm (P : ℕ → Type 0) (n : Normal) : Type 0 where
   pub negative : Within P (n .negative)
   pub constraints : All Kept (n .constraints)
 
-normal-with : (P : ℕ → Type 0) (c : Clause) → T (not (meets c)) → All (λ l. P (l .boolean)) (c .literals)
+normal-with : (P : ℕ → Type 0) (c : Disjunction) → T (not (meets c)) → All (λ l. P (l .boolean)) (c .literals)
     → DroppedOr (All Kept) (settledAll (c .constraints))
     → DroppedOr (NormalForm P) (normalOf c (settledAll (c .constraints)))
 normal-with P c n l e =
@@ -109,7 +110,7 @@ normal-with P c n l e =
       constraints = h;
     })
 
-pub normal-form : (P : ℕ → Type 0) (c : Clause) → All (λ l. P (l .boolean)) (c .literals) → All Sized (c .constraints)
+pub normal-form : (P : ℕ → Type 0) (c : Disjunction) → All (λ l. P (l .boolean)) (c .literals) → All Sized (c .constraints)
     → DroppedOr (NormalForm P) (normalClause c)
 normal-form P c l e =
     clause-ends (DroppedOr (NormalForm P)) c (λ m. tt) (λ n. normal-with P c n l (settled-all Kept Sized settled-kept (c .constraints) e))

@@ -1,4 +1,4 @@
--- What a clause normalized is, said by literals, coefficients and bounds.
+-- What a reading of a clause normalized is, said by literals, coefficients and bounds.
 use mathlib.Core.Path.{_≡_, refl, sym, _∙_, subst}
 use mathlib.Core.Bool.{Bool, true, false, not, Bool·beq}
 use mathlib.Core.Logic.{_↔_, _⊎_, inl, inr, ⊎-elim}
@@ -10,7 +10,8 @@ use lib.IntN.{pos}
 use lib.Dec.{T}
 use lib.ListN.{length}
 use Rattle.rules_types.specs.Limits as limit
-use Rattle.rules.specs.Problem.{Literal, Constraint, Clause}
+use Rattle.rules.specs.Problem.{Literal, Constraint}
+use Rattle.rules.specs.Readings.{Disjunction}
 use Rattle.rules.specs.Lines.{Booleans, including, meet}
 use Rattle.rules.specs.Normalize.{Settled, always, never, kept, Normal, membersOf, settled, settledAll, normalClause}
 use Rattle.theory_lists.specs.All.{All, Any}
@@ -43,7 +44,7 @@ Remain (c ∷ cs) (d ∷ ds) = (Settles (some c) none × Remain cs (d ∷ ds)) �
 abbrev pub BothSigns : List Literal → Type 0
 BothSigns ls = (i : ℕ) × Written ls false i × Written ls true i
 
-abbrev pub NormalizedTo : Clause → Option Normal → Type 0
+abbrev pub NormalizedTo : Disjunction → Option Normal → Type 0
 NormalizedTo c none = BothSigns (c .literals) ⊎ Any True (c .constraints)
 NormalizedTo c (some n) = (BothSigns (c .literals) → ⊥) × MembersAre (c .literals) false (n .positive)
     × MembersAre (c .literals) true (n .negative) × Remain (c .constraints) (n .constraints)
@@ -114,7 +115,7 @@ all-settled [] = refl
 all-settled (c ∷ cs) = one-settled c cs (settled c) (settled-is c) (settledAll cs) (all-settled cs)
 
 -- ---- the clause
-module _ (c : Clause) (w : All (λ l. l .boolean < limit.allBooleans) (c .literals)) where
+module _ (c : Disjunction) (w : All (λ l. l .boolean < limit.allBooleans) (c .literals)) where
   abbrev positives : Booleans
   positives = membersOf false (c .literals)
 

@@ -19,7 +19,7 @@ module _ {A : Type 0} where
   abbrev pub Yields : (A → Type 0) → Reader A → Type 0
   Yields P reader = (bytes : List ℕ) (place : ℕ) → Gives P (reader bytes place)
 
-  gives-any : (r : Read A) → Gives (λ a. Unit {0}) r
+  pub gives-any : (r : Read A) → Gives (λ a. Unit {0}) r
   gives-any (fault f place) = tt
   gives-any (got a bytes place) = tt
 

@@ -1,13 +1,13 @@
 -- Every problem that reading accepts is well formed.
 use mathlib.Core.Path.{_≡_, refl, subst}
-use mathlib.Core.Bool.{Bool}
+use mathlib.Core.Bool.{Bool, true, false, not, cond, _&&_, _||_}
 use mathlib.Core.Logic.{⊎-elim}
 use mathlib.Core.List.{List, [], _∷_, _++_}
 use mathlib.Core.Option.{Option, none, some}
 use Prim.Native.Nat.{ℕ, zero, suc, _+_, _-_, _%_, _≤_, _<_}
 use native.Mathlib.Omega.{arith}
 use lib.IntN.{ℤ, pos}
-use lib.Dec.{eqb, ltb, leb→le, ltb→lt, nltb→le}
+use lib.Dec.{ltb, leb→le, ltb→lt, nltb→le}
 use lib.ListN.{length, getD, replicate, length-append, length-replicate}
 use Rattle.rules_types.specs.declared.answers.Refusal.{Refusal}
 use Rattle.rules_types.specs.declared.answers.Refusal.the-variants as refusal
@@ -15,19 +15,21 @@ use Rattle.rules_types.specs.Limits as limit
 use Rattle.theory_lists.specs.Tests.{split, is-true, is-false}
 use Rattle.theory_lists.specs.All.{All, all-append, getD-replicate-same}
 use Rattle.rules.specs.Bytes.{fromUnsigned}
-use Rattle.rules.specs.Problem.{Clause, Problem, inEdition, Read, fault, got, amount, literal, constraint, clause, end, problem}
+use Rattle.rules.specs.Problem.{Relation, Comparison, Clause, Problem, inEdition, Read, fault, got, after, return, tested, field}
+use Rattle.rules.specs.Problem.{amount, literal, isRelation, relationOf, isEquality, relation, comparison, comparisons, clause, end}
+use Rattle.rules.specs.Problem.{problem}
 use Rattle.rules.specs.Split.{splitsOf, overSplit}
 use Rattle.rules.specs.Calls.{Reading, faulty, sound, withinSplits, read}
 use Rattle.theory_vectors.specs.Amounts.{Small, range-small, zeros-small}
-use Rattle.theory_splitting.specs.WellFormed.{WellFormedConstraint, WellFormedClause, splitsIn, WellFormed}
-use Rattle.theory_splitting.specs.Readers.{Gives, Yields, then-yields, field-then, repeat-then}
+use Rattle.theory_splitting.specs.WellFormed.{WellFormedRow, WellFormedComparison, WellFormedClause, equalities, splitsIn, WellFormed}
+use Rattle.theory_splitting.specs.Readers.{Gives, Yields, gives-any, after-gives, then-yields, field-then, repeat-then}
 
 -- ---- literals
 literal-yields : (b : ℕ) → Yields (λ l. l .boolean < b) (literal b)
 unfolding literal
 literal-yields b = field-then (λ l. l .boolean < b) _ _ _ _ (λ code h bytes place. ltb→lt (code % 128) b h)
 
--- ---- constraints
+-- ---- comparisons
 amount-yields : (f : Refusal) → Yields Small (amount f)
 unfolding amount
 amount-yields f = field-then Small _ _ _ _ (λ n h bytes place. range-small (fromUnsigned n) .0 h)
@@ -37,9 +39,9 @@ getD-padded [] n i h = getD-replicate-same n i (pos 0)
 getD-padded (c ∷ cs) n zero h = absurd (omega arith)
 getD-padded (c ∷ cs) n (suc i) h = getD-padded cs n i (omega arith)
 
-padded-formed : (r : ℕ) (s : Bool) (cs : List ℤ) (β : ℤ) → r ≤ limit.rationals → length cs ≡ r → All Small cs → Small β
-    → WellFormedConstraint r (record { strict = s; coefficients = cs ++ replicate (limit.rationals - r) (pos 0); bound = β })
-padded-formed r s cs β z e h k =
+padded-formed : (r : ℕ) (cs : List ℤ) (β : ℤ) → r ≤ limit.rationals → length cs ≡ r → All Small cs → Small β
+    → WellFormedRow r (cs ++ replicate (limit.rationals - r) (pos 0)) β
+padded-formed r cs β z e h k =
     let n = limit.rationals - r in
     record {
       coefficients = omega (arith, length-append cs (replicate n (pos 0)), length-replicate n (pos 0));
@@ -48,13 +50,55 @@ padded-formed r s cs β z e h k =
       bound = k;
     }
 
-constraint-yields : (r : ℕ) → r ≤ limit.rationals → Yields (WellFormedConstraint r) (constraint r)
-unfolding constraint
-constraint-yields r z =
-    field-then (WellFormedConstraint r) _ _ _ _ (λ relation t.
-    repeat-then (WellFormedConstraint r) Small _ _ _ (amount-yields refusal.Amount) (λ cs h e.
-    then-yields Small (WellFormedConstraint r) _ _ (amount-yields refusal.Amount)
-    (λ β k bytes place. padded-formed r (eqb relation 2) cs β z e h k)))
+-- no = behind another
+abbrev Apart : Bool → Relation → Type 0
+Apart equated ρ = equated && isEquality ρ ≡ false
+
+relation-yields : (equated : Bool) → Yields (Apart equated) (relation equated)
+unfolding relation tested after
+relation-yields equated bytes place =
+    after-gives (λ n. Unit {0}) (Apart equated) (field 1 isRelation refusal.Relation bytes place) _
+    (gives-any (field 1 isRelation refusal.Relation bytes place))
+    (λ n u bytes next. by n bytes next (equated && isEquality (relationOf n)) refl)
+  where
+    by : (n : ℕ) (bytes : List ℕ) (next : ℕ) (t : Bool) → equated && isEquality (relationOf n) ≡ t
+        → Gives (Apart equated) (after (tested (not t) refusal.SecondEquality place n bytes next) (λ code. return (relationOf code)))
+    by n bytes next true e = tt
+    by n bytes next false e = e
+
+-- a comparison behind one that is an = or not
+abbrev Formed : Bool → ℕ → Comparison → Type 0
+Formed equated r c = WellFormedComparison r c × Apart equated (c .relation)
+
+comparison-yields : (equated : Bool) (r : ℕ) → r ≤ limit.rationals → Yields (Formed equated r) (comparison equated r)
+unfolding comparison
+comparison-yields equated r z =
+    then-yields (Apart equated) (Formed equated r) _ _ (relation-yields equated) (λ ρ t.
+    repeat-then (Formed equated r) Small _ _ _ (amount-yields refusal.Amount) (λ cs h e.
+    then-yields Small (Formed equated r) _ _ (amount-yields refusal.Amount)
+    (λ β k bytes place. (padded-formed r cs β z e h k, t))))
+
+-- "a second = in one clause" is refused
+abbrev AllFormed : Bool → ℕ → List Comparison → Type 0
+AllFormed equated r cs = All (WellFormedComparison r) cs × (cond equated 1 0 + equalities cs ≤ 1)
+
+comparisons-yields : (k : ℕ) (equated : Bool) (r : ℕ) → r ≤ limit.rationals → Yields (AllFormed equated r) (comparisons k equated r)
+unfolding comparisons equalities
+comparisons-yields zero equated r z = λ bytes place. (tt, by equated)
+  where
+    by : (t : Bool) → cond t 1 0 + 0 ≤ 1
+    by true = omega arith
+    by false = omega arith
+comparisons-yields (suc k) equated r z =
+    then-yields (Formed equated r) (AllFormed equated r) _ _ (comparison-yields equated r z) (λ c h.
+    then-yields (AllFormed (equated || isEquality (c .relation)) r) (AllFormed equated r) _ _
+    (comparisons-yields k (equated || isEquality (c .relation)) r z)
+    (λ cs t bytes place. ((h .0, t .0), counted equated (isEquality (c .relation)) (equalities cs) (h .1) (t .1))))
+  where
+    counted : (a b : Bool) (n : ℕ) → a && b ≡ false → cond (a || b) 1 0 + n ≤ 1 → cond a 1 0 + (cond b 1 0 + n) ≤ 1
+    counted true true n e h = absurd (let z : _≡_ {A = ℕ} 0 1 = cc in omega arith)
+    counted true false n e h = omega (arith, h)
+    counted false b n e h = omega (arith, h)
 
 -- ---- clauses
 clause-yields : (b r : ℕ) → r ≤ limit.rationals → Yields (WellFormedClause b r) (clause b r)
@@ -63,9 +107,10 @@ clause-yields b r z bytes start =
     field-then (WellFormedClause b r) _ _ _ _ (λ m u.
     repeat-then (WellFormedClause b r) (λ l. l .boolean < b) _ _ _ (literal-yields b) (λ ls h e.
     field-then (WellFormedClause b r) _ _ _ _ (λ t v.
-    repeat-then (WellFormedClause b r) (WellFormedConstraint r) _ _ _ (constraint-yields r z) (λ cs k e bytes place. record {
+    then-yields (AllFormed false r) (WellFormedClause b r) _ _ (comparisons-yields t false r z) (λ cs k bytes place. record {
       literals = h;
-      constraints = k;
+      comparisons = k .0;
+      single = omega (arith, k .1);
     }))))
     bytes start
 

@@ -1,129 +1,131 @@
 -- Splitting keeps the problem: an assignment satisfies a problem exactly if some values of the split variables make every loadable
 -- line hold.
-use mathlib.Core.Path.{_≡_, sym, _∙_, subst}
-use mathlib.Core.Bool.{Bool}
+use mathlib.Core.Path.{_≡_, refl, sym, ap, _∙_, subst}
 use mathlib.Core.Logic.{_↔_}
-use mathlib.Core.List.{List, [], _∷_}
+use mathlib.Core.List.{List, [], _∷_, _++_, map}
 use Prim.Native.Nat.{ℕ, suc, _+_, _≤_, _<_}
 use native.Mathlib.Omega.{arith}
 use lib.Dec.{T}
 use Rattle.rules_types.specs.Limits as limit
-use Rattle.theory_lists.specs.All.{All, all-map, all-both, all-append, append-all, all-yes, yes-all}
+use Rattle.theory_lists.specs.All.{All, all-append, append-all, all-yes, yes-all, mapped-all, all-mapped, map-append}
 use Rattle.rules.specs.Problem.{Clause, Problem}
+use Rattle.rules.specs.Readings.{Disjunction, readings}
 use Rattle.rules.specs.Meaning.{Assignment, clauseHolds, Satisfies}
 use Rattle.rules.specs.Lines.{Line, lineHolds}
-use Rattle.rules.specs.Split.{partsOf, splitsOf}
+use Rattle.rules.specs.Split.{readingParts, allParts, allSplits, partsOf, splitsOf}
 use Rattle.rules.specs.Steps.{Step}
 use Rattle.rules.specs.Elimination.{partSteps, loadable, loadableOf}
-use Rattle.theory_splitting.specs.WellFormed.{WellFormedClause, splitsIn, WellFormed}
-use Rattle.theory_resolution.specs.Choosing.{choosing, line-choosing}
-use Rattle.theory_splitting.specs.Choosing.{clause-choosing}
-use Rattle.theory_splitting.specs.PartsChosen.{Chosen, chosen-same}
+use Rattle.theory_splitting.specs.WellFormed.{WellFormedClause, WellFormedReading, splitsIn, WellFormed}
+use Rattle.theory_splitting.specs.NormalClause.{readingHolds}
+use Rattle.theory_splitting.specs.Readings.{clause-readings, readings-formed}
+use Rattle.theory_resolution.specs.Choosing.{choosing}
+use Rattle.theory_splitting.specs.PartsChosen.{Chosen}
 use Rattle.theory_splitting.specs.PartsForm.{LineForm}
-use Rattle.theory_splitting.specs.SplitClause.{AllHold, clause-chosen, clause-given, clause-form}
-
--- ---- a clause's parts as steps
-pub partSteps-all : (P : Line → Type 0) (c j : ℕ) (ls : List Line) → All P ls → All (λ s. P (s .line)) (partSteps c j ls)
-unfolding partSteps
-partSteps-all P c j [] h = tt
-partSteps-all P c j (l ∷ ls) h = (h .0, partSteps-all P c (suc j) ls (h .1))
-
-pub all-partSteps : (P : Line → Type 0) (c j : ℕ) (ls : List Line) → All (λ s. P (s .line)) (partSteps c j ls) → All P ls
-unfolding partSteps
-all-partSteps P c j [] h = tt
-all-partSteps P c j (l ∷ ls) h = (h .0, all-partSteps P c (suc j) ls (h .1))
+use Rattle.theory_splitting.specs.SplitReading.{AllHold}
+use Rattle.theory_splitting.specs.SplitReadings.{splits-append, parts-append, all-each, all-form, readings-keep, all-chosen}
+use Rattle.theory_splitting.specs.SplitReadings.{all-given}
 
 -- every step's line holds
 abbrev pub StepsHold : Assignment → List Step → Type 0
 StepsHold χ ss = All (λ s. T (lineHolds χ (s .line))) ss
 
+-- ---- the loadable lines are the parts of all readings
+abbrev readingsOf : List Clause → List Disjunction
+readingsOf [] = []
+readingsOf (x ∷ xs) = readings x ++ readingsOf xs
+
+all-splits : (xs : List Clause) → splitsIn xs ≡ allSplits (readingsOf xs)
+unfolding splitsOf allSplits
+all-splits [] = refl
+all-splits (x ∷ xs) = omega (arith, all-splits xs, splits-append (readings x) (readingsOf xs))
+
+part-lines : (c j : ℕ) (ls : List Line) → map (λ s. s .line) (partSteps c j ls) ≡ ls
+unfolding partSteps
+part-lines c j [] = refl
+part-lines c j (l ∷ ls) = ap (λ (t : List Line). l ∷ t) (part-lines c (suc j) ls)
+
+loadable-lines : (c k : ℕ) (xs : List Clause) → map (λ s. s .line) (loadable c k xs) ≡ allParts k (readingsOf xs)
+unfolding loadable partsOf splitsOf allParts
+loadable-lines c k [] = refl
+loadable-lines c k (x ∷ xs) =
+    map-append (λ s. s .line) (partSteps c 0 (partsOf k x)) (loadable (suc c) (k + splitsOf x) xs)
+    ∙ (λ i. part-lines c 0 (partsOf k x) i ++ loadable-lines (suc c) (k + splitsOf x) xs i)
+    ∙ sym (parts-append k (readings x) (readingsOf xs))
+
 module _ (b r : ℕ) where
-  -- ---- the form of the loadable lines
-  pub loadable-form : (P : ℕ → Type 0) (c k : ℕ) (xs : List Clause) → All (WellFormedClause b r) xs → b ≤ k → ((i : ℕ) → i < b → P i)
-      → ((i : ℕ) → k ≤ i → i < k + splitsIn xs → P i)
-      → All (λ s. LineForm P (s .line)) (loadable c k xs)
-  unfolding loadable
-  loadable-form P c k [] w z f q = tt
-  loadable-form P c k (x ∷ xs) w z f q =
-      all-append (λ s. LineForm P (s .line)) (partSteps c 0 (partsOf k x)) (loadable (suc c) (k + splitsOf x) xs)
-      (partSteps-all (LineForm P) c 0 (partsOf k x) (clause-form b r x (w .0) P k z f (λ i h l. q i h (omega arith))))
-      (loadable-form P (suc c) (k + splitsOf x) xs (w .1) (omega arith) f (λ i h l. q i (omega arith) (omega arith)))
+  all-formed : (xs : List Clause) → All (WellFormedClause b r) xs → All (WellFormedReading b r) (readingsOf xs)
+  all-formed [] w = tt
+  all-formed (x ∷ xs) w =
+      all-append (WellFormedReading b r) (readings x) (readingsOf xs) (readings-formed b r x (w .0)) (all-formed xs (w .1))
 
-  -- ---- the clauses give the lines: clause by clause, each choosing its own split variables
-  module _ (χ : Assignment) (g : ℕ → Bool) (k : ℕ) (a : (i : ℕ) → i < k → χ .booleans i ≡ g i) where
-    clauses-keep : (xs : List Clause) → All (WellFormedClause b r) xs → b ≤ k → All (λ x. T (clauseHolds χ x)) xs
-        → All (λ x. T (clauseHolds (choosing g χ) x)) xs
-    clauses-keep xs w z h =
-        all-map (λ x. WellFormedClause b r x × T (clauseHolds χ x)) (λ x. T (clauseHolds (choosing g χ) x)) xs
-        (λ x t. subst T (clause-choosing χ g x (all-map (λ l. l .boolean < b) (λ l. χ .booleans (l .boolean) ≡ g (l .boolean))
-        (x .literals) (λ l m. a (l .boolean) (omega arith)) (t .0 .literals))) (t .1))
-        (all-both (WellFormedClause b r) (λ x. T (clauseHolds χ x)) xs w h)
-
-    lines-keep : (ls : List Line) → All (LineForm (λ i. i < k)) ls → AllHold χ ls → AllHold (choosing g χ) ls
-    lines-keep ls f h =
-        all-map (λ l. LineForm (λ i. i < k) l × T (lineHolds χ l)) (λ l. T (lineHolds (choosing g χ) l)) ls
-        (λ l t. subst T (line-choosing χ g l (λ i m. a i (t .0 .positive i m)) (λ i m. a i (t .0 .negative i m))) (t .1))
-        (all-both (LineForm (λ i. i < k)) (λ l. T (lineHolds χ l)) ls f h)
-
-  loadable-chosen : (χ : Assignment) → 0 < χ .denominator → (c k : ℕ) (xs : List Clause) → All (WellFormedClause b r) xs → b ≤ k
-      → k + splitsIn xs ≤ limit.allBooleans → All (λ x. T (clauseHolds χ x)) xs
-      → Chosen χ k (k + splitsIn xs) (λ ψ. StepsHold ψ (loadable c k xs))
-  unfolding loadable
-  loadable-chosen χ d c k [] w z s h = chosen-same χ k (k + 0) (λ ψ. StepsHold ψ []) tt
-  loadable-chosen χ d c k (x ∷ xs) w z s h =
-      let m = k + splitsOf x in
-      let one = clause-chosen b r x (w .0) χ d k z (omega arith) (h .0) in
-      let ψ = choosing (one .values) χ in
-      let more = loadable-chosen ψ d (suc c) m xs (w .1) (omega arith) (omega arith)
-      (clauses-keep χ (one .values) k (one .before) xs (w .1) z (h .1)) in
-      let form = clause-form b r x (w .0) (λ i. i < m) k z (λ i l. omega arith) (λ i a l. l) in
-      record {
-        values = more .values;
-        before = λ i l. one .before i l ∙ more .before i (omega arith);
-        after = λ i l. one .after i (omega arith) ∙ more .after i (omega arith);
-        holds =
-            all-append (λ s. T (lineHolds (choosing (more .values) χ) (s .line))) (partSteps c 0 (partsOf k x)) (loadable (suc c) m xs)
-            (partSteps-all (λ l. T (lineHolds (choosing (more .values) χ) l)) c 0 (partsOf k x)
-            (lines-keep ψ (more .values) m (more .before) (partsOf k x) form (one .holds))) (more .holds);
-      }
-
-  -- ---- the lines give the clauses
-  loadable-given : (χ : Assignment) → 0 < χ .denominator → b ≤ limit.allBooleans → (c k : ℕ) (xs : List Clause)
-      → All (WellFormedClause b r) xs
-      → StepsHold χ (loadable c k xs)
-      → All (λ x. T (clauseHolds χ x)) xs
-  unfolding loadable
-  loadable-given χ d z c k [] w h = tt
-  loadable-given χ d z c k (x ∷ xs) w h =
-      let t = append-all (λ s. T (lineHolds χ (s .line))) (partSteps c 0 (partsOf k x)) (loadable (suc c) (k + splitsOf x) xs) h in (
-        clause-given b r x (w .0) χ d z k (all-partSteps (λ l. T (lineHolds χ l)) c 0 (partsOf k x) (t .0)),
-        loadable-given χ d z (suc c) (k + splitsOf x) xs (w .1) (t .1),
+  -- "a clause holds exactly if each of its readings does"
+  all-read : (χ : Assignment) (xs : List Clause) → All (WellFormedClause b r) xs
+      → All (λ x. T (clauseHolds χ x)) xs ↔ All (λ d. T (readingHolds χ d)) (readingsOf xs)
+  all-read χ [] w = (λ h. tt, λ h. tt)
+  all-read χ (x ∷ xs) w =
+      let e = clause-readings χ x (w .0 .single) in (
+        λ h. all-append (λ d. T (readingHolds χ d)) (readings x) (readingsOf xs) (all-yes (readingHolds χ) (readings x) (subst T e (h .0)))
+            (all-read χ xs (w .1) .0 (h .1)),
+        λ h. let t = append-all (λ d. T (readingHolds χ d)) (readings x) (readingsOf xs) h in
+            (subst T (sym e) (yes-all (readingHolds χ) (readings x) (t .0)), all-read χ xs (w .1) .1 (t .1)),
       )
 
 -- ---- a problem
 module _ (p : Problem) (w : WellFormed p) where
-  pub loadable-formed : All (λ s. LineForm (λ i. i < limit.allBooleans) (s .line)) (loadableOf p)
+  abbrev ds : List Disjunction
+  ds = readingsOf (p .clauses)
+
+  formed : All (WellFormedReading (p .booleans) (p .rationals)) ds
+  formed = all-formed (p .booleans) (p .rationals) (p .clauses) (w .clauses)
+
+  lines : map (λ s. s .line) (loadableOf p) ≡ allParts (p .booleans) ds
   unfolding loadableOf
+  lines = loadable-lines 0 (p .booleans) (p .clauses)
+
+  few : p .booleans + allSplits ds ≤ limit.allBooleans
+  few = omega (arith, all-splits (p .clauses), w .booleans, w .splits)
+
+  -- what is true of the parts is true of the loadable lines
+  of-parts : (Q : Line → Type 0) → All Q (allParts (p .booleans) ds) → All (λ s. Q (s .line)) (loadableOf p)
+  of-parts Q h = mapped-all Q (λ s. s .line) (loadableOf p) (subst (All Q) (sym lines) h)
+
+  pub loadable-each : (Q : Line → Type 0)
+      → ((k : ℕ) (d : Disjunction) → WellFormedReading (p .booleans) (p .rationals) d → All Q (readingParts k d))
+      → All (λ s. Q (s .line)) (loadableOf p)
+  loadable-each Q one = of-parts Q (all-each (p .booleans) (p .rationals) Q one (p .booleans) ds formed)
+
+  pub loadable-formed : All (λ s. LineForm (λ i. i < limit.allBooleans) (s .line)) (loadableOf p)
   loadable-formed =
-      loadable-form (p .booleans) (p .rationals) (λ i. i < limit.allBooleans) 0 (p .booleans) (p .clauses) (w .clauses) (omega arith)
-      (λ i l. omega (arith, w .booleans))
-      (λ i h l. omega (arith, w .booleans, w .splits))
+      of-parts (LineForm (λ i. i < limit.allBooleans))
+      (all-form (p .booleans) (p .rationals) (λ i. i < limit.allBooleans) (p .booleans) ds formed (omega arith)
+      (λ i l. omega (arith, w .booleans)) (λ i h l. omega (arith, few)))
+
+  -- its loadable lines hold exactly if the parts of its readings do
+  steps-hold : (ψ : Assignment) → StepsHold ψ (loadableOf p) ↔ AllHold ψ (allParts (p .booleans) ds)
+  steps-hold ψ = (
+    λ h. subst (AllHold ψ) lines (all-mapped (λ l. T (lineHolds ψ l)) (λ s. s .line) (loadableOf p) h),
+    of-parts (λ l. T (lineHolds ψ l)),
+  )
 
   pub splitting-keeps : (χ : Assignment) → 1 ≤ χ .denominator → Satisfies χ p
       ↔ Chosen χ (p .booleans) (p .booleans + splitsIn (p .clauses)) (λ ψ. StepsHold ψ (loadableOf p))
-  unfolding loadableOf
   splitting-keeps χ d =
       let b = p .booleans in
       let r = p .rationals in
       let xs = p .clauses in (
-        λ h. loadable-chosen b r χ d 0 b xs (w .clauses) (omega arith) (omega (arith, w .booleans, w .splits))
-            (all-yes (clauseHolds χ) xs (h .clauses)),
+        λ h. let c = all-chosen b r χ d b ds formed (omega arith) few
+            (all-read b r χ xs (w .clauses) .0 (all-yes (clauseHolds χ) xs (h .clauses))) in record {
+              values = c .values;
+              before = c .before;
+              after = λ i l. c .after i (omega (arith, all-splits xs));
+              holds = steps-hold (choosing (c .values) χ) .1 (c .holds);
+            },
         λ c. record {
           denominator = d;
           clauses =
               let ψ = choosing (c .values) χ in
-              yes-all (clauseHolds χ) xs
-              (clauses-keep b r ψ (χ .booleans) b (λ i l. sym (c .before i l)) xs (w .clauses) (omega arith)
-              (loadable-given b r ψ d (omega (arith, w .booleans)) 0 b xs (w .clauses) (c .holds)));
+              yes-all (clauseHolds χ) xs (all-read b r χ xs (w .clauses) .1
+              (readings-keep b r ψ (χ .booleans) b (λ i l. sym (c .before i l)) ds formed (omega arith)
+              (all-given b r ψ d (omega (arith, w .booleans)) b ds formed (steps-hold ψ .0 (c .holds)))));
         },
       )

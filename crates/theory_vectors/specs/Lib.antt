@@ -5,6 +5,7 @@ pub mod GcdFold
 pub mod Lcm
 pub mod Put
 pub mod Dot
+pub mod Signed
 pub mod Relation
 pub mod Constraint
 pub mod Combination

@@ -5,9 +5,9 @@ use mathlib.Core.Logic.{_⊎_, inl, inr, ⊎-elim}
 use lib.IntN.{ℤ, pos, negℤ, _+ℤ_, _-ℤ_, _*ℤ_}
 use lib.Signed.{_≤ℤ_, _<ℤ_}
 use lib.Dec.{T}
-use Rattle.theory_integers.specs.Order.{≤-refl, ≤-reflexive, ≤-trans, <-≤-trans, ≤-<-trans, <-trans, <⇒≤, <-≤-clash, <-or-≥, ≤-or->}
-use Rattle.theory_integers.specs.Order.{+-mono-≤, +-mono-<, +-mono-<-≤, +-mono-≤-<, +-cancelˡ-≤, +-cancelˡ-<, neg-mono-≤, neg-mono-<}
-use Rattle.theory_integers.specs.Order.{neg-cancel-≤, neg-cancel-<}
+use Rattle.theory_integers.specs.Order.{≤-refl, ≤-reflexive, ≤-antisym, ≤-trans, <-≤-trans, ≤-<-trans, <-trans, <⇒≤, <-≤-clash, <-or-≥}
+use Rattle.theory_integers.specs.Order.{≤-or->, +-mono-≤, +-mono-<, +-mono-<-≤, +-mono-≤-<, +-cancelˡ-≤, +-cancelˡ-<, neg-mono-≤}
+use Rattle.theory_integers.specs.Order.{neg-mono-<, neg-cancel-≤, neg-cancel-<}
 use Rattle.theory_integers.specs.Product.{*-monoˡ-≤, *-monoˡ-<, *-cancelˡ-≤, *-cancelˡ-<}
 use Rattle.theory_integers.specs.Ring.{*-comm, +-comm, +-neg-cancelˡ}
 use Rattle.rules.specs.Arithmetic.{related}
@@ -49,6 +49,9 @@ rel-refl a = record { by = ≤-refl a }
 
 pub rel-reflexive : {a b : ℤ} → a ≡ b → Rel false a b
 rel-reflexive e = record { by = ≤-reflexive e }
+
+pub rel-antisym : {a b : ℤ} → Rel false a b → Rel false b a → a ≡ b
+rel-antisym h k = ≤-antisym (h .by) (k .by)
 
 -- < gives either, and either gives ≤
 pub rel-strict : {s : Bool} {a b : ℤ} → Rel true a b → Rel s a b

@@ -12,7 +12,7 @@ type Draw = fn(&mut Random) -> Problem;
 pub const SEED: u64 = 2;
 
 /// The families by their names.
-pub const FAMILIES: [(&str, Draw); 11] = [
+pub const FAMILIES: [(&str, Draw); 12] = [
     ("at random, small", Random::problem),
     ("at random, dense", |random| rows(random, 4, 1, 12)),
     ("at random, eight figures", |random| rows(random, 8, 4, 24)),
@@ -20,6 +20,9 @@ pub const FAMILIES: [(&str, Draw); 11] = [
     ("natural batches of 2 x 3", |random| natural(random, 2, 3)),
     ("natural batches of 2 x 4", |random| natural(random, 2, 4)),
     ("natural batches of 4 x 2", |random| natural(random, 4, 2)),
+    ("natural batches of 2 x 4, with =", |random| {
+        natural(random, 2, 4).joined()
+    }),
     ("richer batches", richer),
     ("loose batches of 2 x 2", |random| loose(random, 2, 2)),
     ("loose batches of 2 x 3", |random| loose(random, 2, 3)),

@@ -5,7 +5,9 @@ mod families;
 mod solved;
 
 use families::{FAMILIES, SEED};
+use questions::batches::{natural, richer};
 use questions::largest::{self, Kind};
+use questions::problem::Problem;
 use questions::random::Random;
 use reference::{Answer, Order, Rules, Search};
 use std::time::{Duration, Instant};
@@ -21,11 +23,12 @@ fn main() {
     checks();
     solving();
     families();
+    equalities();
 }
 
 fn reading() {
     println!("reading the largest question (32,768 bytes), time of a call");
-    for kind in [Kind::Dropped, Kind::Struck] {
+    for kind in [Kind::Dropped, Kind::Struck, Kind::Equal] {
         let question = largest::question(32_768, kind);
         compare(
             &format!("{kind:?}"),
@@ -134,6 +137,35 @@ fn families() {
     }
 }
 
+/// Batches that state by two clauses each what is met exactly, and the same with an = for each two.
+fn equalities() {
+    println!("solving {OF_FAMILY} batches by two clauses and with =, mean time of a call");
+    let batches: [(&str, fn(&mut Random) -> Problem); 3] = [
+        ("natural batches of 2 x 4", |random| natural(random, 2, 4)),
+        ("natural batches of 4 x 2", |random| natural(random, 4, 2)),
+        ("richer batches", richer),
+    ];
+    for (name, draw) in batches {
+        let mut random = Random::new(SEED);
+        let drawn: Vec<Problem> = (0..OF_FAMILY).map(|_| draw(&mut random)).collect();
+        let apart: Vec<Vec<u8>> = drawn.iter().map(Problem::encode).collect();
+        let joined: Vec<Vec<u8>> = drawn.iter().map(|one| one.joined().encode()).collect();
+        let answers = solve_all(proved::solve, &apart).into_iter();
+        let pairs = answers.zip(solve_all(proved::solve, &joined));
+        let same = pairs.filter(|(two, one)| two == one).count();
+        let bytes = [&apart, &joined].map(|family| family.concat().len() / family.len());
+        println!("{name}: {same} with the same answer, lines and pairs, mean bytes {bytes:?}");
+        let (two, one) = in_turn(
+            1,
+            || drop(solve_all(proved::solve, &apart)),
+            || drop(solve_all(proved::solve, &joined)),
+        );
+        let ratio = one.as_secs_f64() / two.as_secs_f64();
+        let (two, one) = (two / OF_FAMILY, one / OF_FAMILY);
+        println!("{name}: by two clauses {two:?}, with = {one:?}, ratio {ratio:.2}");
+    }
+}
+
 type Solve = fn(&[u8], &mut [u8], &mut [u8]) -> Answer;
 
 fn solve_all(solve: Solve, family: &[Vec<u8>]) -> Vec<Answer> {
@@ -166,16 +198,22 @@ fn compare_books(name: &str, question: &[u8], book: &[u8]) {
     );
 }
 
-/// Both in turn, so that what slows the machine slows both. Our best time.
-fn compare(name: &str, mut proved: impl FnMut(), mut reference: impl FnMut()) -> Duration {
+/// Both timed in turn and reported. Our best time.
+fn compare(name: &str, mut proved: impl FnMut(), reference: impl FnMut()) -> Duration {
     let calls = calls(&mut proved);
-    let (mut ours, mut theirs) = (Duration::MAX, Duration::MAX);
-    for _ in 0..ROUNDS {
-        ours = ours.min(timed(calls, &mut proved));
-        theirs = theirs.min(timed(calls, &mut reference));
-    }
+    let (ours, theirs) = in_turn(calls, proved, reference);
     report(name, ours, theirs);
     ours
+}
+
+/// The best of all rounds of so many calls, both in turn, so that what slows the machine slows both.
+fn in_turn(calls: u32, mut one: impl FnMut(), mut other: impl FnMut()) -> (Duration, Duration) {
+    let mut best = (Duration::MAX, Duration::MAX);
+    for _ in 0..ROUNDS {
+        best.0 = best.0.min(timed(calls, &mut one));
+        best.1 = best.1.min(timed(calls, &mut other));
+    }
+    best
 }
 
 fn report(name: &str, ours: Duration, theirs: Duration) {

@@ -89,7 +89,7 @@ extern "C" {
     fn test_read(question: *const u8, length: usize) -> ReadTold;
 }
 
-/// Reads a question to its first fault 3 to 13.
+/// Reads a question to its first fault, 3 to 13 or 18.
 pub fn read(question: &[u8]) -> Reading {
     // SAFETY: the call reads the slice's bytes and nothing else, and keeps no pointer.
     let told = unsafe { test_read(question.as_ptr(), question.len()) };

@@ -68,9 +68,9 @@ pub fn richer(random: &mut Random) -> Problem {
     shares.problem(charges, clauses)
 }
 
-/// A batch in the form of examples/payment.txt, with at most eight shares: no entry gives more than
-/// it has, one in two all of it; every charge is covered, one in two exactly. One entry in two
-/// belongs to one charge only, and one in four says to which it does.
+/// A batch with at most eight shares: no entry gives more than it has, one in two all of it; every
+/// charge is covered, one in two exactly. One entry in two belongs to one charge only, and one in
+/// four says to which it does.
 pub fn loose(random: &mut Random, entries: usize, charges: usize) -> Problem {
     let shares = Shares::all(entries, charges);
     let mut clauses = shares.clauses();

@@ -1,8 +1,8 @@
-//! Questions as long as they may be, the one with the largest run known, and one at the limit of
-//! lines. The long ones have 256 clauses of three constraints in eight figures, and are read
-//! without fault, since no clause keeps two constraints.
+//! Questions as long as they may be, the one with the largest run known, one at the limit of lines,
+//! and one that loads the most. The long ones have 256 clauses of three constraints in eight figures,
+//! and take no link, since no clause keeps two constraints.
 
-use crate::problem::{at_most, below, no, yes, Problem, Term};
+use crate::problem::{at_most, constraint, equal, no, yes, Problem, Relation, Term};
 
 /// Why the constraints of a clause take no link.
 #[derive(Clone, Copy, Debug)]
@@ -11,6 +11,10 @@ pub enum Kind {
     Dropped,
     /// Two of the three have no coefficient and are false, and are struck out.
     Struck,
+    /// The same with = and ≥ among the three.
+    Equal,
+    /// The same with a second = as the last condition of all, which is refused.
+    Doubled,
 }
 
 const CLAUSES: i32 = 256;
@@ -39,6 +43,29 @@ pub fn run(more: Option<i32>) -> Problem {
         .fold(Problem::new(0, 2), |problem, term| problem.clause([term]))
 }
 
+/// As many lines loaded as there can be, 528: 256 clauses with =, each of one way of eight marks, eight
+/// of them with a second condition, which takes a link in either reading. A pair of figure 0 says
+/// something always true, or has a mark in both signs.
+pub fn loaded() -> Problem {
+    let mut problem = Problem::new(8, 2);
+    for i in 0..CLAUSES {
+        let literal = |mark: u8| {
+            if i >> mark & 1 == 0 {
+                yes(mark)
+            } else {
+                no(mark)
+            }
+        };
+        let mut clause: Vec<Term> = (0..8).map(literal).collect();
+        clause.push(equal(&[1], i));
+        if i < 8 {
+            clause.push(at_most(&[0, 1], i));
+        }
+        problem.clauses.push(clause);
+    }
+    problem
+}
+
 /// x + y ≤ 100i for i from the count of uppers down to 1, -y ≤ -j for j from 0 to 39, -x ≤ 1,000
 /// less k for k from 0 to 40. y costs less than x and goes first, and then 23 uppers take all 1,024
 /// lines, and 24 need a line more; in rising order 23 need one more already. No clause or result is
@@ -58,17 +85,21 @@ fn clause(i: i32, literals: usize, kind: Kind) -> Vec<Term> {
     if literals > 0 {
         terms.push(match kind {
             Kind::Dropped => no(1),
-            Kind::Struck => no(0),
+            _ => no(0),
         });
     }
     for j in 0..3 {
-        let constraint = match i % 2 {
-            0 => at_most,
-            _ => below,
+        let relation = match (kind, j) {
+            (Kind::Equal | Kind::Doubled, 0) => Relation::Equal,
+            (Kind::Equal | Kind::Doubled, 1) => Relation::AtLeast,
+            (Kind::Doubled, _) if i == CLAUSES => Relation::Equal,
+            _ if i % 2 == 0 => Relation::AtMost,
+            _ => Relation::Below,
         };
-        terms.push(match (kind, j) {
-            (Kind::Struck, 1..) => constraint(&[], -i),
-            _ => constraint(&coefficients(i + j), i),
+        terms.push(match (kind, j, relation) {
+            (Kind::Dropped, ..) | (_, 0, _) => constraint(relation, &coefficients(i + j), i),
+            (_, _, Relation::AtLeast) => constraint(relation, &[], i),
+            _ => constraint(relation, &[], -i),
         });
     }
     terms

@@ -6,4 +6,5 @@ pub mod largest;
 pub mod marks;
 pub mod problem;
 pub mod random;
+pub mod relations;
 pub mod rows;

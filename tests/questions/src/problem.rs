@@ -2,15 +2,24 @@
 //! by 01's "The question", and whether an assignment satisfies them. Nothing here uses the
 //! solver.
 
+/// A relation by its byte: 01's ≤ and <, and = and ≥ of 02's (i).
+#[derive(Clone, Copy, Debug, PartialEq, Eq)]
+pub enum Relation {
+    AtMost = 1,
+    Below,
+    Equal,
+    AtLeast,
+}
+
 /// One alternative of a clause: 01's literal or condition.
-#[derive(Clone, Debug)]
+#[derive(Clone, Debug, PartialEq, Eq)]
 pub enum Term {
     Literal {
         boolean: u8,
         negated: bool,
     },
     Constraint {
-        strict: bool,
+        relation: Relation,
         coefficients: Vec<i32>,
         bound: i32,
     },
@@ -34,24 +43,35 @@ pub fn no(boolean: u8) -> Term {
 
 /// Sum of coefficient × figure ≤ bound; coefficients left out are 0.
 pub fn at_most(coefficients: &[i32], bound: i32) -> Term {
-    Term::Constraint {
-        strict: false,
-        coefficients: coefficients.to_vec(),
-        bound,
-    }
+    constraint(Relation::AtMost, coefficients, bound)
 }
 
-/// Sum of coefficient × figure < bound; coefficients left out are 0.
+/// The same with <.
 pub fn below(coefficients: &[i32], bound: i32) -> Term {
+    constraint(Relation::Below, coefficients, bound)
+}
+
+/// The same with =.
+pub fn equal(coefficients: &[i32], bound: i32) -> Term {
+    constraint(Relation::Equal, coefficients, bound)
+}
+
+/// The same with ≥.
+pub fn at_least(coefficients: &[i32], bound: i32) -> Term {
+    constraint(Relation::AtLeast, coefficients, bound)
+}
+
+/// The same with any relation.
+pub fn constraint(relation: Relation, coefficients: &[i32], bound: i32) -> Term {
     Term::Constraint {
-        strict: true,
+        relation,
         coefficients: coefficients.to_vec(),
         bound,
     }
 }
 
 /// A problem of so many marks, figures and clauses.
-#[derive(Clone, Debug)]
+#[derive(Clone, Debug, PartialEq, Eq)]
 pub struct Problem {
     pub booleans: u8,
     pub rationals: u8,
@@ -100,11 +120,11 @@ impl Problem {
         match term {
             Term::Literal { boolean, negated } => bytes.push(boolean + 128 * u8::from(*negated)),
             Term::Constraint {
-                strict,
+                relation,
                 coefficients,
                 bound,
             } => {
-                bytes.push(1 + u8::from(*strict));
+                bytes.push(*relation as u8);
                 for i in 0..usize::from(self.rationals) {
                     bytes.extend(coefficients.get(i).unwrap_or(&0).to_le_bytes());
                 }
@@ -125,14 +145,19 @@ impl Assignment<'_> {
         match term {
             Term::Literal { boolean, negated } => (self.booleans >> boolean & 1 == 0) == *negated,
             Term::Constraint {
-                strict,
+                relation,
                 coefficients,
                 bound,
             } => {
                 let terms = coefficients.iter().zip(self.numerators);
                 let sum: i64 = terms.map(|(&c, n)| i64::from(c) * n).sum();
                 let bound = i64::from(*bound) * self.denominator;
-                sum < bound || (sum == bound && !strict)
+                match relation {
+                    Relation::AtMost => sum <= bound,
+                    Relation::Below => sum < bound,
+                    Relation::Equal => sum == bound,
+                    Relation::AtLeast => sum >= bound,
+                }
             }
         }
     }

@@ -1,7 +1,7 @@
 //! A small generator of numbers (splitmix64) with a fixed seed, and random problems drawn from
 //! it.
 
-use crate::problem::{Problem, Term};
+use crate::problem::{at_most, below, Problem, Relation, Term};
 
 pub struct Random(u64);
 
@@ -26,6 +26,51 @@ impl Random {
     /// True once in so many times.
     pub fn once_in(&mut self, times: i64) -> bool {
         self.between(1, times) == 1
+    }
+
+    /// A problem drawn so, in three of four cases with all relations: one condition in four is =, but
+    /// no second one of a clause, and one in four is ≥.
+    pub fn stated(&mut self, draw: impl FnOnce(&mut Random) -> Problem) -> Problem {
+        let mut problem = draw(self);
+        if self.once_in(4) {
+            return problem;
+        }
+        for clause in &mut problem.clauses {
+            let mut has_equal = false;
+            for relation in relations(clause) {
+                match self.between(0, 3) {
+                    0 if !has_equal => {
+                        *relation = Relation::Equal;
+                        has_equal = true;
+                    }
+                    1 => *relation = Relation::AtLeast,
+                    _ => (),
+                }
+            }
+        }
+        problem
+    }
+
+    /// The same problem, once in so many times with two = in one of the clauses that have two
+    /// conditions, if one has.
+    pub fn doubled(&mut self, times: i64, mut problem: Problem) -> Problem {
+        if !self.once_in(times) {
+            return problem;
+        }
+        let clauses = problem.clauses.iter_mut();
+        let several = clauses.filter_map(|clause| {
+            let relations: Vec<&mut Relation> = relations(clause).collect();
+            (relations.len() >= 2).then_some(relations)
+        });
+        let mut several: Vec<Vec<&mut Relation>> = several.collect();
+        if let Some(last) = several.len().checked_sub(1) {
+            let mut clause = several.remove(self.between(0, last as i64) as usize);
+            for _ in 0..2 {
+                let place = self.between(0, clause.len() as i64 - 1) as usize;
+                *clause.remove(place) = Relation::Equal;
+            }
+        }
+        problem
     }
 
     /// A problem of at most three marks and three figures; one in eight has large amounts.
@@ -75,11 +120,8 @@ impl Random {
             let place = self.between(0, i64::from(rationals) - 1) as usize;
             coefficients[place] = self.between(-size, size) as i32;
         }
-        Term::Constraint {
-            strict: self.once_in(4),
-            coefficients,
-            bound: self.between(-2 * size, 4 * size) as i32,
-        }
+        let constraint = if self.once_in(4) { below } else { at_most };
+        constraint(&coefficients, self.between(-2 * size, 4 * size) as i32)
     }
 
     /// A problem up to every limit but for its number of clauses, which is at most this; one amount
@@ -115,13 +157,10 @@ impl Random {
             2..=4 => self.between(-3, 3) as i32,
             _ => self.between(-i64::from(limit), i64::from(limit)) as i32,
         };
-        let coefficients = (0..rationals).map(|_| amount(none)).collect();
+        let coefficients: Vec<i32> = (0..rationals).map(|_| amount(none)).collect();
         let bound = amount(false);
-        Term::Constraint {
-            strict: self.once_in(2),
-            coefficients,
-            bound,
-        }
+        let constraint = if self.once_in(2) { below } else { at_most };
+        constraint(&coefficients, bound)
     }
 
     /// A clause of at most three literals and three constraints, mostly short.
@@ -156,12 +195,17 @@ impl Random {
             true => 0,
             false => self.between(-size, size) as i32,
         };
-        let coefficients = (0..rationals).map(|_| coefficient()).collect();
+        let coefficients: Vec<i32> = (0..rationals).map(|_| coefficient()).collect();
         let bound = self.between(-2 * size, 2 * size).clamp(-limit, limit);
-        Term::Constraint {
-            strict: self.once_in(3),
-            coefficients,
-            bound: bound as i32,
-        }
+        let constraint = if self.once_in(3) { below } else { at_most };
+        constraint(&coefficients, bound as i32)
     }
+}
+
+/// The relations of a clause's conditions.
+fn relations(clause: &mut [Term]) -> impl Iterator<Item = &mut Relation> {
+    clause.iter_mut().filter_map(|term| match term {
+        Term::Constraint { relation, .. } => Some(relation),
+        Term::Literal { .. } => None,
+    })
 }

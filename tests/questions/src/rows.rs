@@ -1,7 +1,7 @@
-//! Random problems of few rows of coefficients, with close bounds, both relations and few literals,
+//! Random problems of few rows of coefficients, with close bounds, both ≤ and <, and few literals,
 //! so that an earlier line often covers a later one, by each part of 02's (viii), and often nearly.
 
-use crate::problem::{no, yes, Problem, Term};
+use crate::problem::{at_most, below, no, yes, Problem, Term};
 use crate::random::Random;
 
 /// What the constraints of a problem have in common.
@@ -132,9 +132,7 @@ fn constraint(random: &mut Random, shape: &Shape) -> Term {
     let coefficients: Vec<i32> = row.iter().map(|amount| factor * amount).collect();
     let terms = coefficients.iter().zip(&shape.point);
     let value: i32 = terms.map(|(amount, figure)| amount * figure).sum();
-    Term::Constraint {
-        strict: random.once_in(2),
-        coefficients,
-        bound: value + random.between(-1, 3) as i32 + shape.far,
-    }
+    let constraint = if random.once_in(2) { below } else { at_most };
+    let bound = value + random.between(-1, 3) as i32 + shape.far;
+    constraint(&coefficients, bound)
 }

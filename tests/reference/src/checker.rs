@@ -1,5 +1,6 @@
 //! The check of a book and the check of a sheet, each from the question alone: 01's "What each
-//! call says", from "The check tests question faults" on.
+//! call says", from "The check tests question faults" on. A sheet is put to the clauses as written,
+//! with the four relations of 02's (i).
 
 use crate::elimination::{resolve, Origin, Step, Variable, PROOF_LENGTH, STEP_LENGTH};
 use crate::model::MODEL_LENGTH;
@@ -171,6 +172,8 @@ impl Model {
         match constraint.relation {
             Relation::AtMost => sum <= bound,
             Relation::Below => sum < bound,
+            Relation::Equal => sum == bound,
+            Relation::AtLeast => sum >= bound,
         }
     }
 }

@@ -1,7 +1,7 @@
 //! Which later lines an earlier one drops: 02's (viii), "Drop weaker lines".
 
 use crate::normalize::Body;
-use crate::problem::{Constraint, Relation};
+use crate::readings::Inequality;
 use std::cmp::Ordering;
 
 /// What a line drops: every later one that it covers, by 02's (viii), or its equals alone, as it was
@@ -36,11 +36,11 @@ impl Body {
     }
 }
 
-impl Constraint {
+impl Inequality {
     /// The same coefficients, and a bound that is smaller, or equal under a relation at least as
     /// strict. Bounds are compared with their signs.
-    fn covers(&self, later: &Constraint) -> bool {
-        let as_strict = self.relation == Relation::Below || later.relation == Relation::AtMost;
+    fn covers(&self, later: &Inequality) -> bool {
+        let as_strict = self.strict || !later.strict;
         self.coefficients == later.coefficients
             && match self.bound.cmp(&later.bound) {
                 Ordering::Less => true,

@@ -6,7 +6,8 @@
 
 use crate::covering::Dropping;
 use crate::normalize::{normalize, split, Body};
-use crate::problem::{Constraint, Literals, Problem, Relation, MAX_AMOUNT, MAX_RATIONALS};
+use crate::problem::{Literals, Problem, MAX_AMOUNT, MAX_RATIONALS};
+use crate::readings::Inequality;
 use std::collections::HashMap;
 
 pub const MAX_STEPS: usize = 1_024;
@@ -130,15 +131,11 @@ pub fn resolve(variable: Variable, upper: &Body, lower: &Body) -> Option<Body> {
 }
 
 /// c × upper + a × lower. Amounts of lines are at most 10^9 in size, so this fits 64 bits.
-fn combine(variable: usize, upper: &Constraint, lower: &Constraint) -> Constraint {
+fn combine(variable: usize, upper: &Inequality, lower: &Inequality) -> Inequality {
     let a = upper.coefficients[variable];
     let c = lower.coefficients[variable].abs();
-    let strict = upper.relation == Relation::Below || lower.relation == Relation::Below;
-    Constraint {
-        relation: match strict {
-            true => Relation::Below,
-            false => Relation::AtMost,
-        },
+    Inequality {
+        strict: upper.strict || lower.strict,
         coefficients: std::array::from_fn(|i| {
             c * upper.coefficients[i] + a * lower.coefficients[i]
         }),
@@ -168,9 +165,9 @@ impl Step {
         bytes[8..12].copy_from_slice(&self.body.literals.positive.to_le_bytes());
         bytes[12..16].copy_from_slice(&self.body.literals.negative.to_le_bytes());
         if let Some(constraint) = self.body.constraint {
-            bytes[6] = match constraint.relation {
-                Relation::AtMost => 1,
-                Relation::Below => 2,
+            bytes[6] = match constraint.strict {
+                false => 1,
+                true => 2,
             };
             let amounts = constraint.coefficients.iter().chain([&constraint.bound]);
             for (field, &amount) in bytes[16..52].chunks_exact_mut(4).zip(amounts) {

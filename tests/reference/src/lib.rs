@@ -1,6 +1,6 @@
-//! The second solver: document 01 with 02's requests (vii) and (viii), written once more, in plain
-//! Rust and from their text alone, to judge the proved one from outside. Every call here takes any
-//! bytes and buffers of any length.
+//! The second solver: document 01 with 02's requests (i), (vii) and (viii), written once more, in
+//! plain Rust and from their text alone, to judge the proved one from outside. Every call here takes
+//! any bytes and buffers of any length.
 
 pub mod big;
 mod checker;
@@ -12,6 +12,7 @@ mod model;
 mod normalize;
 mod print;
 mod problem;
+mod readings;
 
 pub use checker::{check_book, check_sheet, Checked};
 pub use covering::Dropping;

@@ -4,7 +4,8 @@
 use crate::big::Big;
 use crate::elimination::{Elimination, Step, Variable};
 use crate::fraction::Fraction;
-use crate::problem::{Constraint, Literals, Problem, Relation, MAX_AMOUNT, MAX_RATIONALS};
+use crate::problem::{Literals, Problem, MAX_AMOUNT, MAX_RATIONALS};
+use crate::readings::Inequality;
 use std::cmp::Ordering;
 
 pub const MODEL_LENGTH: usize = 64;
@@ -158,7 +159,7 @@ impl Assignment {
     }
 
     /// The bound a condition sets on figure i, the other figures having their values.
-    fn limit(&self, i: usize, constraint: &Constraint) -> Limit {
+    fn limit(&self, i: usize, constraint: &Inequality) -> Limit {
         let mut rest = Fraction::from(constraint.bound);
         for (j, value) in self.rationals.iter().enumerate() {
             if j != i {
@@ -167,7 +168,7 @@ impl Assignment {
         }
         Limit {
             value: rest.divided_by(constraint.coefficients[i]),
-            strict: constraint.relation == Relation::Below,
+            strict: constraint.strict,
         }
     }
 }

@@ -1,7 +1,9 @@
 //! Reading a question, field by field, to a problem or to its first fault with number and place:
-//! 01's "The question" and the faults 3 to 13 of "What each call says".
+//! 01's "The question" and the faults 3 to 13 of "What each call says", with the relations and the
+//! fault 18 of 02's (i), "Equal and at least".
 
 use crate::normalize::normalize;
+use crate::readings::readings;
 
 pub const MAX_QUESTION: usize = 32_768;
 pub const MAX_BOOLEANS: u8 = 16;
@@ -19,19 +21,28 @@ pub struct Fault {
     pub place: usize,
 }
 
-/// 01's relation: at most (≤, byte 1) or below (<, byte 2).
+/// A relation as written: 01's ≤ (byte 1) and < (2), and (i)'s = (3) and ≥ (4).
 #[derive(Clone, Copy, Debug, PartialEq, Eq)]
 pub enum Relation {
     AtMost,
     Below,
+    Equal,
+    AtLeast,
 }
 
-/// 01's condition: sum of coefficient × figure, relation, bound. Coefficients from r on are 0.
+/// 01's condition, as written: sum of coefficient × figure, relation, bound. Coefficients from r on
+/// are 0.
 #[derive(Clone, Copy, Debug, PartialEq, Eq)]
 pub struct Constraint {
     pub relation: Relation,
     pub coefficients: [i64; MAX_RATIONALS],
     pub bound: i64,
+}
+
+/// Whether an = is among these conditions.
+pub fn has_equal(constraints: &[Constraint]) -> bool {
+    let is_equal = |constraint: &Constraint| constraint.relation == Relation::Equal;
+    constraints.iter().any(is_equal)
 }
 
 /// A set of literals: bit i of `positive` and of `negative` is mark i.
@@ -88,12 +99,14 @@ pub fn read(question: &[u8]) -> Result<Problem, Fault> {
     Ok(problem)
 }
 
-/// Fault 13: the clause with which the links of all tidied clauses pass their limit.
+/// Fault 13: the clause with which the links of all tidied readings pass their limit.
 fn count_splitting(clauses: &[Clause]) -> Result<(), Fault> {
     let mut count = 0;
     for clause in clauses {
-        let normal = normalize(clause.literals, &clause.constraints);
-        count += normal.map_or(0, |kept| kept.constraints.len().saturating_sub(1));
+        for constraints in readings(clause) {
+            let normal = normalize(clause.literals, &constraints);
+            count += normal.map_or(0, |kept| kept.links());
+        }
         if count > MAX_SPLITTING {
             return Err(Fault {
                 number: 13,
@@ -163,9 +176,10 @@ impl Reader<'_> {
         for _ in 0..self.count(MAX_LITERALS, 8)? {
             self.literal(booleans, &mut literals)?;
         }
-        let constraints = (0..self.count(MAX_CONSTRAINTS, 9)?)
-            .map(|_| self.constraint(rationals))
-            .collect::<Result<_, _>>()?;
+        let mut constraints: Vec<Constraint> = Vec::new();
+        for _ in 0..self.count(MAX_CONSTRAINTS, 9)? {
+            constraints.push(self.constraint(rationals, has_equal(&constraints))?);
+        }
         Ok(Clause {
             place,
             literals,
@@ -187,12 +201,19 @@ impl Reader<'_> {
         Ok(())
     }
 
-    fn constraint(&mut self, rationals: usize) -> Result<Constraint, Fault> {
+    /// A condition; where the clause has an = already, another is fault 18, before its amounts are
+    /// read.
+    fn constraint(&mut self, rationals: usize, has_equal: bool) -> Result<Constraint, Fault> {
         let relation = match self.peek()? {
             [1] => Relation::AtMost,
             [2] => Relation::Below,
+            [3] => Relation::Equal,
+            [4] => Relation::AtLeast,
             [_] => return Err(self.fault(10)),
         };
+        if relation == Relation::Equal && has_equal {
+            return Err(self.fault(18));
+        }
         self.place += 1;
         let mut coefficients = [0; MAX_RATIONALS];
         for coefficient in &mut coefficients[..rationals] {

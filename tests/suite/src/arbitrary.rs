@@ -13,8 +13,9 @@ const SEED: u64 = 4;
 /// How often each answer must come at least.
 const OFTEN: usize = 200;
 
-/// How often a short book, a short sheet, a fault of the question and a course came.
-type Tally = [usize; 4];
+/// How often a short book, a short sheet, two = in a clause, another fault of the question and a
+/// course came.
+type Tally = [usize; 5];
 
 pub fn run(sums: &mut Sums) {
     let mut group = Group::new("arbitrary bytes");
@@ -53,7 +54,8 @@ fn question(random: &mut Random) -> Vec<u8> {
         let length = random.between(0, 40);
         return bytes(random, length);
     }
-    let mut question = random.problem().encode();
+    let problem = random.stated(Random::problem);
+    let mut question = random.doubled(2, problem).encode();
     for _ in 0..random.between(0, 2) {
         let place = random.between(0, question.len() as i64 - 1) as usize;
         question[place] = random.word() as u8;
@@ -76,9 +78,12 @@ struct Said {
 
 fn check_calls(question: &[u8], book: &[u8], sheet: &[u8], tally: &mut Tally) -> Outcome {
     let fault = first_fault(question, book, sheet);
-    tally[match fault {
-        Some(Fault { number, .. }) => usize::from(number.min(3)) - 1,
-        None => 3,
+    tally[match fault.map(|fault| fault.number) {
+        Some(1) => 0,
+        Some(2) => 1,
+        Some(18) => 2,
+        Some(_) => 3,
+        None => 4,
     }] += 1;
     let [second, proved] = BOTH.map(|solver| said(solver, question, book, sheet, fault));
     demand(second? == proved?, "the solvers differ")?;

@@ -8,7 +8,7 @@ use crate::solver::Solver;
 use crate::solving::check_part;
 use questions::batches::{loose, natural, richer};
 use questions::diamonds::{diamonds, Ways};
-use questions::problem::{Assignment, Problem};
+use questions::problem::{Assignment, Problem, Term};
 use questions::random::Random;
 use reference::{Answer, Dropping, Order, Rules, Verdict};
 
@@ -19,6 +19,8 @@ const CASES: usize = 300;
 const OFTEN: usize = 60;
 /// So many are solved by earlier rules, too.
 const BEFORE: usize = 30;
+/// One in so many is solved with = and ≥, too.
+const STATED: usize = 3;
 
 /// The rules of version 1.0, and those with 02's (vii) alone.
 const EARLIER: [Rules; 2] = [
@@ -55,7 +57,7 @@ pub fn run(sums: &mut Sums) {
 fn run_family((name, draw, fewest): Family, sums: &mut Sums) {
     let mut group = Group::new(format!("batches: {name}"));
     let mut random = Random::new(SEED);
-    let (mut verdicts, mut refused) = ([0; 2], [0; 2]);
+    let (mut verdicts, mut refused, mut stated) = ([0; 2], [0; 2], 0);
     for number in 0..CASES {
         let problem = draw(&mut random);
         group.case(&format!("number {number}"), || {
@@ -68,12 +70,19 @@ fn run_family((name, draw, fewest): Family, sums: &mut Sums) {
                     None => *refused += 1,
                 }
             }
+            if number % STATED == 0 {
+                stated += usize::from(decide_stated(&problem)?);
+            }
             Ok(())
         });
     }
     group.case("both verdicts come often", || {
         let often = verdicts.iter().all(|&count| count >= OFTEN);
         demand(often, &format!("they came {verdicts:?} times"))
+    });
+    group.case("most state an =", || {
+        let most = 10 * stated > 8 * CASES / STATED;
+        demand(most, &format!("{stated} do"))
     });
     group.case("earlier rules refuse some", || {
         let mut some = refused.iter().zip(fewest);
@@ -97,6 +106,19 @@ fn decide(problem: &Problem) -> Result<bool, String> {
         } => Ok(false),
         answer => Err(format!("undecided: {answer:?}")),
     }
+}
+
+/// The batch with its charges and entries as =, and shares that are at least 0, is answered alike,
+/// with the same sheet. Tells whether it has an =.
+fn decide_stated(problem: &Problem) -> Result<bool, String> {
+    let stated = problem.joined();
+    demand(stated.apart() == *problem, "another batch")?;
+    decide(&stated)?;
+    let solve = |problem: &Problem| solve_filled(Solver::Proved, &problem.encode());
+    let (joined, written) = (solve(&stated), solve(problem));
+    joined.expect(&written.answer)?;
+    demand(joined.sheet() == written.sheet(), "the sheets differ")?;
+    Ok(stated.clauses.iter().flatten().any(Term::is_equal))
 }
 
 /// Both solve, and must answer and leave the buffers alike.

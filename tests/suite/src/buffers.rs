@@ -65,7 +65,7 @@ impl Solved {
             }
             Answer::Refused { number, .. } => {
                 demand(all(sheet, SHEET_FILL), "the sheet altered")?;
-                let left = if number < 14 { BOOK_FILL } else { 0 };
+                let left = if ends_course(number) { 0 } else { BOOK_FILL };
                 demand(all(book, left), "the book not as it should be left")
             }
         }
@@ -74,6 +74,12 @@ impl Solved {
     pub fn expect(&self, answer: &Answer) -> Outcome {
         equal("answer", answer, &self.answer)
     }
+}
+
+/// Whether the refusal ends a course: 14 and 15 have pairs and zero the book. All others come before
+/// it, and alter no byte.
+pub fn ends_course(number: u8) -> bool {
+    matches!(number, 14 | 15)
 }
 
 fn all(bytes: &[u8], byte: u8) -> bool {

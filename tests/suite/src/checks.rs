@@ -63,10 +63,11 @@ struct Case {
 }
 
 fn case(random: &mut Random) -> Case {
-    let question = match random.once_in(10) {
-        true => random.dense_problem(6).encode(),
-        false => random.problem().encode(),
-    };
+    let problem = random.stated(|random| match random.once_in(10) {
+        true => random.dense_problem(6),
+        false => random.problem(),
+    });
+    let question = random.doubled(100, problem).encode();
     let solved = solve_filled(Solver::Second, &question);
     let verdict = match solved.answer {
         Answer::Verdict { verdict, .. } => Some(verdict),
@@ -130,7 +131,7 @@ fn check_books(random: &mut Random, sums: &mut Sums) {
 }
 
 /// A byte or more changed, parents swapped, lines moved, repeated or taken from another book, the
-/// end cut; or nothing.
+/// end cut, a loaded line's piece or signs changed; or nothing.
 fn damage_book(random: &mut Random, book: &mut Vec<u8>, other: &[u8]) {
     let lines = book.len() / LINE_LENGTH;
     let line = |random: &mut Random, lines: usize| random.between(0, lines as i64 - 1) as usize;
@@ -138,7 +139,7 @@ fn damage_book(random: &mut Random, book: &mut Vec<u8>, other: &[u8]) {
         book.extend(other);
         return;
     }
-    match random.between(0, 9) {
+    match random.between(0, 11) {
         0 | 1 => (),
         2 | 3 => {
             for _ in 0..random.between(1, 3) {
@@ -173,6 +174,13 @@ fn damage_book(random: &mut Random, book: &mut Vec<u8>, other: &[u8]) {
             book[at..at + LINE_LENGTH].copy_from_slice(&other[from..from + LINE_LENGTH]);
         }
         8 => book.truncate(line(random, lines) * LINE_LENGTH),
+        9 | 10 => {
+            let loaded: Vec<usize> = (0..lines).filter(|i| book[i * LINE_LENGTH] == 0).collect();
+            if !loaded.is_empty() {
+                let at = loaded[line(random, loaded.len())] * LINE_LENGTH;
+                other_piece(random, &mut book[at..at + LINE_LENGTH]);
+            }
+        }
         _ => {
             let at = line(random, lines) * LINE_LENGTH;
             let named = [random.between(0, 3), random.between(0, 9)];
@@ -184,6 +192,22 @@ fn damage_book(random: &mut Random, book: &mut Vec<u8>, other: &[u8]) {
     }
     if random.once_in(40) {
         book.push(0);
+    }
+}
+
+/// A loaded line as another piece of its clause or of the next, or with the relation of a condition
+/// as written, or with its signs turned.
+fn other_piece(random: &mut Random, line: &mut [u8]) {
+    match random.between(0, 3) {
+        0 => line[4] = random.between(0, 3) as u8,
+        1 => (line[2], line[4]) = (line[2].wrapping_add(1), 0),
+        2 => line[6] = random.between(0, 4) as u8,
+        _ => {
+            for place in (16..52).step_by(4) {
+                let amount = i32::from_le_bytes(std::array::from_fn(|i| line[place + i]));
+                line[place..place + 4].copy_from_slice(&amount.wrapping_neg().to_le_bytes());
+            }
+        }
     }
 }
 
@@ -206,12 +230,23 @@ fn check_sheets(random: &mut Random, sums: &mut Sums) {
     group.finish(sums);
 }
 
+/// Another question's sheet, another length, an amount more or less by 1, or a byte or more changed; or
+/// nothing.
 fn damage_sheet(random: &mut Random, sheet: &mut Vec<u8>, other: &[u8]) {
-    match random.between(0, 5) {
+    match random.between(0, 7) {
         0 | 1 => (),
         2 => sheet.copy_from_slice(other),
         3 if random.once_in(4) => sheet.truncate(random.between(0, 63) as usize),
         3 => sheet.extend((0..random.between(1, 9)).map(|_| 0xab)),
+        4 | 5 => {
+            let denominator = 2 + usize::from(sheet[0]);
+            let place = denominator + 4 * random.between(0, 3) as usize;
+            let change = [1, u8::MAX][random.between(0, 1) as usize];
+            // A refused question has left the fill, whose count is beyond the sheet.
+            if let Some(byte) = sheet.get_mut(place) {
+                *byte = byte.wrapping_add(change);
+            }
+        }
         _ => {
             for _ in 0..random.between(1, 3) {
                 let place = random.between(0, 20) as usize;

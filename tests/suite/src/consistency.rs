@@ -20,7 +20,7 @@ pub fn run(solver: Solver, sums: &mut Sums) {
     let mut random = Random::new(SEED);
     let mut tally = Tally::default();
     for number in 0..CASES {
-        let problem = random.problem();
+        let problem = random.stated(Random::problem);
         let name = format!("number {number}");
         group.case(&name, || check_problem(solver, &problem, &mut tally));
     }

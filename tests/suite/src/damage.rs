@@ -48,12 +48,12 @@ pub fn run(solver: Solver, sums: &mut Sums) {
 
 /// Random problems with this verdict and a short book of some lines.
 fn problems(solver: Solver, wanted: Verdict, random: &mut Random) -> Vec<(Problem, Solved)> {
-    let solved = std::iter::repeat_with(|| random.problem())
-        .take(TRIED)
-        .map(|problem| {
-            let solved = solve_filled(solver, &problem.encode());
-            (problem, solved)
-        });
+    let solve = || {
+        let problem = random.stated(Random::problem);
+        let solved = solve_filled(solver, &problem.encode());
+        (problem, solved)
+    };
+    let solved = std::iter::repeat_with(solve).take(TRIED);
     let wanted = |(_, solved): &(Problem, Solved)| match solved.answer {
         Answer::Verdict { verdict, lines, .. } => {
             verdict == wanted && (2..=MAX_LINES).contains(&lines)

@@ -35,7 +35,7 @@ const BEFORE: [Earlier; 2] = [
             dropping: Dropping::Equal,
         },
         books: "base_books.txt",
-        least: [5_000, 1_000, 100, 5],
+        least: [5_000, 500, 100, 5],
     },
     Earlier {
         name: "by the rules before (viii)",
@@ -44,7 +44,7 @@ const BEFORE: [Earlier; 2] = [
             dropping: Dropping::Equal,
         },
         books: "cheapest_books.txt",
-        least: [5_000, 100, 10, 1],
+        least: [5_000, 50, 10, 1],
     },
 ];
 /// The fewest stored books.
@@ -67,7 +67,7 @@ fn run_random(earlier: &Earlier, sums: &mut Sums) {
     for number in 0..CASES {
         let question = match number % 2 {
             0 => question(&mut random),
-            _ => rows::problem(&mut random).encode(),
+            _ => random.stated(rows::problem).encode(),
         };
         group.case(&format!("number {number}"), || {
             for (count, came) in tally.iter_mut().zip(compare(earlier.rules, &question)?) {

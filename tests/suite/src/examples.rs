@@ -1,12 +1,12 @@
 //! Examples 1 to 12 of document 01, each variant, with all that 01 states of them, and what 02's
-//! (viii) states of the last; a pair at the limit of lines in its place; and what the program prints
-//! for some.
+//! (viii) states of the last; a pair at the limit of lines in its place; what follows from 02's (i)
+//! for the shortest questions; and what the program prints for some.
 
 use crate::buffers::{read_sheet, solve_filled, Solved, LINE_LENGTH};
 use crate::report::{equal, Group, Outcome, Sums};
 use crate::solver::Solver;
 use questions::largest;
-use questions::problem::{at_most, below, no, yes, Problem};
+use questions::problem::{at_least, at_most, below, equal as equals, no, yes, Problem};
 use reference::{print, Answer, Checked, Verdict};
 
 /// An example and what is stated of it.
@@ -160,9 +160,31 @@ fn at_the_limit() -> Vec<Example> {
     ]
 }
 
+/// "A clause with one = is read as two", each tidied by itself, and a second = is refused.
+fn equal_and_at_least() -> Vec<Example> {
+    let half = Problem::new(1, 0).clause([yes(0), equals(&[], 5)]);
+    let at_least_5 = Problem::new(0, 1).clause([at_least(&[1], 5)]);
+    let both = x_is_5().clause([at_most(&[1], 4)]);
+    vec![
+        example("x = 5", x_is_5(), agrees(2, 1)).with(&[], &[(5, 1)]),
+        example("a or 0 = 5", half, agrees(1, 0)).with(&[1], &[]),
+        example("x at least 5", at_least_5, agrees(1, 0)).with(&[], &[(5, 1)]),
+        example("x = 5, x at most 4", both, cannot(4, 2)),
+        example("two =", two_equal(), refused(18, 15, 0)),
+    ]
+}
+
+fn x_is_5() -> Problem {
+    Problem::new(0, 1).clause([equals(&[1], 5)])
+}
+
+fn two_equal() -> Problem {
+    Problem::new(0, 1).clause([equals(&[1], 1), equals(&[1], 2)])
+}
+
 fn examples() -> impl Iterator<Item = Example> {
     let document = examples_1_to_6().into_iter().chain(examples_7_to_12());
-    document.chain(at_the_limit())
+    document.chain(at_the_limit()).chain(equal_and_at_least())
 }
 
 /// The examples' questions, with their answers.
@@ -173,7 +195,7 @@ pub fn questions() -> Vec<(&'static str, Vec<u8>, Answer)> {
 
 /// Runs the examples.
 pub fn run(solver: Solver, sums: &mut Sums) {
-    let mut group = solver.group("examples 1 to 12");
+    let mut group = solver.group("examples");
     for example in examples() {
         group.case(example.name, || check_example(solver, &example));
     }
@@ -267,6 +289,7 @@ pub fn run_printed(sums: &mut Sums) {
         .clause([no(1)])
         .clause([at_most(&[0, -2], 3)]);
     let sheet = "agrees 3 0\nmarks 2\n1\n0\nfigures 2\n0 2\n-3 2\n";
+    let book_of_equal = "cannot 4 2\nlines 4\n0 0 0 0\n0 0 0 1\n0 0 1 0\n1 0 2 1\n";
     let cases = [
         (
             "example 5",
@@ -286,6 +309,12 @@ pub fn run_printed(sums: &mut Sums) {
         ("a fault", Problem::new(17, 0), "refused 5 0 0\n"),
         ("wide", example_10(3), "refused 14 2 1\n"),
         ("full", largest::limit(24), "refused 15 1024 920\n"),
+        (
+            "both readings of a clause",
+            x_is_5().clause([at_most(&[1], 4)]),
+            book_of_equal,
+        ),
+        ("two =", two_equal(), "refused 18 15 0\n"),
     ];
     let mut group = Group::new("printed output");
     for (name, problem, expected) in cases {

@@ -14,6 +14,7 @@ mod integers;
 mod lengths;
 mod program;
 mod reading;
+mod relations;
 mod report;
 mod solver;
 mod solving;
@@ -39,6 +40,7 @@ fn main() -> ExitCode {
     checks::run(&mut sums);
     solving::run(&mut sums);
     weaker::run(&mut sums);
+    relations::run(&mut sums);
     earlier::run(&mut sums);
     batches::run(&mut sums);
     program::run(&mut sums);

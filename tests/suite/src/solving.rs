@@ -1,10 +1,11 @@
 //! Solving: the proved code and the second solver give the same answer and leave the same bytes in
 //! book and sheet; and what a verdict hands back, the proved checks accept.
 
-use crate::buffers::{BOOK_LENGTH, SHEET_LENGTH};
+use crate::buffers::{ends_course, solve_filled, BOOK_LENGTH, LINE_LENGTH, SHEET_LENGTH};
 use crate::report::{demand, equal, Group, Outcome, Sums};
+use crate::solver::{Solver, BOTH};
 use crate::{examples, vectors};
-use questions::largest;
+use questions::largest::{self, Kind};
 use questions::problem::{at_most, yes, Problem};
 use questions::random::Random;
 use reference::{Answer, Checked, Part, Verdict};
@@ -85,7 +86,7 @@ fn solve_vectors(sums: &mut Sums) {
 }
 
 fn solve_examples(sums: &mut Sums) {
-    let mut group = Group::new("solving: examples 1 to 12");
+    let mut group = Group::new("solving: examples");
     for (name, question, expected) in examples::questions() {
         group.case(name, || {
             equal("answer", &expected, &compare(&question, 0xab)?)
@@ -104,7 +105,7 @@ fn solve_random(sums: &mut Sums) {
         group.case(&format!("number {number}"), || {
             let (answer, lines) = match compare(&question, number as u8)? {
                 Answer::Verdict { verdict, lines, .. } => (format!("{verdict:?}"), lines),
-                Answer::Refused { number, place, .. } if number >= 14 => {
+                Answer::Refused { number, place, .. } if ends_course(number) => {
                     (number.to_string(), place)
                 }
                 Answer::Refused { number, .. } => (number.to_string(), 0),
@@ -117,7 +118,19 @@ fn solve_random(sums: &mut Sums) {
         });
     }
     let near = ["Agrees", "Cannot", "14"].map(|answer| format!("{answer} with 1,000 lines"));
-    let all = ["Agrees", "Cannot", "Unwritten", "4", "13", "14", "15"].map(str::to_string);
+    let all = [
+        "Agrees",
+        "Cannot",
+        "Unwritten",
+        "4",
+        "10",
+        "11",
+        "13",
+        "14",
+        "15",
+        "18",
+    ];
+    let all = all.map(str::to_string);
     for kind in all.iter().chain(&near) {
         let count = seen.get(kind).copied().unwrap_or(0);
         group.case(kind, || {
@@ -129,12 +142,13 @@ fn solve_random(sums: &mut Sums) {
 
 /// Small ones, large amounts, many figures, many lines, many links, damaged ones.
 pub fn question(random: &mut Random) -> Vec<u8> {
-    let mut question = match random.between(0, 99) {
-        0 => many_lines(random).encode(),
-        1..=9 => random.dense_problem(6).encode(),
-        10..=24 => random.sparse_problem().encode(),
-        _ => random.problem().encode(),
+    let problem = match random.between(0, 99) {
+        0 => many_lines(random).joined(),
+        1..=9 => random.stated(|random| random.dense_problem(6)),
+        10..=24 => random.stated(Random::sparse_problem),
+        _ => random.stated(Random::problem),
     };
+    let mut question = random.doubled(50, problem).encode();
     if random.once_in(10) {
         let place = random.between(0, question.len() as i64 - 1) as usize;
         question[place] = random.word() as u8;
@@ -194,7 +208,7 @@ fn solve_lengths(sums: &mut Sums) {
 }
 
 fn solve_largest(sums: &mut Sums) {
-    let mut group = Group::new("solving: the largest run");
+    let mut group = Group::new("solving: the largest questions and runs");
     let agrees = Answer::Verdict {
         verdict: Verdict::Agrees,
         lines: 1_024,
@@ -211,7 +225,33 @@ fn solve_largest(sums: &mut Sums) {
             equal("answer", &expected, &answer)
         });
     }
+    group.case("the most lines loaded", solve_loaded);
+    for kind in [Kind::Dropped, Kind::Struck, Kind::Equal, Kind::Doubled] {
+        group.case(&format!("as long as it may be, {kind:?}"), || {
+            compare(&largest::question(32_768, kind), 1).map(|_| ())
+        });
+    }
     group.finish(sums);
+}
+
+/// 512 lines for 256 clauses with =, and one more for each link; all follow, and none is empty.
+fn solve_loaded() -> Outcome {
+    let question = largest::loaded().encode();
+    let lines = 512 + 16;
+    let expected = Answer::Verdict {
+        verdict: Verdict::Agrees,
+        lines,
+        pairs: 256 * 256,
+    };
+    equal("answer", &expected, &compare(&question, 1)?)?;
+    let solved = solve_filled(Solver::Proved, &question);
+    let mut loaded = solved.used().chunks_exact(LINE_LENGTH);
+    demand(loaded.all(|line| line[0] == 0), "a result")?;
+    for solver in BOTH {
+        let checked = solver.check_book(&question, solved.used());
+        equal("check", &Checked::Fails(lines), &checked)?;
+    }
+    Ok(())
 }
 
 /// A refusal hands nothing back, whatever number a caller puts into it.

@@ -1,7 +1,7 @@
 //! The vectors beside the suite: every line of every file is a case, and a line that cannot be
 //! read is a failure.
 
-use crate::buffers::{solve_filled, BOOK_LENGTH};
+use crate::buffers::{ends_course, solve_filled, BOOK_LENGTH};
 use crate::report::{demand, equal, Outcome, Sums};
 use crate::solver::Solver;
 use reference::{Answer, Checked, Part, Verdict};
@@ -149,7 +149,7 @@ fn buffers_case(solver: Solver, fields: &Fields) -> Outcome {
         &solver.solve(&question, &mut book, &mut sheet),
     )?;
     let altered = book.iter().chain(&sheet).any(|&byte| byte != 0);
-    let faulty = matches!(answer, Answer::Refused { number: 0..=13, .. });
+    let faulty = matches!(answer, Answer::Refused { number, .. } if !ends_course(number));
     demand(!(faulty && altered), "a byte of the buffers altered")
 }
 

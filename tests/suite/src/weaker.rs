@@ -115,7 +115,7 @@ fn run_random(sums: &mut Sums) {
     let mut random = Random::new(SEED);
     let mut tally = Tally::default();
     for number in 0..CASES {
-        let question = rows::problem(&mut random).encode();
+        let question = random.stated(rows::problem).encode();
         group.case(&format!("number {number}"), || {
             let answer = solving::compare(&question, number as u8)?;
             equal("answer by a hash", &answer, &by_hash(&question))?;

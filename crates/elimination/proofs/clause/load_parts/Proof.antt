@@ -13,10 +13,10 @@ use Rattle.elimination.proofs.clause.load_parts.Statement.{statement}
 use Rattle.elimination.proofs.clause.load_parts.Tie as tie
 
 abbrev Inv-loop : tie.InvT-loop
-Inv-loop q r clause proof₀ limits parts₀ p₀ j₀ proof parts p j = AtPart limits q r clause parts₀ proof₀ p₀ proof p parts j
+Inv-loop q r clause number proof₀ limits parts₀ p₀ j₀ proof parts p j = AtPart limits q r clause number parts₀ proof₀ p₀ proof p parts j
 
 abbrev μ-loop : tie.MeasureT-loop
-μ-loop q r clause proof₀ limits parts₀ p₀ j₀ proof parts p j = length (partsFrom q r parts)
+μ-loop q r clause number proof₀ limits parts₀ p₀ j₀ proof parts p j = length (partsFrom q r parts)
 
 loop-holds : tie.Need-loop-holds Inv-loop μ-loop
 loop-holds c = let h = c .before .before .pre .1 in parts-start (h .1 .1 .1 .1) (h .1 .1 .1 .0) (h .0)
@@ -24,7 +24,7 @@ loop-holds c = let h = c .before .before .pre .1 in parts-start (h .1 .1 .1 .1) 
 next-requires : tie.Need-next-requires Inv-loop μ-loop
 next-requires c κs = (c .before .before .before .before .pre .0, (c .before .loop .inv .sound, c .loop-test .taken))
 
-few : (c : tie.At-loop Inv-loop μ-loop) → c .loop .j ≤ limit.splits + 1
+few : (c : tie.At-loop Inv-loop μ-loop) → c .loop .j ≤ limit.splits + 2
 few c = omega (arith, c .loop .inv .few, c .before .before .before .pre .1 .1 .0)
 
 loaded-requires : tie.Need-loaded-requires Inv-loop μ-loop

@@ -1,15 +1,10 @@
 -- `load::load` meets its contract. Invariant: the clauses that are left come to what all clauses come to. Assumes nothing.
-use mathlib.Core.Path.{sym, ap, _∙_}
-use Prim.Native.Nat.{_+_, _-_, _≤_}
+use mathlib.Core.Path.{sym, _∙_}
+use Prim.Native.Nat.{_-_}
 use native.Mathlib.Omega.{arith}
 use borrow.Author.Needs.{needs}
 use borrow.Author.Tests.{not-true, not-false}
-use lib.ListN.{length}
-use Rattle.rules_types.specs.Limits as limit
-use Rattle.rules.specs.Split.{partsOf}
-use Rattle.problem_scan.specs.Values.{clauseAt}
 use Rattle.problem_scan.specs.Sound.{SoundClause}
-use Rattle.theory_splitting.specs.Count.{parts-length}
 use Rattle.elimination.specs.Loading.{AtClause, clauses-start, clauses-done, clause-sound, clause-splits, clause-next, clause-ended}
 use Rattle.elimination.proofs.load.load.Statement.{statement}
 use Rattle.elimination.proofs.load.load.Tie as tie
@@ -32,27 +27,21 @@ sound : (c : tie.In-loop Inv-loop μ-loop) → let s = c .before .before .before
     SoundClause (s .args .input .now) (s .args .sizes .rationals) (c .before .loop .at)
 sound c = clause-sound (c .before .loop .inv) (c .loop-test .taken)
 
-begin-requires : tie.Need-begin-requires Inv-loop μ-loop
-begin-requires c κs =
-    let a = c .before .loop .inv in
-    let s = c .before .before .before .before .before in
-    (sound c, omega (arith, a .low, clause-splits a (c .loop-test .taken), s .pre .0 .parsed .booleans))
-
-load-parts-requires : tie.Need-load-parts-requires Inv-loop μ-loop
-load-parts-requires c κs =
-    let k = c .before in
-    let i = k .before in
+load-clause-requires : tie.Need-load-clause-requires Inv-loop μ-loop
+load-clause-requires c κs =
+    let i = c .before in
     let l = i .before .loop in
     let s = i .before .before .before .before .before in
-    let c = clauseAt (s .args .input .now) (s .args .sizes .rationals) (l .at) in
-    let few : length (partsOf (l .split) c) ≤ limit.splits + 1 =
-    omega (arith, parts-length (l .split) c, clause-splits (l .inv) (i .loop-test .taken)) in (
+    let few = clause-splits (l .inv) (i .loop-test .taken) in (
       s .pre .0 .parsed .rationals,
       (
-        k .begin .ensures .1 .0,
+        sound i,
         (
-          omega (arith, ap length (k .begin .ensures .0), few),
-          (omega (arith, i .loop-test .taken, s .pre .0 .parsed .clauses), (l .inv .leads .standing, l .inv .going)),
+          omega (arith, l .inv .low, few, s .pre .0 .parsed .booleans),
+          (
+            omega (arith, few),
+            (omega (arith, i .loop-test .taken, s .pre .0 .parsed .clauses), (l .inv .leads .standing, l .inv .going)),
+          ),
         ),
       ),
     )
@@ -65,33 +54,13 @@ same-length c = search needs
 
 returns : tie.Need-returns Inv-loop μ-loop
 returns c =
-    let k = c .before .before .before .before in
-    let i = k .before .before .before in
-    clause-ended (i .before .loop .inv) (i .loop-test .taken) (rw (k .before .before .begin .ensures .0) at (k .load-parts .ensures))
+    let k = c .before .before .before .before .before in
+    let i = k .before .before in
+    clause-ended (i .before .loop .inv) (i .loop-test .taken) (k .load-clause .ensures .0)
     (sym (c .before .is-running .ensures) ∙ not-true _ (c .if1 .taken))
 
-splits-requires : tie.Need-splits-requires Inv-loop μ-loop
-splits-requires c κs = search needs
-
-cast-split-2 : tie.Need-cast-split-2 Inv-loop μ-loop
-cast-split-2 c = search needs
-
-add-split : tie.Need-add-split Inv-loop μ-loop
-add-split c =
-    let k = c .before .before .before .before .before .before .before in
-    let i = k .before in
-    let a = i .before .loop .inv in
-    omega (
-      arith,
-      c .splits .ensures,
-      k .begin .ensures .1 .1,
-      a .low,
-      clause-splits a (i .loop-test .taken),
-      i .before .before .before .before .before .pre .0 .parsed .booleans,
-    )
-
 next-requires : tie.Need-next-requires Inv-loop μ-loop
-next-requires c κs = sound (c .before .before .before .before .before .before .before .before) .within
+next-requires c κs = sound (c .before .before .before .before .before .before .before) .within
 
 add-clause : tie.Need-add-clause Inv-loop μ-loop
 add-clause c = search needs
@@ -101,12 +70,12 @@ loop-less c = search needs
 
 loop-again : tie.Need-loop-again Inv-loop μ-loop
 loop-again c =
-    let e = c .before .before in
-    let k = e .before .before .before .before in
-    let i = k .before .before .before in
-    rw (c .before .splits .ensures ∙ k .before .before .begin .ensures .1 .1, c .next .ensures)
-    (clause-next (i .before .loop .inv) (i .loop-test .taken) (rw (k .before .before .begin .ensures .0) at (k .load-parts .ensures))
-    (sym (e .before .is-running .ensures) ∙ not-false _ (e .if1 .left)))
+    let e = c .before in
+    let k = e .before .before .before .before .before in
+    let i = k .before .before in
+    let going = sym (e .before .is-running .ensures) ∙ not-false _ (e .if1 .left) in
+    rw (k .load-clause .ensures .1 going, c .next .ensures)
+    (clause-next (i .before .loop .inv) (i .loop-test .taken) (k .load-clause .ensures .0) going)
 
 same-length-2 : tie.Need-same-length-2 Inv-loop μ-loop
 same-length-2 c = search needs
@@ -122,14 +91,10 @@ load-spec =
     μ-loop
     cast-split
     loop-holds
-    begin-requires
-    load-parts-requires
+    load-clause-requires
     is-running-requires
     same-length
     returns
-    splits-requires
-    cast-split-2
-    add-split
     next-requires
     add-clause
     loop-less

@@ -9,7 +9,7 @@ use Rattle.problem_clauses.specs.Walk.{count-within, clause-within}
 use Rattle.model_check.proofs.clause.clause_holds.Statement.{statement}
 use Rattle.model_check.proofs.clause.clause_holds.Tie as tie
 
--- the count of constraints and the byte behind the first are in the slice
+-- the count of comparisons and the byte behind the first are in the slice
 counted : (s : tie.Start) → countOf (s .args .input .now) (s .args .at) < length (s .args .input .now)
 counted s = count-within (s .args .input .now) (s .args .r) (s .args .at) (s .pre .1 .0 .within)
 
@@ -33,27 +33,27 @@ returns : tie.Need-returns
 unfolding clauseHolds clauseAt
 returns c = rw (sym (c .before .any-literal .ensures) ∙ c .if1 .taken)
 
-add-any-constraint : tie.Need-add-any-constraint
-add-any-constraint c = let p = c .before .before .before in let s = p .before .before in
+add-any-comparison : tie.Need-add-any-comparison
+add-any-comparison c = let p = c .before .before .before in let s = p .before .before in
     omega (arith, p .count-place .ensures, counted s, s .good)
 
-shared-slice-read-any-constraint : tie.Need-shared-slice-read-any-constraint
-shared-slice-read-any-constraint c = let p = c .before .before .before .before in
+shared-slice-read-any-comparison : tie.Need-shared-slice-read-any-comparison
+shared-slice-read-any-comparison c = let p = c .before .before .before .before in
     omega (arith, p .count-place .ensures, counted (p .before .before))
 
-any-constraint-requires : tie.Need-any-constraint-requires
+any-comparison-requires : tie.Need-any-comparison-requires
 unfolding clauseEnd
-any-constraint-requires c κs =
+any-comparison-requires c κs =
     let p = c .before .before .before .before in
     let s = p .before .before in
-    (s .pre .0, rw (p .count-place .ensures) (s .pre .1 .0 .within, (s .pre .1 .0 .constraints, s .pre .1 .1)))
+    (s .pre .0, rw (p .count-place .ensures) (s .pre .1 .0 .within, (s .pre .1 .0 .comparisons, s .pre .1 .1)))
 
 returns-2 : tie.Need-returns-2
 unfolding clauseHolds clauseAt
 returns-2 c =
     let a = c .before .before .before in
     rw (sym (a .any-literal .ensures) ∙ c .before .before .if1 .left, ← a .before .before .count-place .ensures)
-    (c .any-constraint .ensures)
+    (c .any-comparison .ensures)
 
 pub clause-holds-spec : {M : Type 1} → statement M
 clause-holds-spec =
@@ -64,7 +64,7 @@ clause-holds-spec =
     shared-slice-read-any-literal
     any-literal-requires
     returns
-    add-any-constraint
-    shared-slice-read-any-constraint
-    any-constraint-requires
+    add-any-comparison
+    shared-slice-read-any-comparison
+    any-comparison-requires
     returns-2)

@@ -1,31 +1,42 @@
--- `constraint::bound_of` meets its contract. Assumes nothing.
-use mathlib.Core.Path.{sym, ap, _∙_}
-use native.Mathlib.Omega.{arith}
+-- `constraint::bound_of` meets its contract: the bound as written, its sign turned where the comparison's are.
+use mathlib.Core.Path.{_≡_, sym, _∙_, subst}
+use Prim.Native.Nat.{_^_, _≤_}
 use borrow.Author.Needs.{needs, sfits-of}
 use mir.Syntax.{w64}
+use mir.Val.{toZ, ofZ}
 use mir.Facts.{toZ-ofZ}
-use Prim.Native.Nat.{ℕ, _+_}
-use Rattle.rules.specs.Bytes.{fromUnsigned, fieldAt}
-use Rattle.problem_clauses.specs.Settled.{bound-at}
+use lib.IntN.{ℤ, natAbs}
+use Rattle.rules.specs.Readings.{signed, readAs}
+use Rattle.problem_scan.specs.Values.{comparisonAt}
+use Rattle.problem_clauses.specs.Settled.{bound-size}
 use Rattle.problem_clauses.proofs.constraint.bound_of.Statement.{statement}
 use Rattle.problem_clauses.proofs.constraint.bound_of.Tie as tie
 
-constraint-bound-requires : tie.Need-constraint-bound-requires
-constraint-bound-requires c κs = search needs
+shared-slice-read-turns : tie.Need-shared-slice-read-turns
+shared-slice-read-turns c = search needs
 
-add-amount-at : tie.Need-add-amount-at
-add-amount-at c = let s = c .before .before in omega (arith, c .constraint-bound .ensures, s .pre, s .good)
+turns-requires : tie.Need-turns-requires
+turns-requires c κs = search needs
 
-amount-at-requires : tie.Need-amount-at-requires
-amount-at-requires c κs = omega (arith, c .constraint-bound .ensures, c .before .before .pre)
+written-bound-requires : tie.Need-written-bound-requires
+written-bound-requires c κs = search needs
+
+-- the bound as written
+written-is : (c : tie.After-written-bound) → let a = c .before .before .before .before .args in
+    toZ w64 (ofZ w64 (c .written-bound .result)) ≡ comparisonAt (a .input .now) (a .r) (a .at) .bound
+written-is c = toZ-ofZ {w = w64} (sfits-of (c .written-bound .ok)) ∙ c .written-bound .ensures
+
+signed-requires : tie.Need-signed-requires
+signed-requires c κs =
+    let a = c .before .before .before .before .args in
+    subst (λ (z : ℤ). natAbs z ≤ 2 ^ 32) (sym (written-is c)) (bound-size (a .input .now) (a .r) (a .at))
 
 returns : tie.Need-returns
+unfolding readAs comparisonAt
 returns c =
-    let b = c .before in
-    let a = b .before .before .args in
-    toZ-ofZ {w = w64} (sfits-of (c .amount-at .ok)) ∙ c .amount-at .ensures
-    ∙ ap (λ (i : ℕ). fromUnsigned (fieldAt (a .at + i) 4 (a .input .now))) (b .constraint-bound .ensures)
-    ∙ sym (bound-at (a .input .now) (a .r) (a .at))
+    let w = c .before in
+    toZ-ofZ {w = w64} (sfits-of (c .signed .ok)) ∙ c .signed .ensures
+    ∙ (λ i. signed (w .before .turns .ensures i) (written-is w i))
 
 pub bound-of-spec : {M : Type 1} → statement M
-bound-of-spec = tie.close (tie.spec constraint-bound-requires add-amount-at amount-at-requires returns)
+bound-of-spec = tie.close (tie.spec shared-slice-read-turns turns-requires written-bound-requires signed-requires returns)

@@ -4,7 +4,7 @@ use Prim.Native.Nat.{_+_, _*_}
 use native.Mathlib.Omega.{arith}
 use lib.ListN.{getD}
 use borrow.Author.Needs.{needs}
-use Rattle.rules_types.specs.Layout.{constraintBytes}
+use Rattle.rules_types.specs.Layout.{comparisonBytes}
 use Rattle.problem_scan.specs.Values.{clauseEnd}
 use Rattle.problem_clauses.specs.Walk.{clauseEnd-is, count-within}
 use Rattle.problem_clauses.proofs.places.next.Statement.{statement}
@@ -17,7 +17,7 @@ count-place-requires c κs = let s = c .before in count-within (s .args .input .
 end-is : (c : tie.After-count-place)
     → let s = c .before .before in
     clauseEnd (s .args .input .now) (s .args .r) (s .args .at)
-    ≡ c .count-place .result + 1 + getD (s .args .input .now) (c .count-place .result) 0 * constraintBytes (s .args .r)
+    ≡ c .count-place .result + 1 + getD (s .args .input .now) (c .count-place .result) 0 * comparisonBytes (s .args .r)
 end-is c = let s = c .before .before in
     clauseEnd-is (s .args .input .now) (s .args .r) (s .args .at) (c .count-place .result) (c .count-place .ensures)
 
@@ -30,23 +30,23 @@ shared-slice-read-result c = let s = c .before .before .before in omega (arith, 
 cast-result : tie.Need-cast-result
 cast-result c = omega (arith, c .shared-slice-known2 .given (c .before .count-place .result))
 
-constraint-bytes-requires : tie.Need-constraint-bytes-requires
-constraint-bytes-requires c κs = search needs
+comparison-bytes-requires : tie.Need-comparison-bytes-requires
+comparison-bytes-requires c κs = search needs
 
 mul-result : tie.Need-mul-result
 mul-result c =
     let k = c .before .before in
     let s = k .before .before in
-    rw (c .constraint-bytes .ensures) (omega (arith, end-is k, s .pre, s .good))
+    rw (c .comparison-bytes .ensures) (omega (arith, end-is k, s .pre, s .good))
 
 add-result-2 : tie.Need-add-result-2
 add-result-2 c =
     let k = c .before .before in
     let s = k .before .before in
-    rw (c .constraint-bytes .ensures) (omega (arith, end-is k, s .pre, s .good))
+    rw (c .comparison-bytes .ensures) (omega (arith, end-is k, s .pre, s .good))
 
 returns : tie.Need-returns
-returns c = rw (c .constraint-bytes .ensures) (sym (end-is (c .before .before)))
+returns c = rw (c .comparison-bytes .ensures) (sym (end-is (c .before .before)))
 
 pub next-spec : {M : Type 1} → statement M
 next-spec =
@@ -56,7 +56,7 @@ next-spec =
     add-result
     shared-slice-read-result
     cast-result
-    constraint-bytes-requires
+    comparison-bytes-requires
     mul-result
     add-result-2
     returns)

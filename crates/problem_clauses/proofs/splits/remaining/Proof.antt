@@ -7,13 +7,13 @@ use Rattle.problem_clauses.proofs.splits.remaining.Statement.{statement
 use Rattle.problem_clauses.proofs.splits.remaining.Tie as tie
 
 abbrev Inv-loop : tie.InvT-loop
-Inv-loop q from r count size at₀ left₀ n₀ at left n = Keeping q r from count at left n
+Inv-loop q from r count second size at₀ left₀ n₀ at left n = Keeping q second r from count at left n
 
 abbrev μ-loop : tie.MeasureT-loop
-μ-loop q from r count size at₀ left₀ n₀ at left n = left
+μ-loop q from r count second size at₀ left₀ n₀ at left n = left
 
-constraint-bytes-requires : tie.Need-constraint-bytes-requires Inv-loop μ-loop
-constraint-bytes-requires c κs = search needs
+comparison-bytes-requires : tie.Need-comparison-bytes-requires Inv-loop μ-loop
+comparison-bytes-requires c κs = search needs
 
 loop-holds : tie.Need-loop-holds Inv-loop μ-loop
 loop-holds c = record { end = refl; few = omega arith; same = refl }
@@ -51,7 +51,7 @@ add-at c =
     let t = c .before .before .before .before in
     let b = t .before .before in
     let s = b .before .before in
-    omega (arith, b .constraint-bytes .ensures, keeping-within (t .before .loop .inv) (t .loop-test .taken), s .pre, s .good)
+    omega (arith, b .comparison-bytes .ensures, keeping-within (t .before .loop .inv) (t .loop-test .taken), s .pre, s .good)
 
 sub-left : tie.Need-sub-left Inv-loop μ-loop
 sub-left c = search needs
@@ -62,7 +62,7 @@ loop-less c = search needs
 loop-again : tie.Need-loop-again Inv-loop μ-loop
 loop-again c =
     let a = c .before .before .before in
-    rw (a .before .before .before .constraint-bytes .ensures, c .weight .ensures)
+    rw (a .before .before .before .comparison-bytes .ensures, c .weight .ensures)
     (keeping-next (a .before .before .loop .inv) (a .before .loop-test .taken) (a .settled .result) (a .settled .ensures)
     (sym (c .before .before .is-always .ensures) ∙ c .before .if1 .left))
 
@@ -75,7 +75,7 @@ remaining-spec =
     (tie.spec
     Inv-loop
     μ-loop
-    constraint-bytes-requires
+    comparison-bytes-requires
     loop-holds
     settled-requires
     is-always-requires

@@ -19,7 +19,7 @@ use Rattle.problem_parts.specs.Parts.{SoundParts, Started, begin-clash, 
 use Rattle.problem_parts.proofs.parts.begin.Statement.{statement}
 use Rattle.problem_parts.proofs.parts.begin.Tie as tie
 
--- the count of constraints and the byte behind the first are in the slice
+-- the count of comparisons and the byte behind the first are in the slice
 counted : (s : tie.Start) → countOf (s .args .input .now) (s .args .at) < length (s .args .input .now)
 counted s = count-within (s .args .input .now) (s .args .r) (s .args .at) (s .pre .0 .within)
 
@@ -59,6 +59,7 @@ first c m n =
     let p = c .before .before .before in
     let s = p .before .before in
     record {
+      second = s .args .second;
       more = m;
       at = p .count-place .result + 1;
       left = getD (s .args .input .now) (p .count-place .result) 0;

@@ -8,13 +8,13 @@ use mathlib.Core.Bool.{false}
 use mathlib.Core.Option.{some}
 use lib.Dec.{ltb}
 use Rattle.rules_types.specs.Limits.{allBooleans}
-use Rattle.rules_types.specs.Layout.{constraintBytes}
+use Rattle.rules_types.specs.Layout.{comparisonBytes}
 use Rattle.theory_lists.specs.Tests.{of-true}
 use Rattle.rules.specs.Lines as rules
 use Rattle.rules.specs.Normalize.{reduced}
 use Rattle.masks.specs.Mask.{bits}
 use Rattle.problem_scan.specs.Values.{constraintAt}
-use Rattle.problem_scan.specs.Sound.{SoundConstraint, each-first}
+use Rattle.problem_scan.specs.Sound.{SoundComparison, each-first}
 use Rattle.lines.specs.Line.{meaning}
 use Rattle.problem_parts.specs.Parts.{partsFrom, partsIf, withSplit, from-bare, from-kept}
 use Rattle.problem_parts.proofs.parts.next.Statement.{statement}
@@ -48,7 +48,7 @@ reduced-line-requires c κs =
     let p = c .before .skip in (
       s .pre .0,
       (
-        each-first (SoundConstraint (s .args .input .now) (s .args .r)) (constraintBytes (s .args .r)) (p .result .left) (p .result .at)
+        each-first (SoundComparison (s .args .input .now) (s .args .r)) (comparisonBytes (s .args .r)) (p .result .left) (p .result .at)
             (p .ensures .more) (p .ensures .each),
         p .ensures .stays,
       ),
@@ -70,7 +70,7 @@ returns-2 c =
       positive = withSplit (ltb 1 (parts .stay)) (parts .split) (bits allBooleans (parts .positive));
       negative =
           bits allBooleans (parts .negative);
-      constraint = some (reduced (constraintAt (s .args .input .now) (s .args .r) (p .skip .result .at)));
+      constraint = some (reduced (constraintAt (s .args .input .now) (parts .second) (s .args .r) (p .skip .result .at)));
     }
     ≡ meaning (k .reduced-line .result) =
     rw (← k .before .own .ensures) (sym (k .reduced-line .ensures .0)) in (

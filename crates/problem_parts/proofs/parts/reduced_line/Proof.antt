@@ -16,7 +16,7 @@ reduce-requires : tie.Need-reduce-requires
 reduce-requires c κs =
     let s = c .before .before in
     let l = c .constraint-line in
-    let e = coefficients-of (l .result) (constraintAt (s .args .input .now) (s .args .r) (s .args .at))
+    let e = coefficients-of (l .result) (constraintAt (s .args .input .now) (s .args .second) (s .args .r) (s .args .at))
     (ap (λ (m : rules.Line). m .constraint) (l .ensures .0)) in
     (l .ensures .1 .shaped, (rw e (s .pre .1 .1), ready-bounded (l .ensures .1)))
 
@@ -24,7 +24,7 @@ returns : tie.Need-returns
 returns c =
     let l = c .before .constraint-line in
     let s = c .before .before .before in
-    let k = constraintAt (s .args .input .now) (s .args .r) (s .args .at) in (
+    let k = constraintAt (s .args .input .now) (s .args .second) (s .args .r) (s .args .at) in (
       c .reduce .ensures .0 ∙ ap reducedLine (l .ensures .0)
           ∙ reduced-line (lineOf (s .args .positive) (s .args .negative) (some k)) k refl,
       ready-reduced (l .result) (c .reduce .result) (l .ensures .1) (c .reduce .ensures .1) (c .reduce .ensures .0),

@@ -20,7 +20,7 @@ returns : tie.Need-returns
 returns c =
     let s = c .before .before .before in
     ap (λ (n : ℕ). eqb n 1) (c .weight .ensures ∙ ap (λ (f : Fate). weight f) (c .before .settled .ensures))
-    ∙ stays-is (constraintAt (s .args .input .now) (s .args .r) (s .args .at))
+    ∙ stays-is (constraintAt (s .args .input .now) (s .args .second) (s .args .r) (s .args .at))
 
 pub stays-spec : {M : Type 1} → statement M
 stays-spec = tie.close (tie.spec settled-requires weight-requires returns)

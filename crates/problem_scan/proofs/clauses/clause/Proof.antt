@@ -42,8 +42,8 @@ returns-3 c =
     clause-fault (s .args .input .now) (s .args .at) (s .args .b) (s .args .r) (t .if1 .left) (a .before .if2 .left) (a .literals .result)
     (a .literals .ensures) _ _ (c .enum-told .given .1)
 
-constraint-list-requires : tie.Need-constraint-list-requires
-constraint-list-requires c κs =
+comparison-list-requires : tie.Need-comparison-list-requires
+comparison-list-requires c κs =
     let a = c .before .before .before in
     let t = a .before .before .before in
     let s = t .before .before in
@@ -56,7 +56,7 @@ returns-4 c =
     let a = k .before .before .before in
     let t = a .before .before .before in
     let s = t .before .before in
-    c .constraint-list .ensures ∙ sym (clause-rest (s .args .input .now) (s .args .at) (s .args .b) (s .args .r) (t .if1 .left)
+    c .comparison-list .ensures ∙ sym (clause-rest (s .args .input .now) (s .args .at) (s .args .b) (s .args .r) (t .if1 .left)
     (a .before .if2 .left) (a .literals .result) (a .literals .ensures) _ (k .before .read .given .1))
 
 pub clause-spec : {M : Type 1} → statement M
@@ -72,5 +72,5 @@ clause-spec =
     enum-known-read
     enum-told
     returns-3
-    constraint-list-requires
+    comparison-list-requires
     returns-4)

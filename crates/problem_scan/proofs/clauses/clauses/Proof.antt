@@ -1,13 +1,16 @@
 -- `clauses::clauses` meets its contract: a run that counts down.
 use borrow.Author.Needs.{needs}
-use Rattle.problem_scan.specs.Clauses.{clauseOf}
-use Rattle.problem_scan.specs.Run.{Run, run-start, run-done, run-stop, run-next}
-use Rattle.problem_scan.specs.Steady.{steady-clause}
+use lib.ListN.{drop}
+use Rattle.rules.specs.Problem.{repeat}
+use Rattle.problem_scan.specs.Clauses.{clauseOf, clausesOf}
+use Rattle.problem_scan.specs.Seen.{seen}
+use Rattle.problem_scan.specs.Run.{Run, run-start, run-stop, run-next, repeat-more, repeat-done}
+use Rattle.problem_scan.specs.Valued.{clause-valued}
 use Rattle.problem_scan.proofs.clauses.clauses.Statement.{statement}
 use Rattle.problem_scan.proofs.clauses.clauses.Tie as tie
 
 abbrev Inv-loop : tie.InvT-loop
-Inv-loop q from sizes at₀ left₀ at left = Run q (clauseOf sizes) from (sizes .clauses) at left
+Inv-loop q from sizes at₀ left₀ at left = Run q (seen (clausesOf sizes (drop from q) from)) (repeat left (clauseOf sizes)) at
 
 abbrev μ-loop : tie.MeasureT-loop
 μ-loop q from sizes at₀ left₀ at left = left
@@ -15,7 +18,7 @@ abbrev μ-loop : tie.MeasureT-loop
 loop-holds : tie.Need-loop-holds Inv-loop μ-loop
 loop-holds c =
     let s = c .before in
-    run-start (s .args .input .now) (clauseOf (s .args .sizes)) (s .args .from) (s .args .sizes .clauses) (s .pre)
+    run-start (s .args .input .now) (clausesOf (s .args .sizes)) (s .args .from) (s .pre)
 
 clause-requires : tie.Need-clause-requires Inv-loop μ-loop
 clause-requires c κs = search needs
@@ -31,8 +34,8 @@ returns c =
     let a = c .before .before in
     let l = a .before .before .loop in
     let s = a .before .before .before .before in
-    run-stop (s .args .input .now) (clauseOf (s .args .sizes)) (s .args .from) (s .args .sizes .clauses) (l .at) (l .left) (l .inv)
-    (a .clause .result) (a .before .loop-test .taken) (a .clause .ensures) _ _ (c .enum-told .given .1)
+    run-stop _ _ (repeat-more (clauseOf (s .args .sizes)) (l .left) (l .inv) (a .before .loop-test .taken)) (a .clause .ensures) _ _
+    (c .enum-told .given .1)
 
 sub-left : tie.Need-sub-left Inv-loop μ-loop
 sub-left c = search needs
@@ -45,17 +48,15 @@ loop-again c =
     let a = c .before .before .before in
     let l = a .before .before .loop in
     let s = a .before .before .before .before in
-    run-next (s .args .input .now) (clauseOf (s .args .sizes)) (s .args .from) (s .args .sizes .clauses) (l .at) (l .left) (l .inv)
-    (a .clause .result) (a .before .loop-test .taken) (a .clause .ensures)
-    (steady-clause (s .args .input .now) (s .args .sizes .booleans) (s .args .sizes .rationals)) _
+    run-next _ _ (repeat-more (clauseOf (s .args .sizes)) (l .left) (l .inv) (a .before .loop-test .taken)) (a .clause .ensures)
+    (clause-valued (s .args .input .now) (s .args .sizes .booleans) (s .args .sizes .rationals) (l .at) (l .inv .within)) _
     (c .before .one .given .1)
 
 returns-2 : tie.Need-returns-2 Inv-loop μ-loop
 returns-2 c =
     let l = c .before .loop in
     let s = c .before .before .before in
-    run-done (s .args .input .now) (clauseOf (s .args .sizes)) (s .args .from) (s .args .sizes .clauses) (l .at) (l .left)
-    (l .inv) (c .loop-test .left)
+    repeat-done (clauseOf (s .args .sizes)) (l .left) (l .inv) (c .loop-test .left)
 
 pub clauses-spec : {M : Type 1} → statement M
 clauses-spec =

@@ -6,7 +6,7 @@ use mir.Syntax.{w64}
 use mir.Facts.{toZ-ofZ}
 use Rattle.rules.specs.Bytes.{fromUnsigned, fieldAt}
 use Rattle.rules.specs.Problem.{inRange}
-use Rattle.problem_scan.specs.Constraints.{amount-short, amount-bad, amount-good}
+use Rattle.problem_scan.specs.Comparisons.{amount-short, amount-bad, amount-good}
 use Rattle.problem_scan.proofs.numbers.amount.Statement.{statement}
 use Rattle.problem_scan.proofs.numbers.amount.Tie as tie
 
