@@ -29,7 +29,7 @@ use Rattle.theory_resolution.specs.Formed.{Formed}
 use Rattle.theory_bytes.specs.Steps.{proof-length, take-proof}
 use Rattle.theory_layout.specs.Steps.{Writable}
 use Rattle.theory_splitting.specs.Lent.{lent-full}
-use Rattle.theory_splitting.specs.Reading.{posed-well-formed}
+use Rattle.theory_splitting.specs.WellRead.{posed-well-formed}
 use Rattle.theory_splitting.specs.WellFormed.{WellFormed}
 use Rattle.theory_elimination.specs.OfProblem.{elimination-held}
 use Rattle.theory_checks.specs.Writable.{elimination-writable}

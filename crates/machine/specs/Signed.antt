@@ -99,7 +99,7 @@ module _ (z : ℤ) where
     where
       by : (z : ℤ) → leZ (negℤ (pos limit.amount)) z ≡ true → leZ z (pos limit.amount) ≡ leb (natAbs z) limit.amount
       by (pos n) e = refl
-      by (negsuc n) e = sym (le-leb (suc n) limit.amount (omega (arith, leb-true n 999999999 e)))
+      by (negsuc n) e = sym (le-leb (suc n) limit.amount (omega (arith, leb-true n (limit.amount - 1) e)))
 
   pub range-below : leZ (negℤ (pos limit.amount)) z ≡ false → false ≡ inRange z
   unfolding inRange
@@ -107,4 +107,4 @@ module _ (z : ℤ) where
     where
       by : (z : ℤ) → leZ (negℤ (pos limit.amount)) z ≡ false → false ≡ leb (natAbs z) limit.amount
       by (pos n) e = absurd (subst T e tt)
-      by (negsuc n) e = sym (lt-leb (suc n) limit.amount (omega (arith, leb-false n 999999999 e)))
+      by (negsuc n) e = sym (lt-leb (suc n) limit.amount (omega (arith, leb-false n (limit.amount - 1) e)))

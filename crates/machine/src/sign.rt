@@ -1,7 +1,7 @@
 // The size and the sign of an integer.
 use rules_types::limits::Limits;
 ghost use mathlib.Core.Path.{_≡_};
-ghost use Prim.Native.Nat.{_^_, _≤_};
+ghost use Prim.Native.Nat.{_^_, _<_};
 ghost use lib.IntN.{pos, natAbs};
 ghost use Rattle.rules.specs.Arithmetic.{isPositive, isNegative, isZero, related};
 ghost use Rattle.rules.specs.Problem.{inRange};
@@ -49,7 +49,7 @@ pub fn zero_related(strict: bool, bound: i64) -> bool
 
 // With its sign turned, or as it is.
 pub fn signed(turned: bool, z: i64) -> i64
-    requires { ⌜ natAbs z ≤ 2 ^ 32 ⌝ }
+    requires { ⌜ natAbs z < 2 ^ 63 ⌝ }
     ensures { λ r. ⌜ r ≡ signed turned z ⌝ }
 {
     if turned {

@@ -2,7 +2,7 @@
 use mathlib.Core.Path.{_≡_, refl, sym, ap, _∙_}
 use mathlib.Core.Bool.{Bool, true, false, _&&_}
 use mathlib.Core.List.{List, [], _∷_, _++_, map}
-use Prim.Native.Nat.{ℕ, zero, suc, _+_, _-_, _^_, _≤_}
+use Prim.Native.Nat.{ℕ, zero, suc, _+_, _-_, _^_, _<_}
 use native.Mathlib.Omega.{arith}
 use lib.IntN.{ℤ, pos, natAbs}
 use lib.ListN.{getD, replicate}
@@ -56,7 +56,7 @@ bound-at q r at =
     let e : behind 4 r (at + 1) ≡ at + layout.comparisonBound r = omega (arith, behind-is 4 r (at + 1)) in
     ap (λ (i : ℕ). fromUnsigned (fieldAt i 4 q)) e
 
-pub bound-size : (q : List ℕ) (r at : ℕ) → natAbs (comparisonAt q r at .bound) ≤ 2 ^ 32
+pub bound-size : (q : List ℕ) (r at : ℕ) → natAbs (comparisonAt q r at .bound) < 2 ^ 63
 bound-size q r at = rw (bound-at q r at) (omega (arith, fromUnsigned-size (fieldAt (at + layout.comparisonBound r) 4 q)))
 
 module _ (q : List ℕ) (second : Bool) (r at : ℕ) where

@@ -1,18 +1,18 @@
 -- The split variables of a reading: none where it is dropped, and one less than the constraints that stay; and of a clause.
 use mathlib.Core.Path.{_≡_, refl, ap, _∙_}
 use mathlib.Core.Bool.{Bool, true, false}
-use mathlib.Core.List.{List, [], _∷_, map}
+use mathlib.Core.List.{List}
 use mathlib.Core.Option.{Option, none, some}
-use Prim.Native.Nat.{ℕ, _+_, _-_, _≤_}
+use Prim.Native.Nat.{ℕ, _+_, _-_}
 use native.Mathlib.Omega.{arith}
-use lib.ListN.{length, getD, length-map}
+use lib.ListN.{length, getD}
 use Rattle.rules_types.specs.Limits.{allBooleans}
-use Rattle.rules.specs.Problem.{Constraint, Clause}
-use Rattle.rules.specs.Readings.{Disjunction, readAs, reading, hasEquality}
+use Rattle.rules.specs.Problem.{Constraint}
+use Rattle.rules.specs.Readings.{Disjunction, reading}
 use Rattle.rules.specs.Lines.{meet}
-use Rattle.rules.specs.Normalize.{Settled, always, never, kept, settled, settledAll, membersOf, normalClause}
+use Rattle.rules.specs.Normalize.{settledAll, membersOf, normalClause}
 use Rattle.rules.specs.Split.{readingSplits, splitsOf}
-use Rattle.theory_splitting.specs.Twice.{splits-once, splits-twice}
+use Rattle.theory_splitting.specs.Few.{splits-most}
 use Rattle.problem_clauses.specs.declared.splits.Staying.{Staying}
 use Rattle.problem_clauses.specs.declared.splits.Staying.the-variants.{Dropped, Count}
 use Rattle.masks.specs.Mask.{bits}
@@ -40,34 +40,6 @@ module _ (c : Disjunction) where
   splits-is : readingSplits c ≡ splitsBy clashes (counted 0 (settledAll (c .constraints)))
   splits-is = splits-by clashes (settledAll (c .constraints)) refl refl
 
--- ---- at most one comparison needs none
-few-none : (m : Bool) (cs : List Constraint) → length cs ≤ 1 → splitsBy m (counted 0 (settledAll cs)) ≡ 0
-unfolding settledAll counted
-few-none true cs h = refl
-few-none false [] h = omega arith
-few-none false (c ∷ []) h = by (settled c) refl
-  where
-    by : (s : Settled) → settled c ≡ s → splitsBy false (counted 0 (settledAll (c ∷ []))) ≡ 0
-    by always e = rw (e, settledAll)
-    by never e = rw (e, settledAll)
-    by (kept d) e = rw (e, settledAll)
-few-none false (c ∷ d ∷ cs) h = absurd (omega arith)
-
--- no reading of a clause takes any
-none-of-either : (c : Clause) → ((second : Bool) → readingSplits (reading second c) ≡ 0) → splitsOf c ≡ 0
-none-of-either c none-of = by (hasEquality (c .comparisons)) refl
-  where
-    by : (t : Bool) → hasEquality (c .comparisons) ≡ t → splitsOf c ≡ 0
-    by true e = omega (arith, splits-twice c e, none-of false, none-of true)
-    by false e = splits-once c e ∙ none-of false
-
-pub splits-single : (c : Clause) → length (c .comparisons) ≤ 1 → splitsOf c ≡ 0
-unfolding reading
-splits-single c h =
-    none-of-either c (λ second. splits-is (reading second c)
-    ∙ few-none (clashes (reading second c)) (map (readAs second) (c .comparisons))
-    (omega (arith, length-map (c .comparisons) (readAs second), h)))
-
 -- ---- of a reading of the clause at a place, by its literals as masks p and n and the place of its count of comparisons
 module _ (q : List ℕ) (r at p n : ℕ) (positives : bits allBooleans p ≡ membersOf false (valuesAt (literalAt q) 1 (getD q at 0) (at + 1)))
     (negatives : bits allBooleans n ≡ membersOf true (valuesAt (literalAt q) 1 (getD q at 0) (at + 1))) where
@@ -81,4 +53,5 @@ module _ (q : List ℕ) (r at p n : ℕ) (positives : bits allBooleans p ≡ mem
 
   -- where the literals clash, no reading takes any
   pub splits-clash : meet (bits allBooleans p) (bits allBooleans n) ≡ true → splitsOf (clauseAt q r at) ≡ 0
-  splits-clash e = none-of-either (clauseAt q r at) (λ second. splits-at second true (countOf q at) e refl)
+  splits-clash e =
+      omega (arith, splits-most (clauseAt q r at) 0 (λ second. omega (arith, splits-at second true (countOf q at) e refl)))

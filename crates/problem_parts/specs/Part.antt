@@ -9,18 +9,17 @@ use lib.ListN.{length, getElem?}
 use Rattle.rules.specs.Lines as rules
 use Rattle.rules.specs.Problem.{Constraint, Clause}
 use Rattle.rules.specs.Readings.{reading, hasEquality}
-use Rattle.rules.specs.Normalize.{settledAll}
 use Rattle.rules.specs.Split.{readingParts, readingSplits, partsOf}
 use Rattle.theory_lists.specs.Places.{element-left, element-right}
 use Rattle.theory_splitting.specs.Count.{parts-number}
 use Rattle.theory_splitting.specs.Twice.{parts-once, parts-twice}
 use Rattle.problem_clauses.specs.declared.splits.Staying.the-variants.{Count}
 use Rattle.problem_clauses.specs.Remaining.{counted}
-use Rattle.problem_scan.specs.Values.{constraintsAt, clauseAt}
+use Rattle.problem_scan.specs.Values.{clauseAt}
 use Rattle.lines.specs.Line.{meaning}
 use Rattle.problem_parts.specs.declared.part.Found.{Found}
 use Rattle.problem_parts.specs.declared.parts.Parts.{Parts}
-use Rattle.problem_parts.specs.Parts.{positiveOf, negativeOf, partsBy, partsIf, partsFrom, SoundParts, partsLeft}
+use Rattle.problem_parts.specs.Parts.{positiveOf, negativeOf, settledOf, partsBy, partsIf, partsFrom, SoundParts, partsLeft, Begun}
 
 unfoldable pub partOf : Found → Option rules.Line
 partOf f = cond (f .found) (some (meaning (f .line))) none
@@ -57,9 +56,9 @@ module _ (q : List ℕ) (r : ℕ) (wanted : Option rules.Line) (c : Parts) (left
       }
 
 -- ---- in which reading of a clause part j stands
-pub count-is : (q : List ℕ) (r : ℕ) (c : Parts) → SoundParts q r c → length (partsFrom q r c) ≡ partsLeft c
+count-is : (q : List ℕ) (r : ℕ) (c : Parts) → SoundParts q r c → length (partsFrom q r c) ≡ partsLeft c
 unfolding partsFrom partsIf partsBy partsLeft counted
-count-is q r c sound = by (c .more) (settledAll (constraintsAt q (c .second) r (c .left) (c .at))) (sound .stays)
+count-is q r c sound = by (c .more) (settledOf q r c) (sound .stays)
   where
     by : (m : Bool) (o : Option (List Constraint)) → (m ≡ true → counted 0 o ≡ Count (c .stay))
         → length (partsIf m (c .split) (positiveOf c) (negativeOf c) o) ≡ cond m (max 1 (c .stay)) 0
@@ -69,6 +68,10 @@ count-is q r c sound = by (c .more) (settledAll (constraintsAt q (c .second) r (
         let e = h refl in
         let n : 0 + length cs ≡ c .stay = cc in
         omega (arith, n, parts-number (c .split) (positiveOf c) (negativeOf c) cs)
+
+pub begun-count : (q : List ℕ) (r at split : ℕ) (second : Bool) (c : Parts) → Begun q r at split second c
+    → partsLeft c ≡ length (readingParts split (reading second (clauseAt q r at)))
+begun-count q r at split second c h = sym (count-is q r c (h .sound)) ∙ ap length (h .parts)
 
 module _ (k : ℕ) (c : Clause) (j : ℕ) where
   abbrev first : List rules.Line

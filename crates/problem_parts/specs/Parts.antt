@@ -10,6 +10,7 @@ use borrow.Author.Tests.{lt-ltb, le-ltb}
 use lib.Dec.{ltb}
 use lib.ListN.{length, getD}
 use Rattle.rules_types.specs.Limits.{allBooleans}
+use Rattle.theory_lists.specs.Tests.{of-true}
 use Rattle.rules_types.specs.Layout.{comparisonBytes}
 use Rattle.rules.specs.Problem.{Constraint}
 use Rattle.rules.specs.Readings.{Disjunction, reading}
@@ -47,14 +48,20 @@ unfoldable pub partsIf : Bool → ℕ → Booleans → Booleans → Option (List
 partsIf false k p n o = []
 partsIf true k p n o = partsBy k p n o
 
+-- what normalizing leaves of the constraints
+abbrev pub settledOf : List ℕ → ℕ → Parts → Option (List Constraint)
+settledOf q r c = settledAll (constraintsAt q (c .second) r (c .left) (c .at))
+
+abbrev pub stayingOf : List ℕ → ℕ → Parts → Staying
+stayingOf q r c = counted 0 (settledOf q r c)
+
 unfoldable pub partsFrom : List ℕ → ℕ → Parts → List rules.Line
-partsFrom q r c = partsIf (c .more) (c .split) (positiveOf c) (negativeOf c)
-    (settledAll (constraintsAt q (c .second) r (c .left) (c .at)))
+partsFrom q r c = partsIf (c .more) (c .split) (positiveOf c) (negativeOf c) (settledOf q r c)
 
 -- the constraints are sound, and those that stay are counted
 pub record SoundParts (q : List ℕ) (r : ℕ) (c : Parts) : Type 0 where
   pub each : Each (SoundComparison q r) (comparisonBytes r) (c .left) (c .at)
-  pub stays : c .more ≡ true → counted 0 (settledAll (constraintsAt q (c .second) r (c .left) (c .at))) ≡ Count (c .stay)
+  pub stays : c .more ≡ true → stayingOf q r c ≡ Count (c .stay)
   pub few : c .split + c .stay ≤ 1000
 
 -- how many there are
@@ -90,45 +97,68 @@ pub record Started (q : List ℕ) (r at : ℕ) (c : Parts) : Type 0 where
   pub positive : positiveOf c ≡ membersOf false (valuesAt (literalAt q) 1 (getD q at 0) (at + 1))
   pub negative : negativeOf c ≡ membersOf true (valuesAt (literalAt q) 1 (getD q at 0) (at + 1))
 
+-- so they are those of the reading
+pub record Begun (q : List ℕ) (r at split : ℕ) (second : Bool) (c : Parts) : Type 0 where
+  pub parts : partsFrom q r c ≡ readingParts split (reading second (clauseAt q r at))
+  pub sound : SoundParts q r c
+  pub splits : splitsIn c ≡ readingSplits (reading second (clauseAt q r at))
+
+-- none where the literals clash or a constraint drops the reading, else as many as stay
+abbrev pub Agreeing : Bool → Staying → Parts → Type 0
+Agreeing true k c = (c .more ≡ false) × (c .stay ≡ 0)
+Agreeing false Dropped c = (c .more ≡ false) × (c .stay ≡ 0)
+Agreeing false (Count n) c = (c .more ≡ true) × (c .stay ≡ n)
+
 module _ (q : List ℕ) (r at : ℕ) (c : Parts) (start : Started q r at c) where
-  pub begin-clash : c .more ≡ false → meet (positiveOf c) (negativeOf c) ≡ true
-      → partsFrom q r c ≡ readingParts (c .split) (reading (c .second) (clauseAt q r at))
+  abbrev whole : Disjunction
+  whole = reading (c .second) (clauseAt q r at)
+
+  clash-begun : c .more ≡ false → meet (positiveOf c) (negativeOf c) ≡ true → partsFrom q r c ≡ readingParts (c .split) whole
   unfolding partsFrom partsIf reading clauseAt
-  begin-clash m e = rw m (sym (clash-parts (c .split) (reading (c .second) (clauseAt q r at)) (rw (start .positive, start .negative) at e)))
+  clash-begun m e = rw m (sym (clash-parts (c .split) whole (rw (start .positive, start .negative) at e)))
 
-  module _ (e : meet (positiveOf c) (negativeOf c) ≡ false) where
-    normal-here : partsBy (c .split) (positiveOf c) (negativeOf c) (settledAll (constraintsAt q (c .second) r (c .left) (c .at)))
-        ≡ readingParts (c .split) (reading (c .second) (clauseAt q r at))
-    unfolding reading clauseAt
-    normal-here = rw (start .place, start .count, start .positive, start .negative)
-        (sym (normal-parts (c .split) (reading (c .second) (clauseAt q r at)) _ (rw (start .positive, start .negative) at e)
-        (ap settledAll (constraints-at q (c .second) r at))))
+  normal-here : meet (positiveOf c) (negativeOf c) ≡ false
+      → partsBy (c .split) (positiveOf c) (negativeOf c) (settledOf q r c) ≡ readingParts (c .split) whole
+  unfolding reading clauseAt
+  normal-here e = rw (start .place, start .count, start .positive, start .negative)
+      (sym (normal-parts (c .split) whole _ (rw (start .positive, start .negative) at e)
+      (ap settledAll (constraints-at q (c .second) r at))))
 
-    pub begin-kept : c .more ≡ true → partsFrom q r c ≡ readingParts (c .split) (reading (c .second) (clauseAt q r at))
-    unfolding partsFrom partsIf
-    begin-kept m = rw m normal-here
+  dropped-none : (o : Option (List Constraint)) → Dropped ≡ counted 0 o → [] ≡ partsBy (c .split) (positiveOf c) (negativeOf c) o
+  unfolding counted partsBy
+  dropped-none none i = refl
+  dropped-none (some cs) i = let z : _≡_ {A = ℕ} 0 1 = cc in absurd (omega arith)
 
-    pub begin-dropped : c .more ≡ false → counted 0 (settledAll (constraintsAt q (c .second) r (c .left) (c .at))) ≡ Dropped
-        → partsFrom q r c ≡ readingParts (c .split) (reading (c .second) (clauseAt q r at))
-    unfolding partsFrom partsIf partsBy counted
-    begin-dropped m d = rw m (by (settledAll (constraintsAt q (c .second) r (c .left) (c .at))) d normal-here)
-      where
-        by : (o : Option (List Constraint)) → counted 0 o ≡ Dropped → partsBy (c .split) (positiveOf c) (negativeOf c) o
-            ≡ readingParts (c .split) (reading (c .second) (clauseAt q r at))
-            → [] ≡ readingParts (c .split) (reading (c .second) (clauseAt q r at))
-        by none i h = h
-        by (some cs) i h = let z : _≡_ {A = ℕ} 0 1 = cc in absurd (omega arith)
-
-  pub begin-splits : (m : Bool) (k : Staying) → meet (positiveOf c) (negativeOf c) ≡ m
-      → k ≡ counted 0 (settledAll (constraintsAt q (c .second) r (c .left) (c .at)))
-      → splitsBy m k ≡ readingSplits (reading (c .second) (clauseAt q r at))
-  begin-splits m k e i = ap (splitsBy m) i ∙ rw (start .place, start .count)
+  splits-here : (m : Bool) (k : Staying) → meet (positiveOf c) (negativeOf c) ≡ m → k ≡ stayingOf q r c
+      → splitsBy m k ≡ readingSplits whole
+  splits-here m k e i = ap (splitsBy m) i ∙ rw (start .place, start .count)
       (sym (splits-at q r at (c .positive) (c .negative) (start .positive) (start .negative) (c .second) m (countOf q at) e refl))
 
-  pub begin-sound : SoundClause q r at
-      → (c .more ≡ true → counted 0 (settledAll (constraintsAt q (c .second) r (c .left) (c .at))) ≡ Count (c .stay))
-      → c .split + c .stay ≤ 1000 → SoundParts q r c
-  begin-sound sound k h = record { each = rw (start .place, start .count) (sound .comparisons); stays = k; few = h }
+  module _ (sound : SoundClause q r at) (few : c .split + c .stay ≤ 1000) where
+    sound-here : (c .more ≡ true → stayingOf q r c ≡ Count (c .stay)) → SoundParts q r c
+    sound-here k = record { each = rw (start .place, start .count) (sound .comparisons); stays = k; few = few }
+
+    sound-none : c .more ≡ false → SoundParts q r c
+    sound-none m = sound-here (λ e. absurd (of-true false (sym m ∙ e)))
+
+    pub begun : (m : Bool) (k : Staying) → meet (positiveOf c) (negativeOf c) ≡ m → k ≡ stayingOf q r c → Agreeing m k c
+        → Begun q r at (c .split) (c .second) c
+    unfolding partsFrom partsIf
+    begun true k e i a = record {
+      parts = clash-begun (a .0) e;
+      sound = sound-none (a .0);
+      splits = ap (λ (n : ℕ). n - 1) (a .1) ∙ splits-here true k e i;
+    }
+    begun false Dropped e i a = record {
+      parts = rw (a .0) (dropped-none (settledOf q r c) i ∙ normal-here e);
+      sound = sound-none (a .0);
+      splits = ap (λ (n : ℕ). n - 1) (a .1) ∙ splits-here false Dropped e i;
+    }
+    begun false (Count n) e i a = record {
+      parts = rw (a .0) (normal-here e);
+      sound = sound-here (λ t. sym i ∙ ap Count (sym (a .1)));
+      splits = ap (λ (n : ℕ). n - 1) (a .1) ∙ splits-here false (Count n) e i;
+    }
 
 -- ---- one part more
 -- the part's own split variable, except the last's
@@ -193,7 +223,7 @@ module _ (q : List ℕ) (r : ℕ) (c : Parts) (sound : SoundParts q r c) (more :
     abbrev behind : Option (List Constraint)
     behind = settledAll (constraintsAt q (c .second) r (p .left - 1) (p .at + comparisonBytes r))
 
-    first-kept : settledAll (constraintsAt q (c .second) r (c .left) (c .at))
+    first-kept : settledOf q r c
         ≡ elim behind [ none ↦ none | some ds ↦ some (reduced here ∷ ds) ]
     first-kept =
         sym (skipped .same)

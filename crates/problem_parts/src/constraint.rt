@@ -16,7 +16,7 @@ ghost use lib.ListN.{length};
 ghost use Rattle.rules_types.specs.Limits.{rationals};
 ghost use Rattle.rules.specs.Problem.{relationOf};
 ghost use Rattle.rules.specs.Readings.{isStrict};
-ghost use Rattle.problem_scan.specs.Values.{behind, amountAt, constraintAt};
+ghost use Rattle.problem_scan.specs.Values.{behind, constraintAt};
 ghost use Rattle.problem_scan.specs.Sound.{SoundComparison};
 ghost use Rattle.lines.specs.Line.{meaning, Ready};
 ghost use Rattle.problem_parts.specs.Constraint.{lineOf, readRow, turnedLine};
@@ -25,7 +25,7 @@ ghost use Rattle.problem_parts.specs.Constraint.{lineOf, readRow, turned
 fn row(input: &[u8], from: usize, count: u8) -> [i64; Limits::RATIONALS]
     requires { ⌜ count ≤ rationals ⌝ }
     requires { ⌜ behind 4 count from ≤ length (now input) ⌝ }
-    ensures { λ out. ⌜ out ≡ readRow (amountAt (now (input .entry))) from count ⌝ }
+    ensures { λ out. ⌜ out ≡ readRow (now (input .entry)) from count ⌝ }
 {
     let n = count as usize;
     let mut out = [0 as i64; Limits::RATIONALS];

@@ -24,14 +24,12 @@ ghost use Rattle.rules_types.specs.Limits.{rationals, allBooleans};
 ghost use Rattle.rules.specs.Lists.{all};
 ghost use Rattle.rules.specs.Arithmetic.{isZero};
 ghost use Rattle.rules.specs.Normalize.{reduced};
-ghost use Rattle.rules.specs.Readings.{reading};
-ghost use Rattle.rules.specs.Split.{readingParts, readingSplits};
 ghost use Rattle.masks.specs.Mask.{bits};
-ghost use Rattle.problem_scan.specs.Values.{constraintAt, clauseAt};
+ghost use Rattle.problem_scan.specs.Values.{constraintAt};
 ghost use Rattle.problem_scan.specs.Sound.{SoundComparison, SoundClause};
 ghost use Rattle.lines.specs.Line.{meaning, Ready};
 ghost use Rattle.problem_parts.specs.Constraint.{lineOf};
-ghost use Rattle.problem_parts.specs.Parts.{partsFrom, SoundParts, splitsIn, partsLeft, withSplit, partsBehind};
+ghost use Rattle.problem_parts.specs.Parts.{partsFrom, SoundParts, splitsIn, partsLeft, Begun, withSplit, partsBehind};
 ghost use Rattle.problem_parts.specs.Skip.{Skipped};
 
 pub struct Parts {
@@ -59,9 +57,7 @@ pub struct Part {
 pub fn begin(input: &[u8], at: usize, r: u8, split: usize, second: bool) -> Parts
     requires { ⌜ SoundClause (now input) r at ⌝ }
     requires { ⌜ split ≤ allBooleans ⌝ }
-    ensures { λ p. ⌜ partsFrom (now (input .entry)) r p ≡ readingParts split (reading second (clauseAt (now (input .entry)) r at)) ⌝ }
-    ensures { λ p. ⌜ SoundParts (now (input .entry)) r p ⌝ }
-    ensures { λ p. ⌜ splitsIn p ≡ readingSplits (reading second (clauseAt (now (input .entry)) r at)) ⌝ }
+    ensures { λ p. ⌜ Begun (now (input .entry)) r at split second p ⌝ }
 {
     let place = count_place(input, at);
     let l = literals(input, at + 1, input[at]);

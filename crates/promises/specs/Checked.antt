@@ -26,7 +26,7 @@ use Rattle.theory_lists.specs.Tests.{split, is-true, is-false, clash}
 use Rattle.theory_checks.specs.ProofChecked.{refused-not, same-problem}
 use Rattle.theory_checks.specs.ModelChecked.{CheckedModel, model-checked-satisfies, satisfying-model-checked}
 use Rattle.theory_splitting.specs.WellFormed.{WellFormed}
-use Rattle.theory_splitting.specs.Reading.{posed-well-formed}
+use Rattle.theory_splitting.specs.WellRead.{posed-well-formed}
 use Rattle.theory_bytes.specs.Bytes.{AllBytes}
 use Rattle.theory_layout.specs.Offsets.{FirstBadField}
 use Rattle.theory_layout.specs.Models.{refused-exactly}

@@ -41,7 +41,7 @@ use Rattle.theory_splitting.specs.PartsChosen.{Chosen}
 use Rattle.theory_splitting.specs.SplitProblem.{StepsHold, splitting-keeps}
 use Rattle.theory_splitting.specs.SplitsInto.{SplitsInto, splits-into, clause-splits}
 use Rattle.theory_splitting.specs.Few.{splits-few}
-use Rattle.theory_splitting.specs.Reading.{posed-well-formed}
+use Rattle.theory_splitting.specs.WellRead.{posed-well-formed}
 use Rattle.theory_elimination.specs.Sound.{Sound}
 use Rattle.theory_elimination.specs.Origins.{Each, Justified, Fresh, Distinct}
 use Rattle.theory_elimination.specs.Chosen.{IsRunning, order-kept}
@@ -112,7 +112,7 @@ pub demand2 : (edition : ℕ) (input : List ℕ) (q : Problem) → read input �
 demand2 edition input q e = let p = inEdition edition q in record {
   lines = elimination-lines p;
   parts = every-part p;
-  splits = λ c w few k h. splits-into c w k (omega (arith, splits-few c few));
+  splits = λ c w few k h. splits-into c w k (omega (arith, splits-few c limit.comparisons few));
   pieces = clause-splits p (posed-well-formed edition input q e);
   bytes = relation-bytes;
   relations = compared-exactly;

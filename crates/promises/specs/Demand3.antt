@@ -25,7 +25,7 @@ use Rattle.rules.specs.Calls.{sound, read, Solving, solve, proofChecked}
 use Rattle.theory_vectors.specs.Amounts.{SmallAmounts, overflows-no}
 use Rattle.theory_elimination.specs.Events.{events}
 use Rattle.promises.specs.Decided.{NoAssignment}
-use Rattle.theory_splitting.specs.Reading.{posed-well-formed}
+use Rattle.theory_splitting.specs.WellRead.{posed-well-formed}
 use Rattle.theory_checks.specs.ProofChecked.{proof-checked-refutes}
 use Rattle.promises.specs.Words.{SomeAssignment, modelOf, GivesModel, OurModel, HoldsLines, Comes, IsRefused, LimitMet, firstStop}
 use Rattle.promises.specs.Words.{FullSize}

@@ -17,7 +17,7 @@ use Rattle.rules.specs.Values.{walk}
 use Rattle.rules.specs.Calls.{sound, read}
 use Rattle.theory_lists.specs.All.{all-map, all-mapped}
 use Rattle.theory_splitting.specs.WellFormed.{WellFormed}
-use Rattle.theory_splitting.specs.Reading.{posed-well-formed}
+use Rattle.theory_splitting.specs.WellRead.{posed-well-formed}
 use Rattle.theory_saturation.specs.Unbounded.{walk-zero}
 use Rattle.theory_saturation.specs.Taken.{problem-ordered}
 use Rattle.theory_saturation.specs.Least.{Over, over-zero, walk-least}

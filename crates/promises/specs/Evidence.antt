@@ -21,7 +21,7 @@ use Rattle.rules.specs.Calls.{sound, read, concluded, said, proofAfter, modelAf
 use Rattle.theory_lists.specs.All.{All, all-map}
 use Rattle.theory_resolution.specs.Formed.{Formed}
 use Rattle.theory_splitting.specs.WellFormed.{WellFormed}
-use Rattle.theory_splitting.specs.Reading.{posed-well-formed}
+use Rattle.theory_splitting.specs.WellRead.{posed-well-formed}
 use Rattle.theory_elimination.specs.Sound.{Sound}
 use Rattle.theory_elimination.specs.OfProblem.{elimination-normalized}
 use Rattle.theory_bytes.specs.Steps.{take-proof}

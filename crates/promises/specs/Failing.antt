@@ -21,7 +21,7 @@ use Rattle.rules.specs.Checker.{followed, followedLines, withEmptyEnd, checkPro
 use Rattle.rules.specs.Calls.{sound, read, wholeSteps, proofChecked, modelChecked}
 use Rattle.theory_lists.specs.All.{All}
 use Rattle.theory_lists.specs.Tests.{of-true}
-use Rattle.theory_splitting.specs.Reading.{posed-well-formed}
+use Rattle.theory_splitting.specs.WellRead.{posed-well-formed}
 use Rattle.theory_bytes.specs.Bytes.{AllBytes}
 use Rattle.theory_layout.specs.Offsets.{StatesModel}
 use Rattle.theory_layout.specs.Steps.{Writable}

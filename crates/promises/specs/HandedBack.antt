@@ -23,7 +23,7 @@ use Rattle.rules.specs.Problem.{Problem, inEdition}
 use Rattle.rules.specs.Calls.{Reading, faulty, sound, read, Solving, proofChecked, modelChecked}
 use Rattle.theory_lists.specs.Tests.{split}
 use Rattle.theory_layout.specs.WrittenModels.{front-states}
-use Rattle.theory_splitting.specs.Reading.{posed-well-formed}
+use Rattle.theory_splitting.specs.WellRead.{posed-well-formed}
 use Rattle.theory_checks.specs.ModelChecked.{satisfying-model-checked}
 use Rattle.theory_elimination.specs.OfProblem.{elimination-held}
 use Rattle.promises.specs.Words.{walkOf, Comes, FullSize}

@@ -14,7 +14,7 @@ use Rattle.rules_types.specs.Limits as limit
 use Rattle.rules.specs.Problem.{Problem, inEdition}
 use Rattle.rules.specs.Elimination.{limited, elimination}
 use Rattle.rules.specs.Calls.{faulty, sound, Outcome, faulted, read, concluded, said, proofAfter, modelAfter, Solving, solve, lent}
-use Rattle.theory_splitting.specs.Reading.{posed-well-formed}
+use Rattle.theory_splitting.specs.WellRead.{posed-well-formed}
 use Rattle.theory_splitting.specs.Lent.{lent-short-proof, lent-short-model, lent-fault}
 use Rattle.promises.specs.Words.{Comes, LimitMet, FullSize, HoldsLines, OurModel}
 use Rattle.promises.specs.Reported.{left, solve-is, lines-held}

@@ -24,7 +24,7 @@ use Rattle.rules.specs.Calls.{modelAfter, solve}
 use Rattle.theory_lists.specs.Tests.{split}
 use Rattle.theory_lists.specs.All.{All, all-map}
 use Rattle.theory_resolution.specs.Formed.{Formed}
-use Rattle.theory_splitting.specs.Reading.{posed-well-formed}
+use Rattle.theory_splitting.specs.WellRead.{posed-well-formed}
 use Rattle.theory_splitting.specs.Lent.{lent-short-proof, lent-short-model, lent-fault, lent-sound}
 use Rattle.theory_elimination.specs.OfProblem.{elimination-normalized, elimination-held}
 use Rattle.theory_elimination.specs.Sound.{Sound}

@@ -17,7 +17,7 @@ use Rattle.rules_types.specs.declared.answers.Checked.{Checked}
 use Rattle.rules_types.specs.declared.answers.Checked.the-variants as checked
 use Rattle.rules_types.specs.declared.answers.Evidence.{Evidence}
 use Rattle.rules_types.specs.declared.answers.Evidence.the-variants.{OfProof, OfModel}
-use Rattle.rules_types.specs.Answers.{refusalNumber, verdictNumber, answerNumber, answerValue, checkedNumber, checkedValue, evidenceNumber}
+use Rattle.rules_types.specs.Answers.{refusalNumber, verdictNumber, answerNumber, checkedNumber, checkedValue, evidenceNumber}
 use Rattle.rules_types.specs.Answers.{evidenceLength}
 use Rattle.promises.specs.Words.{Comes, IsRefused}
 

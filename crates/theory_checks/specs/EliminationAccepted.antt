@@ -20,7 +20,7 @@ use Rattle.theory_lists.specs.Dropped.{dropped-is}
 use Rattle.theory_vectors.specs.Amounts.{overflows-no}
 use Rattle.theory_resolution.specs.Formed.{Formed, resolve-formed}
 use Rattle.theory_splitting.specs.WellFormed.{WellFormed}
-use Rattle.theory_splitting.specs.Reading.{posed-well-formed}
+use Rattle.theory_splitting.specs.WellRead.{posed-well-formed}
 use Rattle.theory_splitting.specs.PartsForm.{LineForm}
 use Rattle.theory_splitting.specs.SplitProblem.{loadable-formed}
 use Rattle.theory_elimination.specs.Closed.{line-at, elimination-closed-unstopped}

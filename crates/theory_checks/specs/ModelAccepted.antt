@@ -12,7 +12,7 @@ use Rattle.rules.specs.Meaning.{Assignment, Satisfies}
 use Rattle.rules.specs.Values.{Walked}
 use Rattle.rules.specs.Model.{encodeModel, written}
 use Rattle.rules.specs.Calls.{read, sound, modelChecked}
-use Rattle.theory_splitting.specs.Reading.{read-well-formed}
+use Rattle.theory_splitting.specs.WellRead.{read-well-formed}
 use Rattle.theory_checks.specs.ModelChecked.{satisfying-model-checked}
 use Rattle.theory_bytes.specs.Models.{Fitting, model-length}
 use Rattle.theory_bytes.specs.Written.{written-fits}

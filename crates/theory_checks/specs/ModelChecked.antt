@@ -21,7 +21,7 @@ use Rattle.rules.specs.Meaning.{Assignment, clauseHolds, Satisfies}
 use Rattle.rules.specs.Model.{model}
 use Rattle.rules.specs.Checker.{checkClauses}
 use Rattle.rules.specs.Calls.{Reading, faulty, sound, read, modelChecked}
-use Rattle.theory_splitting.specs.Reading.{read-well-formed, posed-well-formed}
+use Rattle.theory_splitting.specs.WellRead.{read-well-formed, posed-well-formed}
 use Rattle.theory_layout.specs.Offsets.{StatesModel}
 use Rattle.theory_layout.specs.Models.{Stated, got-states, states-got}
 use Rattle.theory_layout.specs.WrittenModels.{same-booleans, same-numerators, same-denominators}

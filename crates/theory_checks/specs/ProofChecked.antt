@@ -15,7 +15,7 @@ use Rattle.rules.specs.Problem.{Problem, inEdition}
 use Rattle.rules.specs.Meaning.{Assignment, Satisfies}
 use Rattle.rules.specs.Checker.{checkProof}
 use Rattle.rules.specs.Calls.{Reading, faulty, sound, read, wholeSteps, proofChecked}
-use Rattle.theory_splitting.specs.Reading.{posed-well-formed}
+use Rattle.theory_splitting.specs.WellRead.{posed-well-formed}
 use Rattle.theory_checks.specs.Refutation.{accepted-proof-refutes}
 
 -- the problem that was read, and that its check accepts the proof

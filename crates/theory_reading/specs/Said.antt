@@ -15,7 +15,7 @@ use Rattle.rules.specs.Calls.{withinSplits, read}
 use Rattle.rules.specs.Written.{Field, bytesOf, WrittenProblem, fieldsOf, meaning}
 use Rattle.theory_lists.specs.Tests.{split, is-true, is-false}
 use Rattle.theory_bytes.specs.Bytes.{AllBytes}
-use Rattle.theory_splitting.specs.Reading.{within-splits}
+use Rattle.theory_splitting.specs.WellRead.{within-splits}
 use Rattle.theory_reading.specs.Statements.{Writable, Writes, Reaches, FirstFault, long, cut, outside, trailing, over-splits, Says}
 use Rattle.theory_reading.specs.Follows.{Outcome, done, failed, Follows, through, Leads, Stop, stop-outside, stop-cut, stops}
 use Rattle.theory_reading.specs.Judged.{finish}

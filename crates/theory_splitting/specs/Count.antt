@@ -24,13 +24,19 @@ unfolding parts
 parts-number k p n [] = refl
 parts-number k p n (c ∷ cs) = omega (arith, chain-length k p n c cs)
 
+-- the parts of what normalizing gives, and how many split variables they take
+abbrev pub normalParts : ℕ → Option Normal → List rules.Line
+normalParts k o = elim o [ none ↦ [] | some n ↦ parts k n ]
+
+abbrev pub normalSplits : Option Normal → ℕ
+normalSplits o = elim o [ none ↦ 0 | some n ↦ length (n .constraints) - 1 ]
+
 -- "splits into k pieces by k - 1 links"
 pub splits-number : (k : ℕ) (d : Disjunction) → readingSplits d ≡ length (readingParts k d) - 1
 unfolding readingParts readingSplits
 splits-number k d = by (normalClause d)
   where
-    by : (o : Option Normal) → elim o [ none ↦ 0 | some n ↦ length (n .constraints) - 1 ]
-        ≡ length {A = rules.Line} (elim o [ none ↦ [] | some n ↦ parts k n ]) - 1
+    by : (o : Option Normal) → normalSplits o ≡ length (normalParts k o) - 1
     by none = refl
     by (some n) = omega (arith, parts-number k (n .positive) (n .negative) (n .constraints))
 

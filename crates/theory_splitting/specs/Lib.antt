@@ -14,7 +14,7 @@ pub mod SplitReading
 pub mod SplitReadings
 pub mod SplitProblem
 pub mod Readers
-pub mod Reading
+pub mod WellRead
 pub mod Lent
 pub mod Named
 pub mod EveryPart

@@ -12,7 +12,7 @@ use lib.ListN.{length}
 use Rattle.rules_types.specs.Limits as limit
 use Rattle.rules.specs.Problem.{Literal, Constraint}
 use Rattle.rules.specs.Readings.{Disjunction}
-use Rattle.rules.specs.Lines.{Booleans, including, meet}
+use Rattle.rules.specs.Lines.{Booleans, including}
 use Rattle.rules.specs.Normalize.{Settled, always, never, kept, Normal, membersOf, settled, settledAll, normalClause}
 use Rattle.theory_lists.specs.All.{All, Any}
 use Rattle.theory_lists.specs.Tests.{clash}

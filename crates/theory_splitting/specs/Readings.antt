@@ -1,6 +1,6 @@
 -- A clause holds exactly if each of its readings does; and they are as well formed as it is.
 use mathlib.Core.Path.{_≡_, refl, sym, ap, _∙_, subst}
-use mathlib.Core.Bool.{Bool, true, false, cond, _&&_, _||_}
+use mathlib.Core.Bool.{Bool, true, false, cond, _&&_, _||_, and-true, or-and-distrib-left, or-and-distrib-right}
 use mathlib.Core.Logic.{_↔_}
 use mathlib.Core.List.{List, [], _∷_, map}
 use Prim.Native.Nat.{ℕ, _+_, _≤_}
@@ -43,21 +43,6 @@ compared-exactly ge a b = (λ t. record { le = t }, λ h. h .le)
 -- two numbers as read, with the signs turned or not
 abbrev readBy : Bool → Relation → ℤ → ℤ → Bool
 readBy second ρ a b = related (isStrict ρ) (signed (turns second ρ) a) (signed (turns second ρ) b)
-
-and-true : (a : Bool) → a && true ≡ a
-and-true false = refl
-and-true true = refl
-
--- each distributes over the other
-or-and : (a x y : Bool) → a || (x && y) ≡ (a || x) && (a || y)
-or-and false x y = refl
-or-and true x y = refl
-
-and-or : (x y a : Bool) → (x && y) || a ≡ (x || a) && (y || a)
-and-or false y false = refl
-and-or false false true = refl
-and-or false true true = refl
-and-or true y a = refl
 
 module _ (a b : ℤ) where
   turned : leZ b a ≡ related false (signed true a) (signed true b)
@@ -134,11 +119,11 @@ module _ (χ : Assignment) where
           ≡ (constraintHolds χ (readAs false c) || asRead false cs) && (constraintHolds χ (readAs true c) || asRead true cs)
       by true e h rest =
           (λ i. holds-twice c e i || any (comparisonHolds χ) cs)
-          ∙ and-or (constraintHolds χ (readAs false c)) (constraintHolds χ (readAs true c)) (any (comparisonHolds χ) cs)
+          ∙ or-and-distrib-right (constraintHolds χ (readAs false c)) (constraintHolds χ (readAs true c)) (any (comparisonHolds χ) cs)
           ∙ (λ i. (constraintHolds χ (readAs false c) || none-twice false cs (omega arith) i)
           && (constraintHolds χ (readAs true c) || none-twice true cs (omega arith) i))
       by false e h rest =
-          (λ i. comparisonHolds χ c || rest (omega arith) i) ∙ or-and (comparisonHolds χ c) (asRead false cs) (asRead true cs)
+          (λ i. comparisonHolds χ c || rest (omega arith) i) ∙ or-and-distrib-left (comparisonHolds χ c) (asRead false cs) (asRead true cs)
           ∙ (λ i. (holds-once false c e i || asRead false cs) && (holds-once true c e i || asRead true cs))
 
   -- ---- a clause
@@ -162,7 +147,7 @@ module _ (χ : Assignment) where
       by : (t : Bool) → hasEquality (c .comparisons) ≡ t → L || any (comparisonHolds χ) (c .comparisons)
           ≡ (L || asRead false (c .comparisons)) && all (readingHolds χ) (cond t (reading true c ∷ []) [])
       by true e =
-          (λ i. L || one-twice (c .comparisons) h i) ∙ or-and L (asRead false (c .comparisons)) (asRead true (c .comparisons))
+          (λ i. L || one-twice (c .comparisons) h i) ∙ or-and-distrib-left L (asRead false (c .comparisons)) (asRead true (c .comparisons))
           ∙ (λ i. (L || asRead false (c .comparisons)) && sym (and-true (L || asRead true (c .comparisons))) i)
       by false e =
           (λ i. L || none-twice false (c .comparisons) (unequal (c .comparisons) e) i)

@@ -5,18 +5,18 @@ use mathlib.Core.Option.{Option, none, some}
 use Prim.Native.Nat.{ℕ, _+_, _-_, _≤_, _<_}
 use native.Mathlib.Omega.{arith}
 use lib.Dec.{T}
-use lib.ListN.{length}
 use Rattle.rules_types.specs.Limits as limit
 use Rattle.theory_lists.specs.All.{All, all-map}
 use Rattle.rules.specs.Readings.{Disjunction}
 use Rattle.rules.specs.Meaning.{Assignment}
 use Rattle.rules.specs.Lines.{Line, lineHolds}
 use Rattle.rules.specs.Normalize.{Normal, normalClause}
-use Rattle.rules.specs.Split.{parts, readingParts, readingSplits}
+use Rattle.rules.specs.Split.{readingParts, readingSplits}
 use Rattle.theory_lists.specs.Dropped.{DroppedOr}
 use Rattle.theory_splitting.specs.WellFormed.{WellFormedConstraint, WellFormedReading}
 use Rattle.theory_splitting.specs.NormalClause.{readingHolds, normalHolds, normal-clause-holds}
 use Rattle.theory_splitting.specs.NormalForm.{Sized, NormalForm, normal-form}
+use Rattle.theory_splitting.specs.Count.{normalParts, normalSplits}
 use Rattle.theory_splitting.specs.PartsGive.{parts-give}
 use Rattle.theory_splitting.specs.PartsChosen.{Chosen, chosen-same, parts-chosen}
 use Rattle.theory_splitting.specs.PartsForm.{LineForm, parts-form}
@@ -25,26 +25,19 @@ use Rattle.theory_splitting.specs.PartsForm.{LineForm, parts-form}
 abbrev pub AllHold : Assignment → List Line → Type 0
 AllHold χ ls = All (λ l. T (lineHolds χ l)) ls
 
--- the parts of what normalizing gives, and how many split variables they take
-abbrev partsFrom : ℕ → Option Normal → List Line
-partsFrom k o = elim o [ none ↦ [] | some n ↦ parts k n ]
-
-abbrev splitsFrom : Option Normal → ℕ
-splitsFrom o = elim o [ none ↦ 0 | some n ↦ length (n .constraints) - 1 ]
-
-chosen-from : (χ : Assignment) (k : ℕ) (o : Option Normal) → DroppedOr (NormalForm (λ i. i < k)) o → k + splitsFrom o ≤ limit.allBooleans
+chosen-from : (χ : Assignment) (k : ℕ) (o : Option Normal) → DroppedOr (NormalForm (λ i. i < k)) o → k + normalSplits o ≤ limit.allBooleans
     → DroppedOr (λ n. T (normalHolds χ n)) o
-    → Chosen χ k (k + splitsFrom o) (λ ψ. AllHold ψ (partsFrom k o))
+    → Chosen χ k (k + normalSplits o) (λ ψ. AllHold ψ (normalParts k o))
 chosen-from χ k none f z h = chosen-same χ k (k + 0) (λ ψ. AllHold ψ []) tt
 chosen-from χ k (some n) f z h = parts-chosen χ k n f z h
 
-give-from : (χ : Assignment) (k : ℕ) (o : Option Normal) → AllHold χ (partsFrom k o) → DroppedOr (λ n. T (normalHolds χ n)) o
+give-from : (χ : Assignment) (k : ℕ) (o : Option Normal) → AllHold χ (normalParts k o) → DroppedOr (λ n. T (normalHolds χ n)) o
 give-from χ k none h = tt
 give-from χ k (some n) h = parts-give χ k n h
 
 form-from : (P : ℕ → Type 0) (k : ℕ) (o : Option Normal) → DroppedOr (NormalForm P) o → DroppedOr (NormalForm (λ i. i < k)) o
-    → ((i : ℕ) → k ≤ i → i < k + splitsFrom o → P i)
-    → All (LineForm P) (partsFrom k o)
+    → ((i : ℕ) → k ≤ i → i < k + normalSplits o → P i)
+    → All (LineForm P) (normalParts k o)
 form-from P k none f w q = tt
 form-from P k (some n) f w q = parts-form P k n f (w .negative) q
 

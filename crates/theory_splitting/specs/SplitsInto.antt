@@ -14,7 +14,7 @@ use Rattle.rules.specs.Problem.{Relation, le, lt, eq, ge, Comparison, Constrain
 use Rattle.rules.specs.Readings.{Disjunction, isStrict, turns, signed, readAs, reading, hasEquality}
 use Rattle.rules.specs.Lines.{Line}
 use Rattle.rules.specs.Normalize.{Normal, normalClause, settledAll}
-use Rattle.rules.specs.Split.{parts, readingParts, readingSplits, partsOf, splitsOf}
+use Rattle.rules.specs.Split.{readingParts, readingSplits, partsOf, splitsOf}
 use Rattle.theory_lists.specs.All.{All, Any, all-map, any-map, any-yes, yes-any}
 use Rattle.theory_lists.specs.Tests.{is-true, of-true, clash, of-false}
 use Rattle.theory_lists.specs.Places.{element-all}
@@ -23,7 +23,7 @@ use Rattle.theory_splitting.specs.WellFormed.{WellFormedClause, splitsIn
 use Rattle.theory_splitting.specs.NormalClause.{normalOf, clause-ends, length-members}
 use Rattle.theory_splitting.specs.Normalized.{NormalizedTo, clause-normalized}
 use Rattle.theory_splitting.specs.PartsAre.{PartsAre, parts-are}
-use Rattle.theory_splitting.specs.Count.{splits-number}
+use Rattle.theory_splitting.specs.Count.{normalParts, normalSplits, splits-number}
 use Rattle.theory_splitting.specs.Twice.{splits-once, parts-once, splits-twice, parts-twice}
 
 -- ---- the words
@@ -86,8 +86,7 @@ sized d = clause-ends Sized d (λ m. tt) (λ m. by (settledAll (d .constraints))
     by (some cs) = length-members false (d .literals)
 
 into-parts : (k : ℕ) (o : Option Normal) → Sized o
-    → k + elim o [ none ↦ 0 | some n ↦ length (n .constraints) - 1 ] ≤ limit.allBooleans
-    → Into k o (elim o [ none ↦ [] | some n ↦ parts k n ])
+    → k + normalSplits o ≤ limit.allBooleans → Into k o (normalParts k o)
 into-parts k none h f = refl
 into-parts k (some n) h f = parts-are k n h f
 

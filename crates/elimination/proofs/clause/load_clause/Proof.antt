@@ -15,7 +15,7 @@ use Rattle.rules.specs.Split.{readingParts, readingSplits, splitsOf}
 use Rattle.theory_lists.specs.Tests.{of-true}
 use Rattle.theory_splitting.specs.Twice.{splits-once, splits-twice}
 use Rattle.problem_scan.specs.Values.{clauseAt}
-use Rattle.problem_parts.specs.Part.{count-is}
+use Rattle.problem_parts.specs.Part.{begun-count}
 use Rattle.problem_parts.specs.Parts.{partsFrom}
 use Rattle.placing.specs.Point.{running-yes}
 use Rattle.elimination.specs.LoadedParts.{first-few, both-few, clause-once, clause-stays, clause-twice}
@@ -46,16 +46,13 @@ module _ (c : tie.After-begin) where
   abbrev first : List rules.Line
   first = readingParts (start .args .split) (reading false (here start))
 
-  many : length first ≡ length (partsFrom (start .args .input .now) (start .args .r) (c .begin .result))
-  many = sym (ap length (c .begin .ensures .0))
-
 load-parts-requires : tie.Need-load-parts-requires
 load-parts-requires c κs =
     let b = c .before .before in
     let s = start b in
     let h = s .pre .1 in
     let few = first-few (s .args .input .now) (s .args .r) (s .args .at) (s .args .split) (s .args .clause) in
-    (s .pre .0, (b .begin .ensures .1 .0, (omega (arith, many b, few, h .1 .1 .0), h .1 .1 .1)))
+    (s .pre .0, (b .begin .ensures .sound, (omega (arith, ap length (b .begin .ensures .parts), few, h .1 .1 .0), h .1 .1 .1)))
 
 is-running-requires : tie.Need-is-running-requires
 is-running-requires c κs = search needs
@@ -76,14 +73,14 @@ module _ (c : tie.After-load-parts) where
 
   -- the split variable behind them
   behind : c .before .before .splits .result ≡ readingSplits (reading false (here from))
-  behind = c .before .before .splits .ensures ∙ begun .begin .ensures .1 .1
+  behind = c .before .before .splits .ensures ∙ begun .begin .ensures .splits
 
 returns : tie.Need-returns
 returns c =
     let r = c .before in
     let l = r .before .before .before in
     let a = from l .args in
-    let loads = rw (begun l .begin .ensures .0) at (l .load-parts .ensures) in
+    let loads = rw (begun l .begin .ensures .parts) at (l .load-parts .ensures) in
     ⊎-elim
     (λ x. (
       clause-stays (a .input .now) (a .r) (a .at) (a .split) (a .clause) loads (sym (r .is-running .ensures) ∙ not-true _ (x .taken)),
@@ -124,14 +121,14 @@ module _ (c : tie.After-count) where
 
   second-is : partsFrom (from loaded .args .input .now) (from loaded .args .r) (c .before .begin2 .result) ≡ second
   second-is =
-      c .before .begin2 .ensures .0
+      c .before .begin2 .ensures .parts
       ∙ ap (λ (n : ℕ). readingParts (from loaded .args .split + n) (reading true (here (from loaded)))) (behind loaded)
 
   number : c .count .result ≡ length (first (begun loaded))
   number =
-      let b = begun loaded in
-      c .count .ensures ∙ sym (count-is (start b .args .input .now) (start b .args .r) (b .begin .result) (b .begin .ensures .1 .0))
-      ∙ sym (many b)
+      let b = begun loaded .begin in
+      let a = from loaded .args in
+      c .count .ensures ∙ begun-count (a .input .now) (a .r) (a .at) (a .split) false (b .result) (b .ensures)
 
 load-parts-requires-2 : tie.Need-load-parts-requires-2
 load-parts-requires-2 c κs =
@@ -143,7 +140,7 @@ load-parts-requires-2 c κs =
     let e = other k .before .before in (
       s .pre .0,
       (
-        k .before .begin2 .ensures .1 .0,
+        k .before .begin2 .ensures .sound,
         (
           omega (arith, number k, ap length (second-is k), few, s .pre .1 .1 .1 .0),
           (
@@ -169,7 +166,7 @@ both : (c : tie.After-splits2) → let k = c .before .before .before .before .be
 both c =
     let k = c .before .before .before .before .before in
     let s = splits-twice (here (from (loaded k))) (twice (other k)) in
-    omega (arith, behind (loaded k), c .splits2 .ensures, k .before .begin2 .ensures .1 .1, s)
+    omega (arith, behind (loaded k), c .splits2 .ensures, k .before .begin2 .ensures .splits, s)
 
 add-t27 : tie.Need-add-t27
 add-t27 c = let s = from (loaded (c .before .before .before .before .before)) in omega (arith, both c, s .pre .1 .1 .0)
@@ -182,7 +179,7 @@ returns-2 c =
     let k = c .before .before .before .before .before in
     let l = loaded k in
     let a = from l .args in (
-      clause-twice (a .input .now) (a .r) (a .at) (a .split) (a .clause) (rw (begun l .begin .ensures .0) at (l .load-parts .ensures))
+      clause-twice (a .input .now) (a .r) (a .at) (a .split) (a .clause) (rw (begun l .begin .ensures .parts) at (l .load-parts .ensures))
           (twice (other k)) (k .count .result) _ (number k) (second-is k) (c .before .before .before .load-parts2 .ensures),
       λ e. omega (arith, both c),
     )

@@ -2,7 +2,7 @@
 use mathlib.Core.Path.{ap, _∙_}
 use native.Mathlib.Omega.{arith}
 use Rattle.rules.specs.Elimination.{orderBy, rationalsAfter, orderAfter, loadableOf}
-use Rattle.theory_splitting.specs.Reading.{read-well-formed}
+use Rattle.theory_splitting.specs.WellRead.{read-well-formed}
 use Rattle.problem_read.specs.Parsed.{problemAt}
 use Rattle.lines.specs.Order.{variablesOf}
 use Rattle.elimination.specs.Loading.{no-pairs}

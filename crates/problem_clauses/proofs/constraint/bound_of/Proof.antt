@@ -1,6 +1,6 @@
 -- `constraint::bound_of` meets its contract: the bound as written, its sign turned where the comparison's are.
 use mathlib.Core.Path.{_≡_, sym, _∙_, subst}
-use Prim.Native.Nat.{_^_, _≤_}
+use Prim.Native.Nat.{_^_, _<_}
 use borrow.Author.Needs.{needs, sfits-of}
 use mir.Syntax.{w64}
 use mir.Val.{toZ, ofZ}
@@ -29,7 +29,7 @@ written-is c = toZ-ofZ {w = w64} (sfits-of (c .written-bound .ok)) ∙ c .writte
 signed-requires : tie.Need-signed-requires
 signed-requires c κs =
     let a = c .before .before .before .before .args in
-    subst (λ (z : ℤ). natAbs z ≤ 2 ^ 32) (sym (written-is c)) (bound-size (a .input .now) (a .r) (a .at))
+    subst (λ (z : ℤ). natAbs z < 2 ^ 63) (sym (written-is c)) (bound-size (a .input .now) (a .r) (a .at))
 
 returns : tie.Need-returns
 unfolding readAs comparisonAt

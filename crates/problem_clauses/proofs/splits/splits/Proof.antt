@@ -16,12 +16,13 @@ use Rattle.rules_types.specs.Layout.{comparisonBytes}
 use Rattle.rules.specs.Lines.{meet}
 use Rattle.masks.specs.Mask.{bits}
 use Rattle.theory_splitting.specs.Twice.{splits-once, splits-twice}
+use Rattle.theory_splitting.specs.Few.{splits-few}
 use Rattle.problem_scan.specs.Values.{behind, comparisonAt, comparisonsAt, constraintsAt, countOf, clauseAt}
 use Rattle.problem_clauses.specs.declared.splits.Staying.{Staying}
 use Rattle.problem_clauses.specs.Passes.{length-values}
 use Rattle.problem_clauses.specs.Walk.{count-within, clause-within, literals-within, constraints-within}
 use Rattle.problem_clauses.specs.Remaining.{counted}
-use Rattle.problem_clauses.specs.Splits.{splitsBy, splits-single, splits-at, splits-clash}
+use Rattle.problem_clauses.specs.Splits.{splitsBy, splits-at, splits-clash}
 use borrow.Author.Needs.{needs}
 use Rattle.problem_clauses.proofs.splits.splits.Statement.{statement}
 use Rattle.problem_clauses.proofs.splits.splits.Tie as tie
@@ -67,7 +68,7 @@ shared-slice-read-count : tie.Need-shared-slice-read-count
 shared-slice-read-count c = place-within (c .before)
 
 returns : tie.Need-returns
-returns c = let p = c .before .before in sym (splits-single (here p) (omega (arith, many p, c .if1 .taken)))
+returns c = let p = c .before .before in omega (arith, splits-few (here p) 1 (omega (arith, many p, c .if1 .taken)))
 
 add-literals : tie.Need-add-literals
 add-literals c = let s = start (c .before .before) in

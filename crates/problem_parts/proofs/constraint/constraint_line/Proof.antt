@@ -17,13 +17,13 @@ use Rattle.rules.specs.Problem.{Constraint, relationOf}
 use Rattle.rules.specs.Readings.{turns, signed}
 use Rattle.rules.specs.Lines as rules
 use Rattle.theory_vectors.specs.Amounts.{Small}
-use Rattle.theory_vectors.specs.Signed.{abs-signed, signed-same}
+use Rattle.theory_vectors.specs.Signed.{signed-same}
 use Rattle.masks.specs.Mask.{bits}
 use Rattle.problem_scan.specs.Values.{behind-is, comparisonAt, constraintAt}
 use Rattle.problem_scan.specs.Sound.{padded-small}
 use Rattle.lines.specs.declared.line.Line.{Line}
 use Rattle.lines.specs.Line.{constraintOf, meaning, Ready}
-use Rattle.problem_parts.specs.Constraint.{turnedLine, relation-within, constraint-words, turned-small}
+use Rattle.problem_parts.specs.Constraint.{relation-within, constraint-words, turned-ready}
 use Rattle.problem_parts.proofs.constraint.constraint_line.Statement.{statement}
 use Rattle.problem_parts.proofs.constraint.constraint_line.Tie as tie
 
@@ -97,19 +97,6 @@ module _ (c : tie.After-relation-of) where
       constraint-words q (start .args .second) (start .args .r) (start .args .at) (c .relation-of .result) (c .relation-of .ensures)
       turned t cs b (e ∙ ap (map (signed turned)) (c .before .before .row .ensures)) (f ∙ ap (signed turned) bound-is)
 
-  turned-ready : Ready (turnedLine line)
-  turned-ready =
-      let n = relation-within q false (start .args .r) (start .args .at) (c .relation-of .result) (c .relation-of .ensures) in
-      record {
-        shaped = record {
-          related = n .1;
-          coefficients = λ z. absurd (omega (arith, n .0, z));
-          bound = λ z. absurd (omega (arith, n .0, z));
-        };
-        coefficients = turned-small (line .coefficients) (ready .coefficients);
-        bound = rw (abs-signed true bound) (ready .bound);
-      }
-
 turned-line-requires : tie.Need-turned-line-requires
 turned-line-requires c κs = ready (c .before .before)
 
@@ -128,7 +115,7 @@ returns c =
     let k = t .before in
     let e = c .turned-line .ensures in (
       ap meaning e ∙ ap (whole (start k)) (words k true (sym (c .before .if1 .taken) ∙ t .turns .ensures) _ _ refl refl),
-      subst Ready (sym e) (turned-ready k),
+      subst Ready (sym e) (turned-ready (line k) (ready k)),
     )
 
 returns-2 : tie.Need-returns-2

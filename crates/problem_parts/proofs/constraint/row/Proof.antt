@@ -12,7 +12,7 @@ use Rattle.problem_parts.proofs.constraint.row.Statement.{statement}
 use Rattle.problem_parts.proofs.constraint.row.Tie as tie
 
 abbrev Inv-loop : tie.InvT-loop
-Inv-loop q from count n out₀ at₀ i₀ out at i = RowRead (amountAt q) from count out at i
+Inv-loop q from count n out₀ at₀ i₀ out at i = RowRead q from count out at i
 
 abbrev μ-loop : tie.MeasureT-loop
 μ-loop q from count n out₀ at₀ i₀ out at i = count - i
@@ -27,7 +27,7 @@ within : (c : tie.In-loop Inv-loop μ-loop) → let a = c .before .before .befor
 within c =
     let l = c .before .loop in
     let a = c .before .before .before .args in
-    row-within (amountAt (a .input .now)) (a .from) (a .count) (l .out) (l .at) (l .i) (l .inv) (c .loop-test .taken)
+    row-within (a .input .now) (a .from) (a .count) (l .out) (l .at) (l .i) (l .inv) (c .loop-test .taken)
 
 amount-at-requires : tie.Need-amount-at-requires Inv-loop μ-loop
 amount-at-requires c κs = omega (arith, within c, c .before .before .before .pre .1)
@@ -53,7 +53,7 @@ loop-again c =
     let t = c .before in
     let l = t .before .loop in
     let s = t .before .before .before in
-    row-more (amountAt (s .args .input .now)) (s .args .from) (s .args .count) (l .out) (l .at) (l .i) (l .inv)
+    row-more (s .args .input .now) (s .args .from) (s .args .count) (l .out) (l .at) (l .i) (l .inv)
     (toZ w64 (ofZ w64 (c .amount-at .result)))
     (t .loop-test .taken) (s .pre .0)
     (toZ-ofZ {w = w64} (sfits-of (c .amount-at .ok)) ∙ c .amount-at .ensures)
@@ -62,7 +62,7 @@ returns : tie.Need-returns Inv-loop μ-loop
 returns c =
     let l = c .before .loop in
     let s = c .before .before .before in
-    row-done (amountAt (s .args .input .now)) (s .args .from) (s .args .count) (l .out) (l .at) (l .i) (l .inv) (c .loop-test .left)
+    row-done (s .args .input .now) (s .args .from) (s .args .count) (l .out) (l .at) (l .i) (l .inv) (c .loop-test .left)
 
 pub row-spec : {M : Type 1} → statement M
 row-spec =

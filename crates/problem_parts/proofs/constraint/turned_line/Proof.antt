@@ -1,7 +1,7 @@
 -- `constraint::turned_line` meets its contract.
 use mathlib.Core.Path.{_≡_, sym, ap, _∙_, subst}
 use mathlib.Core.Bool.{true}
-use Prim.Native.Nat.{_^_, _≤_}
+use Prim.Native.Nat.{_^_, _<_}
 use native.Mathlib.Omega.{arith}
 use borrow.Author.Needs.{needs, sfits-of}
 use lib.IntN.{ℤ, natAbs}
@@ -25,7 +25,7 @@ module _ (c : tie.After-struct-told) where
 
 signed-requires : tie.Need-signed-requires
 signed-requires c κs =
-    subst (λ (z : ℤ). natAbs z ≤ 2 ^ 32) (sym (bound-fits c)) (omega (arith, start c .pre .bound))
+    subst (λ (z : ℤ). natAbs z < 2 ^ 63) (sym (bound-fits c)) (omega (arith, start c .pre .bound))
 
 returns : tie.Need-returns
 returns c =

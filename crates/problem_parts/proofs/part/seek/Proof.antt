@@ -14,7 +14,7 @@ use Rattle.rules.specs.Lines as rules
 use Rattle.rules.specs.Split.{readingParts, readingSplits, partsOf}
 use Rattle.theory_splitting.specs.Twice.{splits-twice}
 use Rattle.problem_scan.specs.Values.{clauseAt}
-use Rattle.problem_parts.specs.Part.{Looking, count-is, part-once, part-first, part-second}
+use Rattle.problem_parts.specs.Part.{Looking, begun-count, part-once, part-first, part-second}
 use Rattle.problem_parts.proofs.part.seek.Statement.{statement}
 use Rattle.problem_parts.proofs.part.seek.Tie as tie
 
@@ -41,18 +41,17 @@ module _ (c : tie.After-count) where
   abbrev first : List rules.Line
   first = readingParts (start .args .split) (reading false here)
 
-  many : length first ≡ c .count .result
+  many : c .count .result ≡ length first
   many =
-      let b = c .before .begin in
-      sym (ap length (b .ensures .0)) ∙ count-is (start .args .input .now) (start .args .r) (b .result) (b .ensures .1 .0)
-      ∙ sym (c .count .ensures)
+      let a = start .args in
+      c .count .ensures ∙ begun-count (a .input .now) (a .r) (a .at) (a .split) false (c .before .begin .result) (c .before .begin .ensures)
 
   in-first : getElem? first (start .args .j) ≡ getElem? (partsOf (start .args .split) here) (start .args .j)
       → Looking (start .args .input .now) (start .args .r) (getElem? (partsOf (start .args .split) here) (start .args .j))
       (c .before .begin .result) (start .args .j)
   in-first e =
       let b = c .before .begin in
-      record { sound = b .ensures .1 .0; same = ap (λ (ls : List rules.Line). getElem? ls (start .args .j)) (b .ensures .0) ∙ e }
+      record { sound = b .ensures .sound; same = ap (λ (ls : List rules.Line). getElem? ls (start .args .j)) (b .ensures .parts) ∙ e }
 
 returns : tie.Need-returns
 returns c =
@@ -79,7 +78,7 @@ twice c = let e = c .before in sym (e .before .read-twice .ensures) ∙ not-fals
 -- its second reading's split variables begin behind those of the first
 behind : (c : tie.After-splits) → let k = c .before .before .before .before in
     c .splits .result ≡ readingSplits (reading false (here k))
-behind c = let b = c .before .before .before .before .before .begin in c .splits .ensures ∙ b .ensures .1 .1
+behind c = let b = c .before .before .before .before .before .begin in c .splits .ensures ∙ b .ensures .splits
 
 begin-requires-2 : tie.Need-begin-requires-2
 begin-requires-2 c κs =
@@ -94,11 +93,11 @@ returns-2 c =
     let n = k .count .result in
     let second = readingParts (a .split + readingSplits (reading false (here k))) (reading true (here k)) in
     record {
-      sound = c .begin2 .ensures .1 .0;
+      sound = c .begin2 .ensures .sound;
       same =
-          ap (λ (ls : List rules.Line). getElem? ls (a .j - n)) (c .begin2 .ensures .0)
+          ap (λ (ls : List rules.Line). getElem? ls (a .j - n)) (c .begin2 .ensures .parts)
           ∙ ap (λ (m : ℕ). getElem? (readingParts (a .split + m) (reading true (here k))) (a .j - n)) (behind x)
-          ∙ ap (λ (m : ℕ). getElem? second (a .j - m)) (sym (many k))
+          ∙ ap (λ (m : ℕ). getElem? second (a .j - m)) (many k)
           ∙ part-second (a .split) (here k) (a .j) (twice x) (omega (arith, many k, x .before .before .before .if1 .left));
     }
 

@@ -8,14 +8,14 @@ use lib.ListN.{length, getD}
 use mir.Syntax.{w64}
 use mir.Val.{Fits}
 use Rattle.rules_types.specs.Limits.{allBooleans}
-use Rattle.theory_lists.specs.Tests.{of-true}
 use Rattle.rules.specs.Lines.{meet}
 use Rattle.masks.specs.Mask.{bits}
 use Rattle.problem_scan.specs.Values.{countOf, clauseEnd}
+use Rattle.problem_clauses.specs.declared.splits.Staying.{Staying}
 use Rattle.problem_clauses.specs.declared.splits.Staying.the-variants.{Dropped, Count}
 use Rattle.problem_clauses.specs.Walk.{count-within, clause-within}
 use Rattle.problem_parts.specs.declared.parts.Parts.{Parts}
-use Rattle.problem_parts.specs.Parts.{SoundParts, Started, begin-clash, begin-dropped, begin-kept, begin-sound, begin-splits}
+use Rattle.problem_parts.specs.Parts.{positiveOf, negativeOf, stayingOf, Started, Begun, Agreeing, begun}
 use Rattle.problem_parts.proofs.parts.begin.Statement.{statement}
 use Rattle.problem_parts.proofs.parts.begin.Tie as tie
 
@@ -83,28 +83,19 @@ started c m n =
       negative = l .ensures .1;
     }
 
--- those of a clause that is dropped
-dropped : (c : tie.After-shared-slice-known3) → let s = c .before .before .before .before .before in
-    SoundParts (s .args .input .now) (s .args .r) (first c false 0)
+-- so they are those of the reading
+all : (c : tie.After-shared-slice-known3) (m : Bool) (n : ℕ) → let s = c .before .before .before .before .before in
+    n < 256 → (t : Bool) (k : Staying) → meet (positiveOf (first c m n)) (negativeOf (first c m n)) ≡ t
+    → k ≡ stayingOf (s .args .input .now) (s .args .r) (first c m n) → Agreeing t k (first c m n)
+    → Begun (s .args .input .now) (s .args .r) (s .args .at) (s .args .split) (s .args .second) (first c m n)
 unfolding first
-dropped c =
+all c m n few =
     let s = c .before .before .before .before .before in
-    begin-sound (s .args .input .now) (s .args .r) (s .args .at) (first c false 0) (started c false 0) (s .pre .0)
-    (λ e. absurd (of-true false e)) (omega (arith, s .pre .1))
+    begun (s .args .input .now) (s .args .r) (s .args .at) (first c m n) (started c m n) (s .pre .0) (omega (arith, s .pre .1, few))
 
 returns : tie.Need-returns
 unfolding first
-returns c =
-    let k = c .before .before in
-    let s = k .before .before .before .before .before in (
-      begin-clash (s .args .input .now) (s .args .r) (s .args .at) (first k false 0) (started k false 0) refl
-          (sym (c .before .meets .ensures) ∙ c .if1 .taken),
-      (
-        dropped k,
-        begin-splits (s .args .input .now) (s .args .r) (s .args .at) (first k false 0) (started k false 0) true _
-            (sym (c .before .meets .ensures) ∙ c .if1 .taken) refl,
-      ),
-    )
+returns c = all (c .before .before) false 0 (omega arith) true _ (sym (c .before .meets .ensures) ∙ c .if1 .taken) refl (refl, refl)
 
 -- no variable has both signs
 apart : (c : tie.Else1) → let l = c .before .before .before .literals .result in
@@ -129,35 +120,17 @@ returns-2 : tie.Need-returns-2
 unfolding first
 returns-2 c =
     let a = c .before .before in
-    let k = a .before .before .before in
-    let s = k .before .before .before .before .before in (
-      begin-dropped (s .args .input .now) (s .args .r) (s .args .at) (first k false 0) (started k false 0) (apart (a .before)) refl
-          (sym (a .remaining .ensures) ∙ c .enum-told .given .1),
-      (
-        dropped k,
-        begin-splits (s .args .input .now) (s .args .r) (s .args .at) (first k false 0) (started k false 0) false
-            Dropped (apart (a .before))
-            (sym (c .enum-told .given .1) ∙ a .remaining .ensures),
-      ),
-    )
+    all (a .before .before .before) false 0 (omega arith) false Dropped (apart (a .before))
+    (sym (c .enum-told .given .1) ∙ a .remaining .ensures) (refl, refl)
 
 returns-3 : tie.Need-returns-3
 unfolding first
 returns-3 c =
     let n = c .before .k .given .0 .0 in
     let a = c .before .before .before in
-    let k = a .before .before .before in
-    let s = k .before .before .before .before .before in
-    let f : n < 256 = search (needs, c .known-told, c .before .k) in (
-      begin-kept (s .args .input .now) (s .args .r) (s .args .at) (first k true n) (started k true n) (apart (a .before)) refl,
-      (
-        begin-sound (s .args .input .now) (s .args .r) (s .args .at) (first k true n) (started k true n) (s .pre .0)
-            (λ e. sym (a .remaining .ensures) ∙ c .before .k .given .1) (omega (arith, s .pre .1, f)),
-        begin-splits (s .args .input .now) (s .args .r) (s .args .at) (first k true n) (started k true n) false
-            (Count n) (apart (a .before))
-            (sym (c .before .k .given .1) ∙ a .remaining .ensures),
-      ),
-    )
+    let f : n < 256 = search (needs, c .known-told, c .before .k) in
+    all (a .before .before .before) true n f false (Count n) (apart (a .before)) (sym (c .before .k .given .1) ∙ a .remaining .ensures)
+    (refl, refl)
 
 pub begin-spec : {M : Type 1} → statement M
 begin-spec =

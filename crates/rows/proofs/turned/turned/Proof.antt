@@ -2,7 +2,7 @@
 use mathlib.Core.Path.{_≡_, sym, ap, _∙_, subst}
 use mathlib.Core.Bool.{true}
 use mathlib.Core.List.{map}
-use Prim.Native.Nat.{_-_, _^_, _≤_}
+use Prim.Native.Nat.{_-_, _^_, _≤_, _<_}
 use native.Mathlib.Omega.{arith}
 use borrow.Author.Needs.{needs, sfits-of}
 use lib.IntN.{ℤ, pos, natAbs}
@@ -45,7 +45,7 @@ read-is c =
 signed-requires : tie.Need-signed-requires Inv-loop μ-loop
 signed-requires c κs =
     let h = c .before .before .before .pre .small (c .before .before .loop .i) in
-    subst (λ (z : ℤ). natAbs z ≤ 2 ^ 32) (sym (read-is c)) (omega (arith, h))
+    subst (λ (z : ℤ). natAbs z < 2 ^ 63) (sym (read-is c)) (omega (arith, h))
 
 mul-out : tie.Need-mul-out Inv-loop μ-loop
 mul-out c = search needs

@@ -4,7 +4,7 @@ use Rattle.rules.specs.Elimination.{limited}
 use Rattle.theory_saturation.specs.Order.{Ordered}
 use Rattle.theory_saturation.specs.Taken.{run-ordered}
 use Rattle.theory_splitting.specs.WellFormed.{WellFormed}
-use Rattle.theory_splitting.specs.Reading.{read-well-formed}
+use Rattle.theory_splitting.specs.WellRead.{read-well-formed}
 use Rattle.problem_read.specs.Parsed.{problemAt}
 use Rattle.solving.specs.Left.{few-steps, narrow, order-is, leaves-overflow, leaves-out, leaves-empty, leaves-saturated}
 use borrow.Author.Needs.{needs}
