@@ -38,10 +38,19 @@
  * as long as the buffers that one of them writes are its own. A pointer may be
  * NULL where its length is 0. Buffers of one call must not overlap.
  *
+ * A book has 1,024 lines of 64 bytes; a preview's has 256, and calls of its
+ * own: jemuling_preview_solve, jemuling_preview_check_book and
+ * jemuling_preview_hand_back, which differ from the others in that number
+ * alone. They read and write the first 16,384 bytes of a longer buffer, and
+ * keep the rest. A verdict of the preview, and JEMULING_WIDE, is also what
+ * jemuling_solve says of the question, with the same lines, pairs, sheet and
+ * lines of the book; only where the preview's book is full does that go on.
+ *
  * Beside what it is lent, a call takes stack and no other memory. Beyond its
  * caller's, in bytes as measured on x86-64, solving takes at most 1,536, the
- * check of a book 2,560, the check of a sheet 640, and handing back 64. Solving
- * is lent question, book and sheet alone, and holds no array over 1,024 bytes.
+ * check of a book 2,560, the check of a sheet 640, and handing back 64, for a
+ * preview too. Solving is lent question, book and sheet alone, and holds no
+ * array over 1,024 bytes.
  *
  * Link with libjemuling.a; it needs memset of the C library and nothing else.
  */
@@ -57,10 +66,11 @@ extern "C" {
 
 #define JEMULING_VERSION "1.0.0"
 
-/* In bytes: a question at most, a line of a book, a full-size book and sheet. */
+/* In bytes: a question at most, a line of a book, a full-size book, a preview's, a full-size sheet. */
 #define JEMULING_QUESTION_BYTES 32768
 #define JEMULING_LINE_BYTES 64
 #define JEMULING_BOOK_BYTES 65536
+#define JEMULING_PREVIEW_BYTES 16384
 #define JEMULING_SHEET_BYTES 64
 
 /*
@@ -85,13 +95,17 @@ enum {
     JEMULING_AMOUNT = 11,     /* an amount beyond 1,000,000,000 in size; its first byte */
     JEMULING_TAIL = 12,       /* bytes follow the last clause; the first of them */
     JEMULING_LINKS = 13,      /* the tidied clauses take more than 16 links; first byte of the clause passing it */
-    /* Solving: the course met a limit. The book's 65,536 bytes are 0, the sheet is as it was. */
+    /*
+     * Solving: the course met a limit. The book's 65,536 bytes, a preview's
+     * 16,384, are 0, the sheet is as it was.
+     */
     JEMULING_WIDE = 14,       /* an amount beyond 1,000,000,000 in size arose; lines held */
     JEMULING_FULL = 15,       /* a line too many for the book; lines held */
     /* A buffer is refused. */
-    JEMULING_BOOK = 1,        /* a book to write has under 65,536 bytes; 0 */
+    JEMULING_BOOK = 1,        /* a book to write has under 65,536 bytes, a preview's under 16,384; 0 */
     JEMULING_SHEET = 2,       /* a sheet has under 64 bytes; 0 */
-    JEMULING_CLAIM = 16,      /* a book to check has not 64 to 65,536 bytes by 64s; its length */
+    JEMULING_CLAIM = 16,      /* a book to check has not 64 to 65,536 bytes by 64s, a preview's not 64 to 16,384; its
+                                 length */
     JEMULING_SLIP = 17,       /* a sheet to check has another count of marks or figures than the question, a mark not
                                  0 or 1, a denominator outside 1 to 1,000,000,000, or a numerator beyond
                                  1,000,000,000 in size; first byte of the first such field */
@@ -150,6 +164,15 @@ jemuling_solved jemuling_solve(const uint8_t *question, size_t question_length,
                                uint8_t *sheet, size_t sheet_length);
 
 /*
+ * The same with a book of 256 lines, 16,384 bytes in place of 65,536: a
+ * preview. It says JEMULING_FULL where the course needs more lines than that,
+ * also while it loads the clauses, with no pairs then.
+ */
+jemuling_solved jemuling_preview_solve(const uint8_t *question, size_t question_length,
+                                       uint8_t *book, size_t book_length,
+                                       uint8_t *sheet, size_t sheet_length);
+
+/*
  * Checks that a book refutes a question: every line is a piece of a clause or
  * the result of two earlier lines, and the last is empty. Whoever wrote the
  * book, after JEMULING_ACCEPTED no marks and figures satisfy the question.
@@ -158,6 +181,10 @@ jemuling_solved jemuling_solve(const uint8_t *question, size_t question_length,
  */
 jemuling_told jemuling_check_book(const uint8_t *question, size_t question_length,
                                   const uint8_t *book, size_t book_length);
+
+/* The same of a book of at most 256 lines; JEMULING_CLAIM if it is longer. */
+jemuling_told jemuling_preview_check_book(const uint8_t *question, size_t question_length,
+                                          const uint8_t *book, size_t book_length);
 
 /*
  * Checks that the marks and figures on a sheet satisfy a question, each clause
@@ -177,6 +204,11 @@ jemuling_told jemuling_check_sheet(const uint8_t *question, size_t question_leng
 jemuling_told jemuling_hand_back(uint64_t number, size_t lines,
                                  const uint8_t *book, size_t book_length,
                                  const uint8_t *sheet, size_t sheet_length);
+
+/* The same with 16,384 bytes in place of 65,536, and 256 lines of 1,024. */
+jemuling_told jemuling_preview_hand_back(uint64_t number, size_t lines,
+                                         const uint8_t *book, size_t book_length,
+                                         const uint8_t *sheet, size_t sheet_length);
 
 #ifdef __cplusplus
 }

@@ -7,6 +7,8 @@ pub const QUESTION_BYTES: usize = 32_768;
 pub const LINE_BYTES: usize = 64;
 /// The bytes of a full-size book.
 pub const BOOK_BYTES: usize = 65_536;
+/// The bytes of a preview's book.
+pub const PREVIEW_BYTES: usize = 16_384;
 /// The bytes of a sheet.
 pub const SHEET_BYTES: usize = 64;
 
@@ -82,7 +84,21 @@ extern "C" {
         sheet: *mut u8,
         sheet_length: usize,
     ) -> SolvedTold;
+    fn jemuling_preview_solve(
+        question: *const u8,
+        question_length: usize,
+        book: *mut u8,
+        book_length: usize,
+        sheet: *mut u8,
+        sheet_length: usize,
+    ) -> SolvedTold;
     fn jemuling_check_book(
+        question: *const u8,
+        question_length: usize,
+        book: *const u8,
+        book_length: usize,
+    ) -> Told;
+    fn jemuling_preview_check_book(
         question: *const u8,
         question_length: usize,
         book: *const u8,
@@ -102,7 +118,21 @@ extern "C" {
         sheet: *const u8,
         sheet_length: usize,
     ) -> Told;
+    fn jemuling_preview_hand_back(
+        number: u64,
+        lines: usize,
+        book: *const u8,
+        book_length: usize,
+        sheet: *const u8,
+        sheet_length: usize,
+    ) -> Told;
 }
+
+/// A call for solving, one for the check of a book or of a sheet, and one for handing back, whichever
+/// its limit of lines.
+type Solving = unsafe extern "C" fn(*const u8, usize, *mut u8, usize, *mut u8, usize) -> SolvedTold;
+type Checking = unsafe extern "C" fn(*const u8, usize, *const u8, usize) -> Told;
+type HandingBack = unsafe extern "C" fn(u64, usize, *const u8, usize, *const u8, usize) -> Told;
 
 const AGREES: u64 = 64;
 const CANNOT: u64 = 65;
@@ -113,10 +143,53 @@ const OF_SHEET: u64 = 70;
 
 /// Solves a question. The buffers are lent for the call, and hold afterwards what the header says.
 pub fn solve(question: &[u8], book: &mut [u8], sheet: &mut [u8]) -> Solved {
+    solve_by(jemuling_solve, question, book, sheet)
+}
+
+/// Checks that a book refutes a question.
+pub fn check_book(question: &[u8], book: &[u8]) -> Checked {
+    check_by(jemuling_check_book, question, book)
+}
+
+/// Checks that the marks and figures on a sheet satisfy a question.
+pub fn check_sheet(question: &[u8], sheet: &[u8]) -> Checked {
+    check_by(jemuling_check_sheet, question, sheet)
+}
+
+/// The part of book or sheet that an answer gives: the sheet after "agrees", the used lines of the
+/// book after "cannot agree", and else, or with a book or sheet that is not of full size or over
+/// 1,024 lines, nothing: a part of the book without bytes.
+pub fn hand_back<'a>(answer: Answer, book: &'a [u8], sheet: &'a [u8]) -> Part<'a> {
+    hand_back_by(jemuling_hand_back, answer, book, sheet)
+}
+
+/// The calls with a preview's book: 256 lines, [`PREVIEW_BYTES`](crate::PREVIEW_BYTES). What they
+/// say, but for refusal 15, the others say too; a longer book keeps its bytes from there on.
+pub mod preview {
+    use super::{Answer, Checked, Part, Solved};
+
+    /// Solves a question, as [`solve`](crate::solve) does.
+    pub fn solve(question: &[u8], book: &mut [u8], sheet: &mut [u8]) -> Solved {
+        super::solve_by(super::jemuling_preview_solve, question, book, sheet)
+    }
+
+    /// Checks that a book of at most 256 lines refutes a question.
+    pub fn check_book(question: &[u8], book: &[u8]) -> Checked {
+        super::check_by(super::jemuling_preview_check_book, question, book)
+    }
+
+    /// The part of book or sheet that an answer gives, as [`hand_back`](crate::hand_back) has it, of a
+    /// preview's book; nothing over 256 lines.
+    pub fn hand_back<'a>(answer: Answer, book: &'a [u8], sheet: &'a [u8]) -> Part<'a> {
+        super::hand_back_by(super::jemuling_preview_hand_back, answer, book, sheet)
+    }
+}
+
+fn solve_by(call: Solving, question: &[u8], book: &mut [u8], sheet: &mut [u8]) -> Solved {
     // SAFETY: the call reads the question and reads and writes the buffers within their lengths,
     // and keeps no pointer; slices lent mutably do not overlap.
     let told = unsafe {
-        jemuling_solve(
+        call(
             question.as_ptr(),
             question.len(),
             book.as_mut_ptr(),
@@ -137,31 +210,24 @@ pub fn solve(question: &[u8], book: &mut [u8], sheet: &mut [u8]) -> Solved {
     }
 }
 
-/// Checks that a book refutes a question.
-pub fn check_book(question: &[u8], book: &[u8]) -> Checked {
+fn check_by(call: Checking, question: &[u8], evidence: &[u8]) -> Checked {
     // SAFETY: the call reads both slices within their lengths, and keeps no pointer.
     checked(unsafe {
-        jemuling_check_book(question.as_ptr(), question.len(), book.as_ptr(), book.len())
-    })
-}
-
-/// Checks that the marks and figures on a sheet satisfy a question.
-pub fn check_sheet(question: &[u8], sheet: &[u8]) -> Checked {
-    // SAFETY: as for `check_book`.
-    checked(unsafe {
-        jemuling_check_sheet(
+        call(
             question.as_ptr(),
             question.len(),
-            sheet.as_ptr(),
-            sheet.len(),
+            evidence.as_ptr(),
+            evidence.len(),
         )
     })
 }
 
-/// The part of book or sheet that an answer gives: the sheet after "agrees", the used lines of the
-/// book after "cannot agree", and else, or with a book or sheet that is not of full size or over
-/// 1,024 lines, nothing: a part of the book without bytes.
-pub fn hand_back<'a>(answer: Answer, book: &'a [u8], sheet: &'a [u8]) -> Part<'a> {
+fn hand_back_by<'a>(
+    call: HandingBack,
+    answer: Answer,
+    book: &'a [u8],
+    sheet: &'a [u8],
+) -> Part<'a> {
     let (number, lines) = match answer {
         Answer::Verdict(Verdict::Agrees, lines) => (AGREES, lines),
         Answer::Verdict(Verdict::Cannot, lines) => (CANNOT, lines),
@@ -169,9 +235,9 @@ pub fn hand_back<'a>(answer: Answer, book: &'a [u8], sheet: &'a [u8]) -> Part<'a
         // a refusal's number is below 64, whatever the caller put into it
         Answer::Refused(Refusal { number, place }) => (u64::from(number.min(63)), place),
     };
-    // SAFETY: as for `check_book`.
+    // SAFETY: as for `check_by`.
     let told = unsafe {
-        jemuling_hand_back(
+        call(
             number,
             lines,
             book.as_ptr(),

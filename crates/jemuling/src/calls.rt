@@ -1,18 +1,16 @@
 // The calls. None has a `requires`: nothing checks C's arguments but the code itself. Each is equal to document 01's definition, and
-// keeps what the demands promise of it (specs/Promised.antt).
-use crate::evidence::evidence;
+// keeps what the demands promise of it (specs/Promised.antt). One for each limit of lines, 1,024 and a preview's 256, where it matters.
+use crate::on_terms::check_book_on;
+use crate::on_terms::hand_back_on;
+use crate::on_terms::solve_on;
 use crate::told::SolvedTold;
 use crate::told::Told;
 use crate::told::checked_told;
-use crate::told::evidence_told;
-use crate::told::solved_told;
 use model_check::check::check_model;
-use proof_check::check::check_proof;
 use rules_types::limits::Limits;
 use rules_types::terms::Terms;
-use solving::solve::solve_within;
 ghost use mathlib.Core.Path.{_≡_};
-ghost use Rattle.rules_types.specs.Terms.{standard};
+ghost use Rattle.rules_types.specs.Terms.{standard, preview};
 ghost use Rattle.rules.specs.Calls.{solve, proofChecked, modelChecked, evidence};
 ghost use Rattle.jemuling.specs.Told.{solvedTold, checkedTold, evidenceTold};
 ghost use Rattle.jemuling.specs.Promised.{Delivered, BookChecked, SheetChecked, PartHanded};
@@ -26,7 +24,23 @@ pub extern "C" fn jemuling_solve(input: &[u8], proof: &mut [u8], model: &mut [u8
     ensures { λ t. ⌜ Delivered standard (now (input .entry)) (now (proof .entry)) (now (model .entry)) t
         (now (proof .exit)) (now (model .exit)) ⌝ }
 {
-    solved_told(solve_within(input, proof, model, Terms::standard()))
+    solve_on(input, proof, model, Terms::standard())
+}
+
+// The same with a preview's lines.
+#[no_mangle]
+pub extern "C" fn jemuling_preview_solve(
+    input: &[u8],
+    proof: &mut [u8],
+    model: &mut [u8],
+) -> SolvedTold
+    ensures { λ t. ⌜ t ≡ solvedTold (solve preview (now (input .entry)) (now (proof .entry)) (now (model .entry)) .solved) ⌝ }
+    ensures { λ _. ⌜ now (proof .exit) ≡ solve preview (now (input .entry)) (now (proof .entry)) (now (model .entry)) .proof ⌝ }
+    ensures { λ _. ⌜ now (model .exit) ≡ solve preview (now (input .entry)) (now (proof .entry)) (now (model .entry)) .model ⌝ }
+    ensures { λ t. ⌜ Delivered preview (now (input .entry)) (now (proof .entry)) (now (model .entry)) t
+        (now (proof .exit)) (now (model .exit)) ⌝ }
+{
+    solve_on(input, proof, model, Terms::preview())
 }
 
 // Whether a proof refutes a problem.
@@ -35,7 +49,16 @@ pub extern "C" fn jemuling_check_book(input: &[u8], proof: &[u8]) -> Told
     ensures { λ t. ⌜ t ≡ checkedTold (proofChecked standard (now (input .entry)) (now (proof .entry))) ⌝ }
     ensures { λ t. ⌜ BookChecked standard (now (input .entry)) (now (proof .entry)) t ⌝ }
 {
-    checked_told(check_proof(input, proof, Terms::standard()))
+    check_book_on(input, proof, Terms::standard())
+}
+
+// The same of a proof of a preview's lines.
+#[no_mangle]
+pub extern "C" fn jemuling_preview_check_book(input: &[u8], proof: &[u8]) -> Told
+    ensures { λ t. ⌜ t ≡ checkedTold (proofChecked preview (now (input .entry)) (now (proof .entry))) ⌝ }
+    ensures { λ t. ⌜ BookChecked preview (now (input .entry)) (now (proof .entry)) t ⌝ }
+{
+    check_book_on(input, proof, Terms::preview())
 }
 
 // Whether a model satisfies a problem.
@@ -53,5 +76,19 @@ pub extern "C" fn jemuling_hand_back(number: u64, lines: usize, proof: &[u8], mo
     ensures { λ t. ⌜ t ≡ evidenceTold (evidence (standard .limits) number lines (now (proof .entry)) (now (model .entry))) ⌝ }
     ensures { λ t. ⌜ PartHanded (standard .limits) number lines (now (proof .entry)) (now (model .entry)) t ⌝ }
 {
-    evidence_told(evidence(Limits::standard(), number, lines, proof, model))
+    hand_back_on(Limits::standard(), number, lines, proof, model)
+}
+
+// The same for a preview.
+#[no_mangle]
+pub extern "C" fn jemuling_preview_hand_back(
+    number: u64,
+    lines: usize,
+    proof: &[u8],
+    model: &[u8],
+) -> Told
+    ensures { λ t. ⌜ t ≡ evidenceTold (evidence (preview .limits) number lines (now (proof .entry)) (now (model .entry))) ⌝ }
+    ensures { λ t. ⌜ PartHanded (preview .limits) number lines (now (proof .entry)) (now (model .entry)) t ⌝ }
+{
+    hand_back_on(Limits::preview(), number, lines, proof, model)
 }

@@ -1,4 +1,5 @@
 // The library's calls, for C: byte slices and numbers in, numbers out. include/jemuling.h declares them.
 pub mod calls;
 pub mod evidence;
+pub mod on_terms;
 pub mod told;

@@ -49,13 +49,21 @@ amount = 1000000000
 abbrev pub steps : ℕ
 steps = 1024
 
+-- 02, (iii): "The preview page lends 16,384 bytes, 256 lines."
+abbrev pub previewSteps : ℕ
+previewSteps = 256
+
 -- as many as the two bytes of a parent can number
 abbrev pub mostSteps : ℕ
 mostSteps = 65536
 
--- the limits of a caller who lends the whole proof, and the bytes of a proof of so many steps
+-- the limits of a caller who lends the whole proof, and of one who lends a preview
 abbrev pub standard : Limits
 standard = record { steps = steps }
 
+abbrev pub preview : Limits
+preview = record { steps = previewSteps }
+
+-- the bytes of a proof of so many steps
 abbrev pub proofBytes : Limits → ℕ
 proofBytes l = l .steps * stepBytes

@@ -1,7 +1,7 @@
 // The limits of document 01, named once: the reader, the elimination and the checker cite them here.
 ghost use mathlib.Core.Path.{_≡_};
 ghost use Rattle.rules_types.specs.Limits.{problemBytes, stepBytes, modelBytes, booleans, rationals, clauses, literals};
-ghost use Rattle.rules_types.specs.Limits.{comparisons, splits, allBooleans, amount, steps, standard, proofBytes};
+ghost use Rattle.rules_types.specs.Limits.{comparisons, splits, allBooleans, amount, steps, previewSteps, standard, preview, proofBytes};
 
 // What may differ from caller to caller: the most steps that a proof holds.
 pub struct Limits {
@@ -29,10 +29,12 @@ impl Limits {
     pub const SPLITS: usize = 16;
     // Boolean variables of a line, the split variables among them.
     pub const ALL_BOOLEANS: usize = 32;
-    // The size of an amount, and the steps of a proof.
+    // The size of an amount; the steps of a proof, and of a preview's.
     pub const AMOUNT: u64 = 1000000000;
 
     pub const STEPS: u32 = 1024;
+
+    pub const PREVIEW_STEPS: u32 = 256;
 
     // The limits of a caller who lends the whole proof.
     pub fn standard() -> Limits
@@ -40,6 +42,15 @@ impl Limits {
     {
         Limits {
             steps: Limits::STEPS,
+        }
+    }
+
+    // The limits of a caller who lends a preview.
+    pub fn preview() -> Limits
+        ensures { λ r. ⌜ r ≡ preview ⌝ }
+    {
+        Limits {
+            steps: Limits::PREVIEW_STEPS,
         }
     }
 
@@ -60,6 +71,7 @@ impl Limits {
         ensures split { λ _. do ⌜ ((← ⟦Limits::COMPARISONS⟧ .entry) ≡ comparisons) × ((← ⟦Limits::SPLITS⟧ .entry) ≡ splits) ⌝ }
         ensures line { λ _. do ⌜ (← ⟦Limits::ALL_BOOLEANS⟧ .entry) ≡ allBooleans ⌝ }
         ensures elimination { λ _. do ⌜ ((← ⟦Limits::AMOUNT⟧ .entry) ≡ amount) × ((← ⟦Limits::STEPS⟧ .entry) ≡ steps) ⌝ }
+        ensures preview { λ _. do ⌜ (← ⟦Limits::PREVIEW_STEPS⟧ .entry) ≡ previewSteps ⌝ }
     {
         true
     }

@@ -1,7 +1,7 @@
 // The terms on which a problem is solved and a proof or a model checked, as one value.
 use crate::limits::Limits;
 ghost use mathlib.Core.Path.{_≡_};
-ghost use Rattle.rules_types.specs.Terms.{standard};
+ghost use Rattle.rules_types.specs.Terms.{standard, preview};
 
 // The number of lines, and the edition.
 pub struct Terms {
@@ -16,6 +16,16 @@ impl Terms {
     {
         Terms {
             limits: Limits::standard(),
+            edition: 1,
+        }
+    }
+
+    // Of a preview.
+    pub fn preview() -> Terms
+        ensures { λ r. ⌜ r ≡ preview ⌝ }
+    {
+        Terms {
+            limits: Limits::preview(),
             edition: 1,
         }
     }
