@@ -21,3 +21,4 @@ pub mod Demand3
 pub mod HandedBack
 pub mod Demand2
 pub mod Checks
+pub mod Preview

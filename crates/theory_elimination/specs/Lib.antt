@@ -30,3 +30,4 @@ pub mod Ends
 pub mod Sound
 pub mod Pairable
 pub mod OfProblem
+pub mod TwoLimits
