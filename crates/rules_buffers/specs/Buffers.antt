@@ -16,7 +16,7 @@ use Rattle.rules.specs.Calls.{solve, proofChecked, modelChecked, evidence}
 use Rattle.rules.specs.Write.{atMost, below, clauseOf, alone, problemOf}
 use Rattle.rules.specs.Compute.{definitions}
 
-abbrev zeros : ℕ → List ℕ
+abbrev pub zeros : ℕ → List ℕ
 zeros n = replicate n 0
 
 abbrev proofBytes : ℕ
@@ -26,11 +26,11 @@ proofBytes = limit.proofBytes limit.standard
 abbrev lentProof : List ℕ
 lentProof = replicate (proofBytes + 64) 171
 
-abbrev lentModel : List ℕ
+abbrev pub lentModel : List ℕ
 lentModel = replicate 66 205
 
 -- ---- "cannot agree": example 7
-abbrev seven : List ℕ
+abbrev pub seven : List ℕ
 seven =
     problemOf 0 2 (alone (atMost (pos 1 ∷ pos 1 ∷ []) (pos 10)) ∷ alone (atMost (negsuc 0 ∷ pos 0 ∷ []) (negsuc 6)) ∷ alone
     (atMost (pos 0 ∷ negsuc 0 ∷ []) (negsuc 3)) ∷ [])
@@ -45,7 +45,7 @@ unfolding definitions
 seven-bytes = refl
 
 -- its five lines: x + y ≤ 10, -x ≤ -7, -y ≤ -4, y ≤ 3, and the empty one
-abbrev sevenLines : List ℕ
+abbrev pub sevenLines : List ℕ
 sevenLines =
     (0 ∷ 0 ∷ 0 ∷ 0 ∷ 0 ∷ 0 ∷ 1 ∷ 0 ∷ []) ++ zeros 8 ++ (1 ∷ 0 ∷ 0 ∷ 0 ∷ 1 ∷ 0 ∷ 0 ∷ 0 ∷ []) ++ zeros 24 ++ (10 ∷ 0 ∷ 0 ∷ 0 ∷ []) ++ zeros 12
     ++ (0 ∷ 0 ∷ 1 ∷ 0 ∷ 0 ∷ 0 ∷ 1 ∷ 0 ∷ []) ++ zeros 8 ++ (255 ∷ 255 ∷ 255 ∷ 255 ∷ []) ++ zeros
@@ -108,7 +108,7 @@ half-handed-back = refl
 
 -- ---- refusals
 -- 14 zeroes the proof and leaves the model: example 10
-abbrev ten : List ℕ
+abbrev pub ten : List ℕ
 ten = problemOf 0 3
     (alone (atMost (pos 1000000000 ∷ pos 3 ∷ pos 0 ∷ []) (pos 0)) ∷ alone (atMost (negsuc 999999998 ∷ pos 0 ∷ pos 1 ∷ []) (pos 0)) ∷ [])
 

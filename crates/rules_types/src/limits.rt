@@ -1,7 +1,8 @@
 // The limits of document 01, named once: the reader, the elimination and the checker cite them here.
 ghost use mathlib.Core.Path.{_≡_};
 ghost use Rattle.rules_types.specs.Limits.{problemBytes, stepBytes, modelBytes, booleans, rationals, clauses, literals};
-ghost use Rattle.rules_types.specs.Limits.{comparisons, splits, allBooleans, amount, steps, previewSteps, standard, preview, proofBytes};
+ghost use Rattle.rules_types.specs.Limits.{comparisons, splits, allBooleans, amount, steps, previewSteps, standard, preview};
+ghost use Rattle.rules_types.specs.Limits.{proofBytes};
 
 // What may differ from caller to caller: the most steps that a proof holds.
 pub struct Limits {
