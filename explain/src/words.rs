@@ -1,24 +1,25 @@
 //! An answer in words.
 
+use crate::calls::Calls;
 use jemuling::{
-    check_book, check_sheet, hand_back, solve, Answer, Checked, Part, Refusal, Verdict, BOOK_BYTES,
-    LINE_BYTES, SHEET_BYTES,
+    check_sheet, Answer, Checked, Part, Refusal, Solved, Verdict, LINE_BYTES, SHEET_BYTES,
 };
 use notation::{
     decode, explain_book, explain_loading, explain_order, explain_sheet, show_clause, Failure,
     Names, Question,
 };
 
-/// Solves a question: its clauses, the answer, the order in which the figures were taken, what was
-/// not loaded, the sheet or the book line by line, and what the check says of it. A question at
-/// fault is refused before the names are asked for.
+/// Solves a question by these calls: its clauses, the answer, the order in which the figures were
+/// taken, what was not loaded, the sheet or the book line by line, and what the check says of it. A
+/// question at fault is refused before the names are asked for.
 pub fn explain(
+    calls: &Calls,
     bytes: &[u8],
     names: impl Fn(&Question) -> Result<Names, Failure>,
 ) -> Result<String, Failure> {
-    let (mut book, mut sheet) = (vec![0; BOOK_BYTES], vec![0; SHEET_BYTES]);
-    let solved = solve(bytes, &mut book, &mut sheet);
-    let said = answer(solved.answer, solved.pairs);
+    let (mut book, mut sheet) = (vec![0; calls.book_bytes], vec![0; SHEET_BYTES]);
+    let solved = (calls.solve)(bytes, &mut book, &mut sheet);
+    let said = answer(solved, calls.full);
     if matches!(solved.answer, Answer::Refused(refusal) if refusal.is_fault()) {
         return Err(Failure::Said(said));
     }
@@ -31,13 +32,14 @@ pub fn explain(
         }
         Answer::Refused(_) => String::new(),
     };
-    let shown = match (solved.answer, hand_back(solved.answer, &book, &sheet)) {
+    let handed_back = (calls.hand_back)(solved.answer, &book, &sheet);
+    let shown = match (solved.answer, handed_back) {
         (Answer::Verdict(Verdict::Agrees, _), Part::Sheet(sheet)) => {
             let checked = checked(check_sheet(bytes, sheet), "sheet", "clause");
             explain_sheet(&question, sheet, &names).map(|lines| lines + &checked)
         }
         (Answer::Verdict(Verdict::Cannot, _), Part::Book(book)) => {
-            let checked = checked(check_book(bytes, book), "book", "line");
+            let checked = checked((calls.check_book)(bytes, book), "book", "line");
             explain_book(&question, book, None, &names).map(|lines| lines + &checked)
         }
         _ => Ok(String::new()),
@@ -55,7 +57,7 @@ fn clauses(question: &Question, names: &Names) -> String {
         .collect()
 }
 
-fn answer(answer: Answer, pairs: u64) -> String {
+fn answer(Solved { answer, pairs }: Solved, full: &'static str) -> String {
     match answer {
         Answer::Verdict(verdict, lines) => {
             let verdict = match verdict {
@@ -69,7 +71,7 @@ fn answer(answer: Answer, pairs: u64) -> String {
             format!("{verdict} (lines of the book: {lines}, pairs tried: {pairs})")
         }
         Answer::Refused(Refusal { number, place }) => {
-            let why = reason(number);
+            let why = reason(number, full);
             match number {
                 14 | 15 => format!("refused, {number} at {place}: {why} (pairs tried: {pairs})"),
                 _ => format!("refused, {number} at {place}: {why}"),
@@ -78,7 +80,7 @@ fn answer(answer: Answer, pairs: u64) -> String {
     }
 }
 
-fn reason(number: u8) -> &'static str {
+fn reason(number: u8, full: &'static str) -> &'static str {
     match number {
         3 => "the question has over 32,768 bytes",
         4 => "the question ends before a field is complete",
@@ -92,7 +94,7 @@ fn reason(number: u8) -> &'static str {
         12 => "bytes follow the last clause",
         13 => "more than 16 links",
         14 => "an amount beyond 1,000,000,000 in size arose; that many lines were held",
-        15 => "a line too many for the book; that many lines were held",
+        15 => full,
         18 => "a second relation 3 (equal) in one clause",
         _ => "no refusal of solving with full-size buffers",
     }

@@ -10,9 +10,11 @@ pub struct Effort {
     pub enough: u64,
 }
 
-/// What both told, and the least processor time of a call of each, in nanoseconds.
+/// What both told, what today's preview did, and the least processor time of a call of both, in
+/// nanoseconds.
 pub struct Compared {
     pub told: [Told; 2],
+    pub preview: Option<Told>,
     pub times: [f64; 2],
 }
 
@@ -38,6 +40,7 @@ impl Compared {
 
 /// Both in turn, each as often the first, so that what slows the machine slows both.
 pub fn compare(libraries: &mut [Library; 2], question: &[u8], effort: &Effort) -> Compared {
+    let preview = libraries[1].preview(question);
     let start = processor_time();
     let told = [0, 1].map(|i: usize| libraries[i].solve(question));
     let two = (processor_time() - start).max(1);
@@ -56,5 +59,9 @@ pub fn compare(libraries: &mut [Library; 2], question: &[u8], effort: &Effort) -
             times[i] = times[i].min(taken as f64 / calls as f64);
         }
     }
-    Compared { told, times }
+    Compared {
+        told,
+        preview,
+        times,
+    }
 }

@@ -40,7 +40,7 @@ impl Told {
     }
 }
 
-/// `jemuling_solve` of include/jemuling.h.
+/// `jemuling_solve` of include/jemuling.h, or `jemuling_preview_solve`.
 type Solve = unsafe extern "C" fn(*const u8, usize, *mut u8, usize, *mut u8, usize) -> Told;
 
 #[link(name = "dl")]
@@ -53,9 +53,10 @@ extern "C" {
 /// All of it at once, its names for nobody else.
 const RTLD_NOW: c_int = 2;
 
-/// A library with buffers of its own.
+/// A library with buffers of its own; one of an earlier archive may have no preview.
 pub struct Library {
     solve: Solve,
+    preview: Option<Solve>,
     book: Vec<u8>,
     sheet: Vec<u8>,
 }
@@ -64,39 +65,55 @@ impl Library {
     /// Loads a library for good.
     pub fn load(file: &str) -> Result<Library, String> {
         let file = CString::new(file).map_err(|error| error.to_string())?;
-        let name = CString::new("jemuling_solve").map_err(|error| error.to_string())?;
-        // SAFETY: both strings end in 0, and an archive's library runs nothing when it is loaded.
+        // SAFETY: the string ends in 0, and an archive's library runs nothing when it is loaded.
         let library = unsafe { dlopen(file.as_ptr(), RTLD_NOW) };
         if library.is_null() {
             return Err(last_error());
         }
-        // SAFETY: the library was loaded and is never closed.
-        let found = unsafe { dlsym(library, name.as_ptr()) };
-        if found.is_null() {
-            return Err(last_error());
-        }
         Ok(Library {
-            // SAFETY: the name is that of the call which the header declares.
-            solve: unsafe { std::mem::transmute::<*mut c_void, Solve>(found) },
+            solve: find(library, "jemuling_solve")?,
+            preview: find(library, "jemuling_preview_solve").ok(),
             book: vec![0; 65_536],
             sheet: vec![0; 64],
         })
     }
 
     pub fn solve(&mut self, question: &[u8]) -> Told {
-        let (book, sheet) = (&mut self.book, &mut self.sheet);
-        // SAFETY: the call reads the question and reads and writes the buffers within their
-        // lengths, and keeps no pointer.
-        unsafe {
-            (self.solve)(
-                question.as_ptr(),
-                question.len(),
-                book.as_mut_ptr(),
-                book.len(),
-                sheet.as_mut_ptr(),
-                sheet.len(),
-            )
-        }
+        run(self.solve, question, &mut self.book, &mut self.sheet)
+    }
+
+    /// What the preview tells, if there is one.
+    pub fn preview(&mut self, question: &[u8]) -> Option<Told> {
+        let (book, sheet) = (&mut self.book[..16_384], &mut self.sheet);
+        self.preview
+            .map(|preview| run(preview, question, book, sheet))
+    }
+}
+
+/// A call for solving by its name, in a library that was loaded.
+fn find(library: *mut c_void, name: &str) -> Result<Solve, String> {
+    let name = CString::new(name).map_err(|error| error.to_string())?;
+    // SAFETY: the library is never closed, and the string ends in 0.
+    let found = unsafe { dlsym(library, name.as_ptr()) };
+    if found.is_null() {
+        return Err(last_error());
+    }
+    // SAFETY: the name is that of a call which the header declares so.
+    Ok(unsafe { std::mem::transmute::<*mut c_void, Solve>(found) })
+}
+
+fn run(call: Solve, question: &[u8], book: &mut [u8], sheet: &mut [u8]) -> Told {
+    // SAFETY: the call reads the question and reads and writes the buffers within their lengths,
+    // and keeps no pointer.
+    unsafe {
+        call(
+            question.as_ptr(),
+            question.len(),
+            book.as_mut_ptr(),
+            book.len(),
+            sheet.as_mut_ptr(),
+            sheet.len(),
+        )
     }
 }
 

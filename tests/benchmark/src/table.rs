@@ -1,24 +1,26 @@
 //! A table in Markdown: what the earlier archive and today's come to, as one value where it is the
-//! same and as `earlier → today` where it is not.
+//! same and as `earlier → today` where it is not; and what today's preview does.
 
 use crate::compare::Compared;
 use crate::library::Told;
 
 pub const HEAD: &str = "\
-| Questions | Answers | Lines | Pairs | Processor time |
-|---|---|---|---|---|";
+| Questions | Answers | By the preview | Lines | Pairs | Processor time |
+|---|---|---|---|---|---|";
 
 /// The row of one question.
 pub fn question(name: &str, compared: &Compared) -> String {
     let answers = both(compared.told.map(|told| told.word()));
+    let preview = compared.preview.map_or("none".into(), |told| told.word());
     let lines = both(compared.told.map(|told| whole(told.value as u64)));
     let pairs = both(compared.told.map(|told| whole(told.pairs)));
     let times = time(compared.times);
-    format!("| {name} | {answers} | {lines} | {pairs} | {times} |")
+    format!("| {name} | {answers} | {preview} | {lines} | {pairs} | {times} |")
 }
 
-/// The row of a family: how many are decided, wide and full; the means of those that both decide,
-/// since a refused course stops on its way; and the most lines of one that is decided.
+/// The row of a family: how many are decided, wide and full, and how many the preview decides; the
+/// means of those that both decide, since a refused course stops on its way; and the most lines of
+/// one that is decided.
 pub fn family(name: &str, family: &[Compared]) -> String {
     let decided: Vec<&Compared> = family.iter().filter(|one| one.both_decide()).collect();
     let mean = |of: fn(&Compared, usize) -> f64| {
@@ -33,7 +35,17 @@ pub fn family(name: &str, family: &[Compared]) -> String {
     }
     let most = both([0, 1].map(|i| whole(most_lines(family, i))));
     let (count, answers) = (whole(family.len() as u64), answers(family));
-    format!("| {count} {name} | {answers} | {lines}, most {most} | {pairs} | {times} |")
+    let preview = previewed(family);
+    format!("| {count} {name} | {answers} | {preview} | {lines}, most {most} | {pairs} | {times} |")
+}
+
+/// How many of a family the preview decides.
+fn previewed(family: &[Compared]) -> String {
+    let told: Option<Vec<Told>> = family.iter().map(|one| one.preview).collect();
+    told.map_or("none".into(), |told| {
+        let decided = told.iter().filter(|told| told.is_decided()).count();
+        format!("decided {}", whole(decided as u64))
+    })
 }
 
 /// The most lines of a question that this archive decides.
