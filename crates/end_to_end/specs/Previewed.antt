@@ -27,11 +27,12 @@ pub record Solves (terms : Terms) (input lentProof lentModel : List ℕ) (told :
   pub leavesProof : proof ≡ solve terms input lentProof lentModel .proof
   pub leavesModel : model ≡ solve terms input lentProof lentModel .model
 
--- "With full-size buffers, a preview verdict or 14 is also the large caller's, with the same lines": the same number, lines and pairs, the same
--- bytes in the shorter book, after a verdict the same sheet; and 15 comes exactly if the large caller's lines are more than the preview's
+-- "With full-size buffers, a preview verdict or 14 is also the large caller's, with the same lines": the same number, lines and pairs, the
+-- same bytes in the shorter book, after a verdict the same sheet; and 15 comes exactly if the large caller's lines are more than the
+-- preview's
 pub record Previewed (lesser : Limits) (told : SolvedTold) (proof model : List ℕ) (large : SolvedTold) (largeProof largeModel : List ℕ)
     : Type 0 where
-  pub full : (told .number ≡ refusalNumber OutOfSteps) ↔ (lesser .steps < large .value)
+  pub outOfSteps : (told .number ≡ refusalNumber OutOfSteps) ↔ (lesser .steps < large .value)
   pub solved : (told .number ≡ refusalNumber OutOfSteps → ⊥) → told ≡ large
   pub book : (told .number ≡ refusalNumber OutOfSteps → ⊥)
       → take (limit.proofBytes lesser) proof ≡ take (limit.proofBytes lesser) largeProof
@@ -44,7 +45,7 @@ unfolding solvedTold
 told-of lesser ours theirs h =
     let r = refusal-exactly OutOfSteps (ours .solved .answer) in
     record {
-      full = (λ k. h .full .0 (r .0 k), λ k. r .1 (h .full .1 k));
+      outOfSteps = (λ k. h .outOfSteps .0 (r .0 k), λ k. r .1 (h .outOfSteps .1 k));
       solved = λ k. ap solvedTold (h .solved (λ f. k (r .1 f)));
       book = λ k. h .proof (λ f. k (r .1 f));
       sheet = λ v k. h .model v (verdict-exactly v (ours .solved .answer) .0 k);

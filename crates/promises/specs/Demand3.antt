@@ -1,5 +1,6 @@
 -- Demand 3, sentence by sentence, about the definition of solving: for every problem Q read without fault, full-size buffers
--- whatever they hold, and every limit N of lines up to 65,536. Document 01's limit is 1,024, and N × N / 4 is then 262,144.
+-- whatever they hold, and every limit N of lines up to 65,536. Document 01's limit is 1,024, and N × N / 4 is then 262,144; a preview's is
+-- 256 (02, (iii)), and then it is 16,384.
 use mathlib.Core.Path.{_≡_, sym, subst}
 use mathlib.Core.Logic.{_↔_}
 use mathlib.Core.Bool.{not}
@@ -15,7 +16,7 @@ use Rattle.rules_types.specs.declared.answers.Verdict.the-variants.{Satisfiable
 use Rattle.rules_types.specs.declared.answers.Checked.the-variants.{Accepted}
 use Rattle.rules_types.specs.declared.terms.Terms.{Terms}
 use Rattle.rules_types.specs.Limits as limit
-use Rattle.rules_types.specs.Terms.{standard}
+use Rattle.rules_types.specs.Terms.{standard, preview}
 use Rattle.rules_types.specs.Answers.{answerValue}
 use Rattle.rules.specs.Problem.{Problem, inEdition}
 use Rattle.rules.specs.Lines.{Line}
@@ -91,7 +92,11 @@ demand3 terms few input q e proof model full =
       accepted = our-proof terms input q e few proof;
     })
 
--- with document 01's limit
+-- with document 01's limit, and with a preview's
 pub pairs-262144 : (input : List ℕ) (p : Problem) → read input ≡ sound p → (proof model : List ℕ) → FullSize limit.standard proof model
     → solve standard input proof model .solved .pairs ≤ 262144
 pairs-262144 input p e proof model full = demand3 standard (omega arith) input p e proof model full .atMost
+
+pub pairs-16384 : (input : List ℕ) (p : Problem) → read input ≡ sound p → (proof model : List ℕ) → FullSize limit.preview proof model
+    → solve preview input proof model .solved .pairs ≤ 16384
+pairs-16384 input p e proof model full = demand3 preview (omega arith) input p e proof model full .atMost

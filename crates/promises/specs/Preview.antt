@@ -1,5 +1,5 @@
--- 02, (iii): "With full-size buffers, a preview verdict or 14 is also the large caller's, with the same lines." For any two limits of lines,
--- one below the other; a preview's and document 01's are two.
+-- 02, (iii): "With full-size buffers, a preview verdict or 14 is also the large caller's, with the same lines." For any two limits of
+-- lines, one below the other; a preview's and document 01's are two.
 use mathlib.Core.Path.{_≡_, refl, sym, ap, _∙_, subst}
 use mathlib.Core.Logic.{_↔_, ⊎-elim, inl, inr}
 use mathlib.Core.List.{List, _++_, append-assoc}
@@ -23,7 +23,7 @@ use Rattle.rules.specs.Elimination.{State, running, ended, empty, overflow, out
 use Rattle.rules.specs.Needs.{stepsOf}
 use Rattle.rules.specs.Calls.{sound, Outcome, faulted, stopped, decided, read, concluded, said, proofAfter, modelAfter, Solving, solve}
 use Rattle.theory_elimination.specs.OfProblem.{elimination-held}
-use Rattle.theory_elimination.specs.TwoLimits.{Full, Alike, elimination-alike}
+use Rattle.theory_elimination.specs.TwoLimits.{IsOutOfSteps, Alike, elimination-alike}
 use Rattle.promises.specs.Words.{Comes, IsRefused, FullSize}
 use Rattle.promises.specs.Outcomes.{finished, walkModel, concluded-running, answerOf, finished-not-stopped}
 use Rattle.promises.specs.Reported.{left, solve-is, reported-lines}
@@ -32,7 +32,7 @@ use Rattle.promises.specs.Memory.{sizes-kept}
 -- `ours` with the lesser limit, `theirs` with the larger
 pub record AsLarger (lesser : Limits) (ours theirs : Solving) : Type 0 where
   -- "full" comes exactly if their lines are more than the lesser limit
-  pub full : IsRefused refusal.OutOfSteps (ours .solved .answer) ↔ (lesser .steps < answerValue (theirs .solved .answer))
+  pub outOfSteps : IsRefused refusal.OutOfSteps (ours .solved .answer) ↔ (lesser .steps < answerValue (theirs .solved .answer))
   -- "a preview verdict or 14", for: what is not "full"; it has their lines and pairs, and the lesser book's bytes are theirs
   pub solved : (IsRefused refusal.OutOfSteps (ours .solved .answer) → ⊥) → ours .solved ≡ theirs .solved
   pub proof : (IsRefused refusal.OutOfSteps (ours .solved .answer) → ⊥)
@@ -93,13 +93,13 @@ module _ (lesser larger : Limits) (less : lesser .steps < larger .steps) where
 
   module _ (p : Problem) where
     -- ---- "full" of the elimination, and of the answer
-    full-answer : (s : State) → Full s ↔ IsRefused refusal.OutOfSteps (answerOf (concluded p s))
+    out-of-steps : (s : State) → IsOutOfSteps s ↔ IsRefused refusal.OutOfSteps (answerOf (concluded p s))
     unfolding concluded said
-    full-answer (running steps n) =
+    out-of-steps (running steps n) =
         (λ h. absurd h, λ h. finished-not-stopped steps n (walkModel p steps) (inr (rw (concluded-running p steps n) at h)))
-    full-answer (ended empty steps n) = (λ h. absurd h, λ h. absurd h)
-    full-answer (ended overflow steps n) = (λ h. absurd h, λ h. absurd (let z : _≡_ {A = ℕ} 0 1 = cc in omega arith))
-    full-answer (ended outOfSteps steps n) = (λ h. refl, λ h. tt)
+    out-of-steps (ended empty steps n) = (λ h. absurd h, λ h. absurd h)
+    out-of-steps (ended overflow steps n) = (λ h. absurd h, λ h. absurd (let z : _≡_ {A = ℕ} 0 1 = cc in omega arith))
+    out-of-steps (ended outOfSteps steps n) = (λ h. refl, λ h. tt)
 
     finished-held : (steps : List Step) (n : ℕ) (o : Option (List ℕ)) → length steps ≤ lesser .steps → Held (finished steps n o)
     finished-held steps n none h = h
@@ -137,19 +137,19 @@ module _ (lesser larger : Limits) (less : lesser .steps < larger .steps) where
     by-ends alike few kept keptModel =
         ⊎-elim
         (λ same.
-        let never : IsRefused refusal.OutOfSteps (answerOf (concluded p ourEnd)) → ⊥ = λ k. same .1 (full-answer p ourEnd .1 k) in
+        let never : IsRefused refusal.OutOfSteps (answerOf (concluded p ourEnd)) → ⊥ = λ k. same .1 (out-of-steps p ourEnd .1 k) in
         subst (λ (s : State). AsLarger lesser (left lesser (concluded p ourEnd) proof model) (left larger (concluded p s) other otherModel))
         (same .0)
         (record {
-          full = (λ k. absurd (never k), λ k. absurd (omega (arith, reported-lines p ourEnd, k)));
+          outOfSteps = (λ k. absurd (never k), λ k. absurd (omega (arith, reported-lines p ourEnd, k)));
           solved = λ k. refl;
           proof = λ k. same-proof proof other (ourSize .proofSize) (concluded p ourEnd) (held p ourEnd few) kept;
           model = λ v k. same-model model otherModel (ourSize .modelSize) (concluded p ourEnd) v k keptModel;
         }))
-        (λ full.
-        let ours = full-answer p ourEnd .0 (full .0) in
+        (λ more.
+        let ours = out-of-steps p ourEnd .0 (more .0) in
         record {
-          full = (λ k. omega (arith, reported-lines p theirEnd, full .1), λ k. ours);
+          outOfSteps = (λ k. omega (arith, reported-lines p theirEnd, more .1), λ k. ours);
           solved = λ k. absurd (k ours);
           proof = λ k. absurd (k ours);
           model = λ v k. absurd (not-both (answerOf (concluded p ourEnd)) v refusal.OutOfSteps k ours);

@@ -89,7 +89,8 @@ said (stopped f steps pairs) = record { answer = answer.Refused f steps; pairs =
 said (decided v steps pairs bytes) = record { answer = answer.Decided v (length steps); pairs = pairs }
 
 -- what the proof holds then: 1 to 13 "alter no byte"; 14 and 15 "zero the book's 65,536 bytes and leave the sheet"; "The book's unused
--- lines are 0"; "Bytes beyond 65,536 and 64 keep their content."
+-- lines are 0"; "Bytes beyond 65,536 and 64 keep their content." 02, (iii): they "read their sizes from N", the limit of lines, and so do 1
+-- above, and 16 and handing back below
 unfoldable pub proofAfter : Limits → Outcome → List ℕ → List ℕ
 proofAfter limits (faulted f place) old = old
 proofAfter limits (stopped f steps pairs) old = replicate (limit.proofBytes limits) 0 ++ drop (limit.proofBytes limits) old

@@ -1,5 +1,5 @@
--- Whole calls of a preview: 02, (iii), "refusals 1, 15 and 16, handing back, the unused lines after a verdict, the bytes kept beyond the book
--- and the zeroing after 14 and 15 read their sizes from N, and the preview may be full while loading, with no pairs".
+-- Whole calls of a preview: 02, (iii), "refusals 1, 15 and 16, handing back, the unused lines after a verdict, the bytes kept beyond the
+-- book and the zeroing after 14 and 15 read their sizes from N, and the preview may be full while loading, with no pairs".
 use mathlib.Core.Path.{_≡_, refl}
 use mathlib.Core.List.{List, [], _∷_, _++_}
 use Prim.Native.Nat.{ℕ, _+_, _-_, _*_}

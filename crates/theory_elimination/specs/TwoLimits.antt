@@ -1,6 +1,6 @@
--- Two limits of lines, one below the other: an elimination comes to the same under both, or it is full under the lesser alone, and holds
--- more lines than that under the other. Both run alike up to the first line that is too many for the lesser; from there on one stands still
--- and the other's proof only grows.
+-- Two limits of lines, one below the other: an elimination comes to the same under both, or it is out of steps under the lesser alone, and
+-- holds more lines than that under the other. Both run alike up to the first line that is too many for the lesser; from there on one stands
+-- still, and the other's proof only grows.
 use mathlib.Core.Path.{_≡_, refl, sym, subst}
 use mathlib.Core.Bool.{Bool, true, false}
 use mathlib.Core.Logic.{_⊎_, inl, inr, ⊎-elim}
@@ -25,22 +25,22 @@ use Rattle.theory_elimination.specs.Prefix.{Prefix, prefix-longer, load-
 use Rattle.theory_elimination.specs.Chosen.{elimination-ordered}
 
 -- "full"
-abbrev pub Full : State → Type 0
-Full (running steps n) = ⊥
-Full (ended empty steps n) = ⊥
-Full (ended overflow steps n) = ⊥
-Full (ended outOfSteps steps n) = Unit {0}
+abbrev pub IsOutOfSteps : State → Type 0
+IsOutOfSteps (running steps n) = ⊥
+IsOutOfSteps (ended empty steps n) = ⊥
+IsOutOfSteps (ended overflow steps n) = ⊥
+IsOutOfSteps (ended outOfSteps steps n) = Unit {0}
 
 -- a stage keeps an end that is "full"
 still : (stage : State → State) → ((e : End) (steps : List Step) (n : ℕ) → stage (ended e steps n) ≡ ended e steps n)
-    → (state : State) → Full state → stage state ≡ state
+    → (state : State) → IsOutOfSteps state → stage state ≡ state
 still stage keeps (running steps n) f = absurd f
 still stage keeps (ended e steps n) f = keeps e steps n
 
 module _ (lesser larger : Limits) (less : lesser .steps < larger .steps) where
   -- what the lesser limit comes to, and the other
   abbrev pub Alike : State → State → Type 0
-  Alike a b = ((a ≡ b) × (Full a → ⊥)) ⊎ (Full a × (lesser .steps < length (stepsOf b)))
+  Alike a b = ((a ≡ b) × (IsOutOfSteps a → ⊥)) ⊎ (IsOutOfSteps a × (lesser .steps < length (stepsOf b)))
 
   -- ---- one line
   placed-alike : (w subsumed few many blank : Bool) (s : Step) (steps : List Step) (n : ℕ) → leb (lesser .steps) (length steps) ≡ few
@@ -72,13 +72,14 @@ module _ (lesser larger : Limits) (less : lesser .steps < larger .steps) where
 
   -- ---- the stages, from where both stand alike
   onward : (f g : State → State) → ((e : End) (steps : List Step) (n : ℕ) → f (ended e steps n) ≡ ended e steps n)
-      → ((state : State) → Prefix (stepsOf state) (g state)) → ((state : State) → (Full state → ⊥) → Alike (f state) (g state))
+      → ((state : State) → Prefix (stepsOf state) (g state)) → ((state : State) → (IsOutOfSteps state → ⊥) → Alike (f state) (g state))
       → (a b : State) → Alike a b → Alike (f a) (g b)
   onward f g keeps grows same a b =
       ⊎-elim (λ h. subst (λ (s : State). Alike (f a) (g s)) (h .0) (same a (h .1)))
-      (λ h. inr (subst Full (sym (still f keeps a (h .0))) (h .0), omega (arith, h .1, prefix-longer (grows b))))
+      (λ h. inr (subst IsOutOfSteps (sym (still f keeps a (h .0))) (h .0), omega (arith, h .1, prefix-longer (grows b))))
 
-  load-alike : (ss : List Step) (state : State) → (Full state → ⊥) → Alike (load (limited lesser) ss state) (load (limited larger) ss state)
+  load-alike : (ss : List Step) (state : State) → (IsOutOfSteps state → ⊥)
+      → Alike (load (limited lesser) ss state) (load (limited larger) ss state)
   unfolding load
   load-alike [] state h = inl (refl, h)
   load-alike (s ∷ ss) (ended e steps n) h = inl (refl, h)
@@ -86,7 +87,7 @@ module _ (lesser larger : Limits) (less : lesser .steps < larger .steps) where
       onward (load (limited lesser) ss) (load (limited larger) ss) (λ e steps n. load-ended (limited lesser) e steps n ss)
       (load-prefix (limited larger) ss) (λ state k. load-alike ss state k) _ _ (add-alike false s steps n)
 
-  try-alike : (v : Variable) (ps : List Pair) (state : State) → (Full state → ⊥)
+  try-alike : (v : Variable) (ps : List Pair) (state : State) → (IsOutOfSteps state → ⊥)
       → Alike (tryAll (limited lesser) v ps state) (tryAll (limited larger) v ps state)
   unfolding tryAll
   try-alike v [] state h = inl (refl, h)
@@ -96,7 +97,7 @@ module _ (lesser larger : Limits) (less : lesser .steps < larger .steps) where
       (try-prefix (limited larger) v ps) (λ state k. try-alike v ps state k) _ _
       (tried-alike v p (resolve v (p .upper .line) (p .lower .line)) steps (suc n))
 
-  rounds-alike : (variables : List Variable) (t : ℕ) (vs : List Variable) (state : State) → (Full state → ⊥)
+  rounds-alike : (variables : List Variable) (t : ℕ) (vs : List Variable) (state : State) → (IsOutOfSteps state → ⊥)
       → Alike (rounds (limited lesser) variables t vs state) (rounds (limited larger) variables t vs state)
   unfolding rounds
   rounds-alike variables t [] state h = inl (refl, h)

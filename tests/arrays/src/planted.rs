@@ -107,6 +107,8 @@ const REFUSED: &[(&str, At, &str, &str)] = &[
     // What solving is lent.
     ("a slice", Parameter("solving", "solve_within"), "list: &mut [u16], ", "solve_within is lent list: &mut [u16]"),
     ("a slice from C", Parameter("jemuling", "jemuling_solve"), "list: &mut [u8], ", "jemuling_solve is lent list: &mut [u8]"),
+    ("a slice for a preview", Parameter("jemuling", "jemuling_preview_solve"), "list: &mut [u8], ",
+        "jemuling_preview_solve is lent list: &mut [u8]"),
     ("another question", Parameter("solving", "solve_within"), "input: &mut [u8], ", "solve_within is lent input: &mut [u8]"),
     ("a slice in a struct", Items("solving"), "pub struct Planted<'a> { n: u8, list: &'a mut [u8] } pub fn planted(p: Planted) {}",
         "planted is lent p: Planted"),
@@ -116,7 +118,7 @@ const REFUSED: &[(&str, At, &str, &str)] = &[
         "an impl that is not read"),
     ("an impl of an alias", Items("solving"), "pub struct Planted<'a> { s: &'a [u8] } type Other = Planted<'static>; impl Other {}",
         "an impl that is not read"),
-    ("a slice from a program", Items("jemuling"), "pub fn planted(list: &[u8]) { solve_within() }", "planted is lent list: &[u8]"),
+    ("a slice from a program", Items("jemuling"), "pub fn planted(list: &[u8]) { solve_on() }", "planted is lent list: &[u8]"),
     ("a call of its own", Items("jemuling"),
         "pub extern \"C\" fn planted(list: &[u8]) { other() } fn other() { solving::solve::solve_within() }", "planted is lent list: &[u8]"),
     ("a call with an empty list of types", Items("jemuling"), "pub extern \"C\" fn planted(list: &[u8]) { list.go::<>() }",
