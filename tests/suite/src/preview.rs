@@ -54,11 +54,6 @@ pub fn held(answer: &Answer) -> Option<usize> {
     }
 }
 
-/// Whether an answer with 1,024 lines is one that fills the preview's book.
-pub fn overfull(answer: &Answer) -> bool {
-    held(answer) > Some(256)
-}
-
 /// What two limits say of the same question, with the same buffers before, and leave: the smaller is
 /// full exactly if the larger's course holds more lines; otherwise the answers are the same, and so
 /// are the sheets and the books, but for the bytes beyond the smaller's, which are kept.
@@ -69,6 +64,8 @@ pub fn check_limits(small: &Solved, large: &Solved, book: &[u8], sheet: &[u8]) -
         small.book[length..] == book[length..],
         "bytes beyond the smaller book altered",
     )?;
+    let tried = pairs(&small.answer);
+    demand(tried <= (most * most / 4) as u64, "too many pairs")?;
     if held(&large.answer) <= Some(most) {
         small.expect(&large.answer)?;
         demand(
@@ -77,17 +74,13 @@ pub fn check_limits(small: &Solved, large: &Solved, book: &[u8], sheet: &[u8]) -
         )?;
         return demand(small.sheet == large.sheet, "the sheets differ");
     }
-    let (pairs, of_large) = (pairs(&small.answer), pairs(&large.answer));
-    small.expect(&refused(15, most, pairs))?;
-    demand(
-        pairs <= of_large && pairs <= (most * most / 4) as u64,
-        "too many pairs",
-    )?;
+    small.expect(&refused(15, most, tried))?;
+    demand(tried <= pairs(&large.answer), "more pairs")?;
     demand(all(&small.book[..length], 0), "the full book not 0")?;
     demand(small.sheet == sheet, "the sheet altered")
 }
 
-fn pairs(answer: &Answer) -> u64 {
+pub fn pairs(answer: &Answer) -> u64 {
     match *answer {
         Answer::Verdict { pairs, .. } | Answer::Refused { pairs, .. } => pairs,
     }

@@ -2,7 +2,7 @@
 //! read is a failure.
 
 use crate::buffers::{book_length, ends_course, solve_filled, BOOK_LENGTH, PREVIEW_LENGTH};
-use crate::preview;
+use crate::preview::{full, held, pairs};
 use crate::report::{demand, equal, Outcome, Sums};
 use crate::solver::Solver;
 use reference::{Answer, Checked, Part, Verdict};
@@ -28,12 +28,12 @@ pub fn run(solver: Solver, sums: &mut Sums) {
         run_file(solver, "cheapest_books.txt", large_book_case, sums);
     } else {
         run_file(solver, "solve.txt", solve_case, sums);
-        run_file(solver, "buffers.txt", buffers_case, sums);
-        run_file(solver, "hand_back.txt", hand_back_case, sums);
-        run_file(solver, "check_sheet.txt", sheet_case, sums);
         run_file(solver, "check_book.txt", book_case, sums);
         run_file(solver, "base_books.txt", book_case, sums);
         run_file(solver, "cheapest_books.txt", book_case, sums);
+        run_file(solver, "check_sheet.txt", sheet_case, sums);
+        run_file(solver, "buffers.txt", buffers_case, sums);
+        run_file(solver, "hand_back.txt", hand_back_case, sums);
     }
 }
 
@@ -141,19 +141,19 @@ fn solve_case(solver: Solver, fields: &Fields) -> Outcome {
     equal("hash of the book", &stored.hash, &fnv1a(book))
 }
 
-/// The preview of a case with 1,024 lines: it is full if that has more than 256, and else the same,
-/// with a book to which the unused lines are missing.
+/// The preview of a case with 1,024 lines: it is full if that holds more than 256, after pairs that are
+/// not stored, and else the same, with a book that lacks the unused lines from there on.
 fn large_case(solver: Solver, fields: &Fields) -> Outcome {
     let stored = stored(fields)?;
     let solved = solve_filled(solver, &stored.question);
     solved.check_buffers()?;
-    if preview::overfull(&stored.answer) {
-        return demand(preview::is_full(&solved.answer), "not full");
+    if held(&stored.answer) > Some(256) {
+        return solved.expect(&full(pairs(&solved.answer)));
     }
     solved.expect(&stored.answer)?;
     equal("sheet after", &stored.sheet.as_slice(), &solved.sheet())?;
     let mut book = solved.book[..BOOK_LENGTH].to_vec();
-    if preview::held(&stored.answer).is_some() {
+    if held(&stored.answer).is_some() {
         book[book_length(solver.limit)..].fill(0);
     }
     equal("hash of the book", &stored.hash, &fnv1a(&book))
