@@ -3,6 +3,7 @@
 //! for the shortest questions; and what the program prints for some.
 
 use crate::buffers::{read_sheet, solve_filled, Solved, LINE_LENGTH};
+use crate::preview::full;
 use crate::report::{equal, Group, Outcome, Sums};
 use crate::solver::Solver;
 use questions::largest;
@@ -34,15 +35,15 @@ fn verdict(verdict: Verdict, lines: usize, pairs: u64) -> Answer {
     }
 }
 
-fn agrees(lines: usize, pairs: u64) -> Answer {
+pub fn agrees(lines: usize, pairs: u64) -> Answer {
     verdict(Verdict::Agrees, lines, pairs)
 }
 
-fn cannot(lines: usize, pairs: u64) -> Answer {
+pub fn cannot(lines: usize, pairs: u64) -> Answer {
     verdict(Verdict::Cannot, lines, pairs)
 }
 
-fn refused(number: u8, place: usize, pairs: u64) -> Answer {
+pub fn refused(number: u8, place: usize, pairs: u64) -> Answer {
     Answer::Refused {
         number,
         place,
@@ -63,7 +64,7 @@ fn example(name: &'static str, problem: Problem, answer: Answer) -> Example {
 impl Example {
     /// The preview is full, after so many pairs.
     fn full_in_preview(mut self, pairs: u64) -> Example {
-        self.preview = Some(refused(15, 256, pairs));
+        self.preview = Some(full(pairs));
         self
     }
 
@@ -170,12 +171,12 @@ fn examples_7_to_12() -> Vec<Example> {
 /// "the testers make a new pair at the limit": each figure gets its greatest lower, x before y. 104
 /// and 105 lines are loaded, and then each pair adds one, until the preview's 256 are held.
 fn at_the_limit() -> Vec<Example> {
-    let full = refused(15, 1_024, 920);
+    let too_many = refused(15, 1_024, 920);
     vec![
         example("at the limit", largest::limit(23), agrees(1_024, 38_640))
             .full_in_preview(153)
             .with(&[], &[(-960, 1), (39, 1)]),
-        example("at the limit, one upper more", largest::limit(24), full).full_in_preview(152),
+        example("at the limit, one upper more", largest::limit(24), too_many).full_in_preview(152),
     ]
 }
 

@@ -4,7 +4,7 @@
 
 use crate::buffers::{all, book_length, solve_filled, solve_in, solve_lent, Solved};
 use crate::buffers::{ends_course, BOOK_LENGTH, LINE_LENGTH, SHEET_LENGTH};
-use crate::examples;
+use crate::examples::{self, agrees, cannot, refused};
 use crate::report::{demand, equal, Group, Outcome, Sums};
 use crate::solver::{Solver, BOTH, PREVIEWS};
 use crate::solving::{question, LENGTHS};
@@ -83,30 +83,6 @@ pub fn check_limits(small: &Solved, large: &Solved, book: &[u8], sheet: &[u8]) -
 pub fn pairs(answer: &Answer) -> u64 {
     match *answer {
         Answer::Verdict { pairs, .. } | Answer::Refused { pairs, .. } => pairs,
-    }
-}
-
-fn refused(number: u8, place: usize, pairs: u64) -> Answer {
-    Answer::Refused {
-        number,
-        place,
-        pairs,
-    }
-}
-
-fn agrees(lines: usize, pairs: u64) -> Answer {
-    Answer::Verdict {
-        verdict: Verdict::Agrees,
-        lines,
-        pairs,
-    }
-}
-
-fn cannot(lines: usize, pairs: u64) -> Answer {
-    Answer::Verdict {
-        verdict: Verdict::Cannot,
-        lines,
-        pairs,
     }
 }
 
