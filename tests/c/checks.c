@@ -1,9 +1,13 @@
-/* Calls the library from C on document 01's examples and on = and at least: right books and sheets, wrong ones, and solving. */
+/*
+ * Calls the library from C on document 01's examples, on = and at least, and about a preview's sizes: right books and sheets, wrong ones,
+ * and solving; what has a limit of lines with either.
+ */
 #include <stdio.h>
 #include <string.h>
 
 #include "examples.h"
 #include "jemuling.h"
+#include "limits.h"
 
 static int passed, failed;
 
@@ -14,11 +18,15 @@ static void expect(const char *name, jemuling_told told, uint64_t number, size_t
         return;
     }
     failed++;
-    printf("FAILED %s: expected %llu %zu, got %llu %zu\n", name, (unsigned long long)number, value,
+    printf("FAILED %s%s: expected %llu %zu, got %llu %zu\n", name, with[limit].name, (unsigned long long)number, value,
            (unsigned long long)told.number, told.value);
 }
 
-#define BOOK(question, book) jemuling_check_book(question, sizeof question, book, sizeof book)
+/* Solving's number and value, and its pairs beside a count of something. */
+#define ANSWER(said) ((jemuling_told){ (said).number, (said).value })
+#define PAIRS(said, count) ((jemuling_told){ (said).pairs, (count) })
+
+#define BOOK(question, book) with[limit].check_book(question, sizeof question, book, sizeof book)
 #define SHEET(question, sheet) jemuling_check_sheet(question, sizeof question, sheet, sizeof sheet)
 
 static void right_ones(void)
@@ -47,13 +55,13 @@ static void wrong_ones(void)
     book[4 * JEMULING_LINE_BYTES + 4] = 3;
     expect("line 4's parents exchanged", BOOK(example_7_question, book), JEMULING_FAILS, 4);
     expect("the empty end missing",
-           jemuling_check_book(example_7_question, sizeof example_7_question, example_7_book, 4 * JEMULING_LINE_BYTES),
+           with[limit].check_book(example_7_question, sizeof example_7_question, example_7_book, 4 * JEMULING_LINE_BYTES),
            JEMULING_FAILS, 4);
     expect("the book of another question", BOOK(example_8_question, example_4_book), JEMULING_FAILS, 0);
-    expect("a book of 63 bytes", jemuling_check_book(example_8_question, sizeof example_8_question, example_8_book, 63),
+    expect("a book of 63 bytes", with[limit].check_book(example_8_question, sizeof example_8_question, example_8_book, 63),
            JEMULING_CLAIM, 63);
-    expect("no book", jemuling_check_book(example_8_question, sizeof example_8_question, NULL, 0), JEMULING_CLAIM, 0);
-    expect("no question", jemuling_check_book(NULL, 0, example_8_book, sizeof example_8_book), JEMULING_SHORT, 0);
+    expect("no book", with[limit].check_book(example_8_question, sizeof example_8_question, NULL, 0), JEMULING_CLAIM, 0);
+    expect("no question", with[limit].check_book(NULL, 0, example_8_book, sizeof example_8_book), JEMULING_SHORT, 0);
     expect("the sheet of another question", SHEET(example_5_question, example_3_sheet), JEMULING_FAILS, 0);
     expect("a sheet with other counts", SHEET(example_9_question, example_3_sheet), JEMULING_SLIP, 0);
     expect("a sheet of 63 bytes", jemuling_check_sheet(example_5_question, sizeof example_5_question, example_5_sheet, 63),
@@ -73,43 +81,57 @@ static void wrong_equal_ones(void)
     memcpy(book, at_least_book, sizeof book);
     book[JEMULING_LINE_BYTES + 4] = 0;
     expect("the second reading as piece 0", BOOK(at_least_question, book), JEMULING_FAILS, 1);
-    expect("two = before 16", jemuling_check_book(double_question, sizeof double_question, NULL, 0), JEMULING_DOUBLE, 15);
+    expect("two = before 16", with[limit].check_book(double_question, sizeof double_question, NULL, 0), JEMULING_DOUBLE, 15);
     expect("two = before 2", jemuling_check_sheet(double_question, sizeof double_question, NULL, 0), JEMULING_DOUBLE, 15);
     expect("two = before 17", SHEET(double_question, example_9_sheet), JEMULING_DOUBLE, 15);
 }
 
-static void handing_back(void)
+/* The call, lent a book of so many bytes. */
+static jemuling_told hands_back(uint64_t number, size_t lines, size_t bytes)
 {
     static unsigned char book[JEMULING_BOOK_BYTES], sheet[JEMULING_SHEET_BYTES];
-    expect("after agrees", jemuling_hand_back(JEMULING_AGREES, 4, book, sizeof book, sheet, sizeof sheet),
-           JEMULING_OF_SHEET, JEMULING_SHEET_BYTES);
-    expect("after cannot", jemuling_hand_back(JEMULING_CANNOT, 5, book, sizeof book, sheet, sizeof sheet),
-           JEMULING_OF_BOOK, 5 * JEMULING_LINE_BYTES);
-    expect("after unwritten", jemuling_hand_back(JEMULING_UNWRITTEN, 2, book, sizeof book, sheet, sizeof sheet),
-           JEMULING_OF_BOOK, 0);
-    expect("too many lines", jemuling_hand_back(JEMULING_CANNOT, 1025, book, sizeof book, sheet, sizeof sheet),
-           JEMULING_OF_BOOK, 0);
-    expect("a short book", jemuling_hand_back(JEMULING_CANNOT, 1, book, sizeof book - 1, sheet, sizeof sheet),
-           JEMULING_OF_BOOK, 0);
+    return with[limit].hand_back(number, lines, book, bytes, sheet, sizeof sheet);
 }
 
-/* Solves, and compares the part that is handed back with the second solver's. */
+static void handing_back(void)
+{
+    size_t lines = with[limit].lines, bytes = with[limit].bytes;
+    expect("after agrees", hands_back(JEMULING_AGREES, 4, bytes), JEMULING_OF_SHEET, JEMULING_SHEET_BYTES);
+    expect("after cannot", hands_back(JEMULING_CANNOT, 5, bytes), JEMULING_OF_BOOK, 5 * JEMULING_LINE_BYTES);
+    expect("after unwritten", hands_back(JEMULING_UNWRITTEN, 2, bytes), JEMULING_OF_BOOK, 0);
+    expect("all lines", hands_back(JEMULING_CANNOT, lines, bytes), JEMULING_OF_BOOK, bytes);
+    expect("too many lines", hands_back(JEMULING_CANNOT, lines + 1, JEMULING_BOOK_BYTES), JEMULING_OF_BOOK, 0);
+    expect("too many lines after agrees", hands_back(JEMULING_AGREES, lines + 1, bytes), JEMULING_OF_BOOK, 0);
+    expect("a short book", hands_back(JEMULING_CANNOT, 1, bytes - 1), JEMULING_OF_BOOK, 0);
+}
+
+/* How many of the bytes are not this one. */
+static size_t others(const unsigned char *bytes, size_t length, unsigned char byte)
+{
+    size_t count = 0;
+    for (size_t i = 0; i < length; i++)
+        count += bytes[i] != byte;
+    return count;
+}
+
+/* Solves, and compares the part that is handed back with the second solver's; the unused lines are 0, and bytes beyond are kept. */
 static void solves(const char *name, const unsigned char *question, size_t length, uint64_t number, size_t lines,
                    const unsigned char *part, size_t part_length)
 {
     static unsigned char book[JEMULING_BOOK_BYTES + 1], sheet[JEMULING_SHEET_BYTES + 1];
     memset(book, 0xab, sizeof book);
     memset(sheet, 0xcd, sizeof sheet);
-    jemuling_solved said = jemuling_solve(question, length, book, sizeof book, sheet, sizeof sheet);
-    expect(name, (jemuling_told){ said.number, said.value }, number, lines);
-    jemuling_told told = jemuling_hand_back(said.number, said.value, book, sizeof book, sheet, sizeof sheet);
+    jemuling_solved said = with[limit].solve(question, length, book, sizeof book, sheet, sizeof sheet);
+    expect(name, ANSWER(said), number, lines);
+    jemuling_told told = with[limit].hand_back(said.number, said.value, book, sizeof book, sheet, sizeof sheet);
     const unsigned char *from = told.number == JEMULING_OF_SHEET ? sheet : book;
-    if (told.value == part_length && memcmp(from, part, part_length) == 0 && book[JEMULING_BOOK_BYTES] == 0xab
-        && sheet[JEMULING_SHEET_BYTES] == 0xcd) {
+    size_t used = JEMULING_LINE_BYTES * lines, bytes = with[limit].bytes;
+    if (told.value == part_length && memcmp(from, part, part_length) == 0 && others(book + used, bytes - used, 0) == 0
+        && others(book + bytes, sizeof book - bytes, 0xab) == 0 && sheet[JEMULING_SHEET_BYTES] == 0xcd) {
         passed++;
     } else {
         failed++;
-        printf("FAILED %s: another part, or bytes beyond\n", name);
+        printf("FAILED %s%s: another part, an unused line or bytes beyond\n", name, with[limit].name);
     }
 }
 
@@ -128,36 +150,112 @@ static void solving(void)
     SOLVES("example 9", example_9_question, JEMULING_AGREES, 3, example_9_sheet);
     SOLVES("an =", equal_question, JEMULING_AGREES, 2, equal_sheet);
     SOLVES("an = and at least", at_least_question, JEMULING_CANNOT, 4, at_least_book);
-    jemuling_solved said = jemuling_solve(example_1_question, sizeof example_1_question, NULL, 0, NULL, 0);
-    expect("no book", (jemuling_told){ said.number, said.value }, JEMULING_BOOK, 0);
+    jemuling_solved said = with[limit].solve(example_1_question, sizeof example_1_question, NULL, 0, NULL, 0);
+    expect("no book", ANSWER(said), JEMULING_BOOK, 0);
 }
 
-/* Two = in a clause: no pairs, and no byte of the buffers altered. */
-static void refusing(void)
+/* A refusal of the question or of a buffer: no pairs, and no byte of the buffers altered. */
+static void refuses(const char *name, const unsigned char *question, size_t length, size_t book_length, size_t sheet_length,
+                    uint64_t number, size_t place)
 {
     static unsigned char book[JEMULING_BOOK_BYTES], sheet[JEMULING_SHEET_BYTES];
-    size_t altered = 0;
     memset(book, 0xab, sizeof book);
     memset(sheet, 0xcd, sizeof sheet);
-    jemuling_solved said = jemuling_solve(double_question, sizeof double_question, book, sizeof book, sheet, sizeof sheet);
-    expect("two =", (jemuling_told){ said.number, said.value }, JEMULING_DOUBLE, 15);
-    for (size_t i = 0; i < sizeof book; i++)
-        altered += book[i] != 0xab;
-    for (size_t i = 0; i < sizeof sheet; i++)
-        altered += sheet[i] != 0xcd;
-    expect("pairs and bytes after two =", (jemuling_told){ said.pairs, altered }, 0, 0);
-    expect("handing back after two =", jemuling_hand_back(said.number, said.value, book, sizeof book, sheet, sizeof sheet),
-           JEMULING_OF_BOOK, 0);
+    jemuling_solved said = with[limit].solve(question, length, book, book_length, sheet, sheet_length);
+    expect(name, ANSWER(said), number, place);
+    size_t altered = others(book, sizeof book, 0xab) + others(sheet, sizeof sheet, 0xcd);
+    expect("pairs and bytes after a refusal", PAIRS(said, altered), 0, 0);
+    expect("handing back after a refusal",
+           with[limit].hand_back(said.number, said.value, book, book_length, sheet, sheet_length), JEMULING_OF_BOOK, 0);
+}
+
+static void refusing(void)
+{
+    size_t length = sizeof double_question, bytes = with[limit].bytes;
+    refuses("two =", double_question, length, JEMULING_BOOK_BYTES, JEMULING_SHEET_BYTES, JEMULING_DOUBLE, 15);
+    refuses("two =, full-size buffers", double_question, length, bytes, JEMULING_SHEET_BYTES, JEMULING_DOUBLE, 15);
+    refuses("a short book and sheet", double_question, length, bytes - 1, JEMULING_SHEET_BYTES - 1, JEMULING_BOOK, 0);
+    refuses("a short sheet", double_question, length, bytes, JEMULING_SHEET_BYTES - 1, JEMULING_SHEET, 0);
+}
+
+/* x + k y = 0 for k from 1 to the count: two lines each. */
+static size_t equalities(unsigned char *question, int count)
+{
+    size_t length = 4;
+    memcpy(question, (unsigned char[]){ 0, 2, (unsigned char)count, 0 }, length);
+    for (int k = 1; k <= count; k++) {
+        unsigned char clause[15] = { 0, 1, 3, 1, [7] = (unsigned char)k };
+        memcpy(question + length, clause, sizeof clause);
+        length += sizeof clause;
+    }
+    return length;
+}
+
+/* Solves with so many bytes of a book: after 14 or 15 those of the limit are 0, and the rest and the sheet are kept. */
+static void stops(const char *name, const unsigned char *question, size_t length, size_t book_length, uint64_t number, size_t lines,
+                  uint64_t pairs)
+{
+    static unsigned char book[JEMULING_BOOK_BYTES + 1], sheet[JEMULING_SHEET_BYTES];
+    size_t bytes = with[limit].bytes;
+    memset(book, 0xab, sizeof book);
+    memset(sheet, 0xcd, sizeof sheet);
+    jemuling_solved said = with[limit].solve(question, length, book, book_length, sheet, sizeof sheet);
+    expect(name, ANSWER(said), number, lines);
+    size_t wrong = others(book, bytes, 0) + others(book + bytes, sizeof book - bytes, 0xab) + others(sheet, sizeof sheet, 0xcd);
+    expect("pairs and bytes after 14 or 15", PAIRS(said, wrong), pairs, 0);
+}
+
+/* 1,000,000,000x + 3y at most 0, -999,999,999x + z at most 0: document 01's example 10, wide at once. */
+static const unsigned char wide_question[] = {
+    0, 3, 2, 0,
+    0, 1, 1, 0x00, 0xca, 0x9a, 0x3b, 3, 0, 0, 0, 0, 0, 0, 0, 0, 0, 0, 0,
+    0, 1, 1, 0x01, 0x36, 0x65, 0xc4, 0, 0, 0, 0, 1, 0, 0, 0, 0, 0, 0, 0,
+};
+
+/* 128 equalities fill a preview's book by the second pair, 129 while they load; with 1,024 lines both agree. */
+static void stopping(void)
+{
+    static unsigned char question[4 + 129 * 15], book[JEMULING_BOOK_BYTES], sheet[JEMULING_SHEET_BYTES];
+    for (size_t beyond = 0; beyond < 2; beyond++)
+        stops("wide", wide_question, sizeof wide_question, with[limit].bytes + beyond, JEMULING_WIDE, 2, 1);
+    for (int count = 128; count <= 129; count++) {
+        size_t length = equalities(question, count);
+        if (limit == PREVIEW) {
+            stops("a preview's bytes", question, length, JEMULING_PREVIEW_BYTES, JEMULING_FULL, 256, count == 128 ? 2 : 0);
+            stops("more bytes", question, length, JEMULING_BOOK_BYTES + 1, JEMULING_FULL, 256, count == 128 ? 2 : 0);
+        } else {
+            jemuling_solved said = jemuling_solve(question, length, book, sizeof book, sheet, sizeof sheet);
+            expect("equalities", ANSWER(said), JEMULING_AGREES, count == 128 ? 258 : 260);
+            expect("pairs of equalities", PAIRS(said, 0), (uint64_t)(count * count + 1), 0);
+        }
+    }
+}
+
+/* Zeros are a right book of an empty clause at every length that a book may have. */
+static void long_books(void)
+{
+    static const unsigned char zeros[JEMULING_BOOK_BYTES + JEMULING_LINE_BYTES];
+    size_t lengths[] = { 64, 16320, 16384, 16385, 16448, 65536, 65600 };
+    for (size_t i = 0; i < sizeof lengths / sizeof *lengths; i++) {
+        size_t length = lengths[i];
+        int right = length % 64 == 0 && length <= with[limit].bytes;
+        expect("a book of zeros", with[limit].check_book(example_2_question, sizeof example_2_question, zeros, length),
+               right ? JEMULING_ACCEPTED : JEMULING_CLAIM, right ? 0 : length);
+    }
 }
 
 int main(void)
 {
-    right_ones();
-    wrong_ones();
-    wrong_equal_ones();
-    handing_back();
-    solving();
-    refusing();
+    for (limit = STANDARD; limit < LIMITS; limit++) {
+        right_ones();
+        wrong_ones();
+        wrong_equal_ones();
+        handing_back();
+        solving();
+        refusing();
+        stopping();
+        long_books();
+    }
     printf("%d passed, %d failed\n", passed, failed);
     return failed != 0;
 }

@@ -1,6 +1,7 @@
 /*
  * The stack that each call takes beyond its caller's, measured on the vectors: a call runs on a stack painted before, and the paint that is
- * gone afterwards is counted. Takes the files of the vectors: solve, check_book, check_sheet. README.md and the header say the most.
+ * gone afterwards is counted. Takes the files of the vectors: solve, check_book, check_sheet. README.md and the header say the most, for a
+ * preview's calls too.
  */
 #define _POSIX_C_SOURCE 200809L
 #include <pthread.h>
@@ -9,6 +10,7 @@
 #include <string.h>
 
 #include "jemuling.h"
+#include "limits.h"
 
 #define PAINTED (256 * 1024)
 #define ROW (1024 * 1024)
@@ -29,7 +31,7 @@ static unsigned char question[JEMULING_QUESTION_BYTES + 1], book[JEMULING_BOOK_B
 static size_t question_length, book_length;
 static jemuling_solved solved;
 static jemuling_told told;
-static size_t taken[CALLS], runs[CALLS];
+static size_t taken[LIMITS][CALLS], runs[LIMITS][CALLS];
 
 static __attribute__((noinline)) void nothing(void)
 {
@@ -44,16 +46,16 @@ static void *called(void *call)
         nothing();
         break;
     case SOLVING:
-        solved = jemuling_solve(question, question_length, book, sizeof book, sheet, sizeof sheet);
+        solved = with[limit].solve(question, question_length, book, with[limit].bytes, sheet, sizeof sheet);
         break;
     case BOOK:
-        told = jemuling_check_book(question, question_length, book, book_length);
+        told = with[limit].check_book(question, question_length, book, book_length);
         break;
     case SHEET:
         told = jemuling_check_sheet(question, question_length, sheet, sizeof sheet);
         break;
     case BACK:
-        told = jemuling_hand_back(solved.number, solved.value, book, sizeof book, sheet, sizeof sheet);
+        told = with[limit].hand_back(solved.number, solved.value, book, with[limit].bytes, sheet, sizeof sheet);
         break;
     }
     return NULL;
@@ -84,10 +86,10 @@ static void measure(int call)
     static const int paints[] = { 0xa5, 0x5a };
     for (size_t i = 0; i < 2; i++) {
         size_t bytes = 8 + left(NOTHING, stack, paints[i]) - left(call, stack, paints[i]);
-        if (bytes > taken[call])
-            taken[call] = bytes;
+        if (bytes > taken[limit][call])
+            taken[limit][call] = bytes;
     }
-    runs[call]++;
+    runs[limit][call]++;
 }
 
 /* Reads a field of hexadecimal digits up to a bar, and goes behind it. */
@@ -122,25 +124,40 @@ static void file(const char *name, int call)
         if (call != SOLVING)
             continue;
         measure(BACK);
-        book_length = told.number == JEMULING_OF_BOOK ? told.value : sizeof book;
+        book_length = told.number == JEMULING_OF_BOOK ? told.value : with[limit].bytes;
         measure(BOOK);
-        measure(SHEET);
+        if (limit == STANDARD)
+            measure(SHEET);
     }
     if (rows)
         fclose(rows);
 }
 
+/* What a call took, and whether it is no more than is said. */
+static int within(int call)
+{
+    size_t bytes = taken[limit][call], times = runs[limit][call];
+    printf("%s%s: %zu bytes of stack in %zu calls, %zu are said\n", said[call].name, with[limit].name, bytes, times, said[call].most);
+    return bytes > 0 && bytes <= said[call].most && times >= 100;
+}
+
 int main(int count, char **names)
 {
     int passed = 0, failed = 0;
-    for (int call = SOLVING; call <= SHEET && call < count; call++)
-        file(names[call], call);
-    for (int call = SOLVING; call < CALLS; call++) {
-        printf("%s: %zu bytes of stack in %zu calls, %zu are said\n", said[call].name, taken[call], runs[call], said[call].most);
-        if (taken[call] > 0 && taken[call] <= said[call].most && runs[call] >= 100)
-            passed++;
-        else
-            failed++;
+    for (limit = STANDARD; limit < LIMITS; limit++) {
+        for (int call = SOLVING; call < CALLS; call++) {
+            /* the check of a sheet has no limit of lines, and handing back no file */
+            if (call != BACK && call < count && (call != SHEET || limit == STANDARD))
+                file(names[call], call);
+        }
+        for (int call = SOLVING; call < CALLS; call++) {
+            if (call == SHEET && limit == PREVIEW)
+                continue;
+            if (within(call))
+                passed++;
+            else
+                failed++;
+        }
     }
     printf("%d passed, %d failed\n", passed, failed);
     return failed != 0;

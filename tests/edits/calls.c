@@ -1,13 +1,15 @@
 /*
- * Runs the four calls on the inputs of a file (see inputs.py) and prints a line for each: what the call said, and after solving what it
- * left in the lent buffers and what is handed back. With a second file, solving's books and sheets go there.
+ * Runs the calls on the inputs of a file (see inputs.py) and prints a line for each: what the call said, and after solving what it left in
+ * the lent buffers and what is handed back. With a second file, solving's books and sheets go there.
  */
+#include <ctype.h>
 #include <stdint.h>
 #include <stdio.h>
 #include <stdlib.h>
 #include <string.h>
 #include <unistd.h>
 
+#include "../c/limits.h"
 #include "jemuling.h"
 
 /* An input that takes longer than this many seconds does not end. */
@@ -38,10 +40,10 @@ static void solve(const struct input *in, FILE *left)
 {
     memset(book, 0xab, sizeof book);
     memset(sheet, 0xcd, sizeof sheet);
-    jemuling_solved s = jemuling_solve(question, in->question, book, in->book, sheet, in->sheet);
+    jemuling_solved s = with[limit].solve(question, in->question, book, in->book, sheet, in->sheet);
     printf("%llu %llu %llu %llx %llx", (unsigned long long)s.number, (unsigned long long)s.value, (unsigned long long)s.pairs,
            hash(book, sizeof book), hash(sheet, sizeof sheet));
-    told(jemuling_hand_back(s.number, s.value, book, in->book, sheet, in->sheet));
+    told(with[limit].hand_back(s.number, s.value, book, in->book, sheet, in->sheet));
     if (left) {
         uint64_t head[2] = { s.number, s.number < 64 ? 0 : s.value };
         fwrite(head, sizeof head, 1, left);
@@ -65,20 +67,21 @@ int main(int argc, char **argv)
     while (fread(&in, sizeof in, 1, inputs) == 1) {
         alarm(PATIENCE);
         take(question, sizeof question, in.question, inputs);
-        switch (in.call) {
+        limit = islower((int)in.call) ? PREVIEW : STANDARD;
+        switch (toupper((int)in.call)) {
         case 'S':
             solve(&in, left);
             break;
         case 'B':
             take(book, sizeof book, in.book, inputs);
-            told(jemuling_check_book(question, in.question, book, in.book));
+            told(with[limit].check_book(question, in.question, book, in.book));
             break;
         case 'M':
             take(sheet, sizeof sheet, in.sheet, inputs);
             told(jemuling_check_sheet(question, in.question, sheet, in.sheet));
             break;
         case 'H':
-            told(jemuling_hand_back(in.number, in.lines, book, in.book, sheet, in.sheet));
+            told(with[limit].hand_back(in.number, in.lines, book, in.book, sheet, in.sheet));
             break;
         default:
             return 2;

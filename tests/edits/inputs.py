@@ -3,12 +3,13 @@ Every run makes the same ones."""
 
 from struct import pack, unpack_from
 
-BOOK, SHEET, LINE = 65536, 64, 64
+BOOK, PREVIEW, SHEET, LINE = 65536, 16384, 64, 64
 MOST = 1_000_000_000
 
 
 class Input:
-    """One call with its arguments: S solves, B checks a book, M a sheet, H hands back; of buffers to write, the lengths alone."""
+    """One call with its arguments: S solves, B checks a book, M a sheet, H hands back; s, b and h are the preview's. Of buffers to write,
+    the lengths alone."""
 
     def __init__(self, name, call, question=b"", book=b"", sheet=b"", number=0, lines=0):
         self.name, self.call, self.question = name, call, bytes(question)
@@ -22,6 +23,11 @@ class Input:
 
 def solving(name, question, book=BOOK + 16, sheet=SHEET + 16):
     return Input(name, "S", question, book, sheet)
+
+
+def preview(given):
+    """The same by the preview's call."""
+    return Input(f"preview: {given.name}", given.call.lower(), given.question, given.book, given.sheet, given.number, given.lines)
 
 
 # ---- questions by their parts: a clause is its literals' codes and its constraints, a constraint its relation, coefficients and bound
@@ -53,25 +59,34 @@ def sheet(booleans, denominator, numerators):
 
 # ---- the vectors
 
-def vectors(folder):
-    def rows(name):
-        with open(f"{folder}/{name}", encoding="utf-8") as text:
-            return [row.rstrip("\n").split("|") for row in text if not row.startswith("#")]
+def rows(file):
+    with open(file, encoding="utf-8") as text:
+        return [row.rstrip("\n").split("|") for row in text if not row.startswith("#")]
 
-    for name, asked, *_ in rows("solve.txt"):
-        yield solving(name, bytes.fromhex(asked))
-    for name, asked, book, *_ in rows("check_book.txt"):
-        yield Input(f"book: {name}", "B", bytes.fromhex(asked), bytes.fromhex(book))
+
+def vectors(folder):
+    yield from questions_and_books(folder)
     for file in ("base_books.txt", "cheapest_books.txt"):
-        for name, asked, book, *_ in rows(file):
+        for name, asked, book, *_ in rows(f"{folder}/{file}"):
             yield Input(f"book of {file}: {name}", "B", bytes.fromhex(asked), bytes.fromhex(book))
-    for name, asked, given, *_ in rows("check_sheet.txt"):
+    for name, asked, given, *_ in rows(f"{folder}/check_sheet.txt"):
         yield Input(f"sheet: {name}", "M", bytes.fromhex(asked), b"", bytes.fromhex(given))
-    for start, zeros, book, given, *_ in rows("buffers.txt"):
+    yield from buffers_and_parts(folder)
+
+
+def questions_and_books(folder):
+    for name, asked, *_ in rows(f"{folder}/solve.txt"):
+        yield solving(name, bytes.fromhex(asked))
+    for name, asked, book, *_ in rows(f"{folder}/check_book.txt"):
+        yield Input(f"book: {name}", "B", bytes.fromhex(asked), bytes.fromhex(book))
+
+
+def buffers_and_parts(folder):
+    for start, zeros, book, given, *_ in rows(f"{folder}/buffers.txt"):
         asked = bytes.fromhex(start) + bytes(int(zeros))
         yield solving(f"{len(asked)} bytes, buffers of {book} and {given}", asked, int(book), int(given))
     numbers = {"agrees": 64, "cannot": 65, "unwritten": 66}
-    for word, second, third, *rest in rows("hand_back.txt"):
+    for word, second, third, *rest in rows(f"{folder}/hand_back.txt"):
         number, lines = (numbers[word], second) if word in numbers else (int(second), third)
         book, given = rest[-4:-2]
         name = f"handing back: {word} {lines}, buffers of {book} and {given}"
@@ -192,6 +207,27 @@ def stated():
         yield Input(f"book: piece {i} with the other link", "B", asked, line(0, 0, 0, i, 1, *other, row, bound))
     yield Input("book: clause 1 behind a clause with =", "B", asked, line(0, 0, 1, 0, 1, 0, 0, [0, -1], -2))
     yield Input("book: clause 2 behind a clause with =", "B", asked, line(0, 0, 2, 0, 1, 0, 0, [0, -1], -2))
+
+
+# ---- by the preview's calls
+
+def previews(folder):
+    """The vectors of the preview; and what reads the number of lines, about both numbers."""
+    for given in (*questions_and_books(f"{folder}/preview"), *buffers_and_parts(f"{folder}/preview")):
+        yield preview(given)
+    contradiction = question(0, 1, [alone(2, [1], 5), alone(1, [-1], -5)])
+    empty = question(0, 0, [([], [])])
+    for bound in (PREVIEW, BOOK):
+        for length in (bound - LINE, bound - 1, bound, bound + 1, bound + LINE):
+            for given in (SHEET - 1, SHEET):
+                yield preview(solving(f"x < 5; -x <= -5, buffers of {length} and {given}", contradiction, length, given))
+                for number, lines in ((64, 1), (65, 1), (66, 1)):
+                    name = f"handing back: {number} {lines}, buffers of {length} and {given}"
+                    yield preview(Input(name, "H", b"", length, given, number, lines))
+            yield preview(Input(f"book: {length} zeros", "B", empty, bytes(length)))
+        for lines in (bound // LINE - 1, bound // LINE, bound // LINE + 1):
+            for number in (64, 65, 66, 15):
+                yield preview(Input(f"handing back: {number} {lines}, a whole book", "H", b"", BOOK, SHEET, number, lines))
 
 
 # ---- at random

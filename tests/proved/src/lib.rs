@@ -2,10 +2,19 @@
 //! package, and the calls for tests alone, whose declarations repeat those of `crates/test_calls`.
 
 use jemuling::Refusal;
-use reference::{Answer, Checked, Part, Verdict};
+use reference::{Answer, Checked, Limit, Part, Verdict};
 
 pub fn solve(question: &[u8], book: &mut [u8], sheet: &mut [u8]) -> Answer {
-    let solved = jemuling::solve(question, book, sheet);
+    solve_within(Limit::STANDARD, question, book, sheet)
+}
+
+/// By the call with this limit of lines, if there is one.
+pub fn solve_within(limit: Limit, question: &[u8], book: &mut [u8], sheet: &mut [u8]) -> Answer {
+    let solved = match limit {
+        Limit::STANDARD => jemuling::solve(question, book, sheet),
+        Limit::PREVIEW => jemuling::preview::solve(question, book, sheet),
+        limit => no_call(limit),
+    };
     let pairs = solved.pairs;
     match solved.answer {
         jemuling::Answer::Verdict(verdict, lines) => Answer::Verdict {
@@ -26,7 +35,15 @@ pub fn solve(question: &[u8], book: &mut [u8], sheet: &mut [u8]) -> Answer {
 }
 
 pub fn check_book(question: &[u8], book: &[u8]) -> Checked {
-    checked(jemuling::check_book(question, book))
+    check_book_within(Limit::STANDARD, question, book)
+}
+
+pub fn check_book_within(limit: Limit, question: &[u8], book: &[u8]) -> Checked {
+    checked(match limit {
+        Limit::STANDARD => jemuling::check_book(question, book),
+        Limit::PREVIEW => jemuling::preview::check_book(question, book),
+        limit => no_call(limit),
+    })
 }
 
 pub fn check_sheet(question: &[u8], sheet: &[u8]) -> Checked {
@@ -42,6 +59,15 @@ fn checked(checked: jemuling::Checked) -> Checked {
 }
 
 pub fn hand_back<'a>(answer: &Answer, book: &'a [u8], sheet: &'a [u8]) -> Part<'a> {
+    hand_back_within(Limit::STANDARD, answer, book, sheet)
+}
+
+pub fn hand_back_within<'a>(
+    limit: Limit,
+    answer: &Answer,
+    book: &'a [u8],
+    sheet: &'a [u8],
+) -> Part<'a> {
     let answer = match *answer {
         Answer::Verdict { verdict, lines, .. } => jemuling::Answer::Verdict(
             match verdict {
@@ -55,10 +81,19 @@ pub fn hand_back<'a>(answer: &Answer, book: &'a [u8], sheet: &'a [u8]) -> Part<'
             jemuling::Answer::Refused(Refusal { number, place })
         }
     };
-    match jemuling::hand_back(answer, book, sheet) {
+    let part = match limit {
+        Limit::STANDARD => jemuling::hand_back(answer, book, sheet),
+        Limit::PREVIEW => jemuling::preview::hand_back(answer, book, sheet),
+        limit => no_call(limit),
+    };
+    match part {
         jemuling::Part::Book(part) => Part::Book(part),
         jemuling::Part::Sheet(part) => Part::Sheet(part),
     }
+}
+
+fn no_call(Limit(lines): Limit) -> ! {
+    panic!("no call has a limit of {lines} lines")
 }
 
 /// What reading a question comes to: 01's fault with its place, or the counts of a question that

@@ -71,13 +71,38 @@ pub fn loaded() -> Problem {
 /// lines, and 24 need a line more; in rising order 23 need one more already. No clause or result is
 /// weaker than an earlier one.
 pub fn limit(uppers: i32) -> Problem {
+    crossed(uppers, (-39..=0).rev(), (960..=1_000).rev())
+}
+
+/// x + y ≤ 100i for i from the count of uppers down to 1, -y ≤ each bound of y, -x ≤ each bound of x.
+/// With more bounds of x, y goes first; and with falling bounds, those of y over less than 100, every
+/// clause and every pair of y is a line.
+pub fn crossed(
+    uppers: i32,
+    of_y: impl Iterator<Item = i32>,
+    of_x: impl Iterator<Item = i32>,
+) -> Problem {
     let uppers = (1..=uppers).rev().map(|i| at_most(&[1, 1], 100 * i));
-    let of_y = (0..40).map(|j| at_most(&[0, -1], -j));
-    let of_x = (0..41).map(|k| at_most(&[-1], 1_000 - k));
+    let of_y = of_y.map(|bound| at_most(&[0, -1], bound));
+    let of_x = of_x.map(|bound| at_most(&[-1], bound));
     uppers
         .chain(of_y)
         .chain(of_x)
         .fold(Problem::new(0, 2), |problem, term| problem.clause([term]))
+}
+
+/// x + k·y ≤ 0 for k from 1 to the count: every clause is a line, and there are no pairs.
+pub fn uppers(count: i32) -> Problem {
+    (1..=count).fold(Problem::new(0, 2), |problem, k| {
+        problem.clause([at_most(&[1, k], 0)])
+    })
+}
+
+/// x + k·y = 0 for k from 1 to the count: every clause is two lines.
+pub fn equalities(count: i32) -> Problem {
+    (1..=count).fold(Problem::new(0, 2), |problem, k| {
+        problem.clause([equal(&[1, k], 0)])
+    })
 }
 
 fn clause(i: i32, literals: usize, kind: Kind) -> Vec<Term> {

@@ -2,7 +2,7 @@
 //! call says", from "The check tests question faults" on. A sheet is put to the clauses as written,
 //! with the four relations of 02's (i).
 
-use crate::elimination::{resolve, Origin, Step, Variable, PROOF_LENGTH, STEP_LENGTH};
+use crate::elimination::{resolve, Limit, Origin, Step, Variable, STEP_LENGTH};
 use crate::model::MODEL_LENGTH;
 use crate::normalize::{split, Body, ClausePart};
 use crate::problem::{
@@ -26,12 +26,17 @@ impl From<Fault> for Checked {
 
 /// Checks that every line of a book follows and that the last is empty.
 pub fn check_book(question: &[u8], book: &[u8]) -> Checked {
+    check_book_within(Limit::STANDARD, question, book)
+}
+
+/// The same of a book with another limit of lines.
+pub fn check_book_within(limit: Limit, question: &[u8], book: &[u8]) -> Checked {
     let problem = match read(question) {
         Ok(problem) => problem,
         Err(fault) => return fault.into(),
     };
     let length = book.len();
-    if !(STEP_LENGTH..=PROOF_LENGTH).contains(&length) || length % STEP_LENGTH != 0 {
+    if !(STEP_LENGTH..=limit.proof_length()).contains(&length) || length % STEP_LENGTH != 0 {
         return Checked::Refused {
             number: 16,
             place: length,

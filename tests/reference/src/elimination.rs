@@ -10,10 +10,23 @@ use crate::problem::{Literals, Problem, MAX_AMOUNT, MAX_RATIONALS};
 use crate::readings::Inequality;
 use std::collections::HashMap;
 
-pub const MAX_STEPS: usize = 1_024;
 pub const STEP_LENGTH: usize = 64;
-pub const PROOF_LENGTH: usize = MAX_STEPS * STEP_LENGTH;
 pub const ROUNDS: usize = 40;
+
+/// The most lines of a book: N of 02's (iii), "A short book for the board's preview". Parents take
+/// two bytes, so it is at most 65,536.
+#[derive(Clone, Copy, Debug, PartialEq, Eq)]
+pub struct Limit(pub usize);
+
+impl Limit {
+    pub const STANDARD: Limit = Limit(1_024);
+    pub const PREVIEW: Limit = Limit(256);
+
+    /// The bytes of a full-size book.
+    pub fn proof_length(self) -> usize {
+        self.0 * STEP_LENGTH
+    }
+}
 
 /// What a round removes: a figure, or a mark or link.
 #[derive(Clone, Copy, Debug, PartialEq, Eq)]
@@ -59,6 +72,7 @@ pub struct Elimination {
     pub pairs: u64,
     pub taken: Vec<Variable>,
     pub end: End,
+    limit: Limit,
     rules: Rules,
     /// The lines once more, by their coefficients, where a hash is asked for.
     rows: Option<HashMap<Row, Vec<Body>>>,
@@ -209,12 +223,13 @@ impl Rules {
 }
 
 /// Runs the course of a problem to its end.
-pub fn eliminate(problem: &Problem, rules: Rules, search: Search) -> Elimination {
+pub fn eliminate(problem: &Problem, limit: Limit, rules: Rules, search: Search) -> Elimination {
     let mut elimination = Elimination {
         steps: Vec::new(),
         pairs: 0,
         taken: Vec::new(),
         end: End::Saturated,
+        limit,
         rules,
         rows: match search {
             Search::Plain => None,
@@ -310,7 +325,7 @@ impl Elimination {
         if self.is_dropped(&body) {
             return Ok(());
         }
-        if self.steps.len() == MAX_STEPS {
+        if self.steps.len() == self.limit.0 {
             return Err(End::OutOfSteps);
         }
         self.steps.push(Step { origin, body });

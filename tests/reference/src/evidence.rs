@@ -1,7 +1,7 @@
 //! Handing back: the part of the lent buffers that proves a verdict. 01's "Handing back gives
 //! the caller".
 
-use crate::elimination::{MAX_STEPS, PROOF_LENGTH, STEP_LENGTH};
+use crate::elimination::{Limit, STEP_LENGTH};
 use crate::model::MODEL_LENGTH;
 use crate::{Answer, Verdict};
 
@@ -14,12 +14,22 @@ pub enum Part<'a> {
 
 /// The sheet after "agrees", the used lines after "cannot agree", else an empty part of the book.
 pub fn hand_back<'a>(answer: &Answer, book: &'a [u8], sheet: &'a [u8]) -> Part<'a> {
+    hand_back_within(Limit::STANDARD, answer, book, sheet)
+}
+
+/// The same of a book with another limit of lines.
+pub fn hand_back_within<'a>(
+    limit: Limit,
+    answer: &Answer,
+    book: &'a [u8],
+    sheet: &'a [u8],
+) -> Part<'a> {
     let nothing = Part::Book(&book[..0]);
-    if book.len() < PROOF_LENGTH || sheet.len() < MODEL_LENGTH {
+    if book.len() < limit.proof_length() || sheet.len() < MODEL_LENGTH {
         return nothing;
     }
     match *answer {
-        Answer::Verdict { lines, .. } if lines > MAX_STEPS => nothing,
+        Answer::Verdict { lines, .. } if lines > limit.0 => nothing,
         Answer::Verdict {
             verdict: Verdict::Agrees,
             ..

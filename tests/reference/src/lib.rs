@@ -1,6 +1,6 @@
-//! The second solver: document 01 with 02's requests (i), (vii) and (viii), written once more, in
-//! plain Rust and from their text alone, to judge the proved one from outside. Every call here takes
-//! any bytes and buffers of any length.
+//! The second solver: document 01 with 02's requests (i), (iii), (vii) and (viii), written once more,
+//! in plain Rust and from their text alone, to judge the proved one from outside. Every call here
+//! takes any bytes and buffers of any length; one that names no limit of lines takes 1,024.
 
 pub mod big;
 mod checker;
@@ -14,14 +14,14 @@ mod print;
 mod problem;
 mod readings;
 
-pub use checker::{check_book, check_sheet, Checked};
+pub use checker::{check_book, check_book_within, check_sheet, Checked};
 pub use covering::Dropping;
-pub use elimination::{Order, Rules, Search};
-pub use evidence::{hand_back, Part};
+pub use elimination::{Limit, Order, Rules, Search};
+pub use evidence::{hand_back, hand_back_within, Part};
 pub use print::print;
 pub use problem::{read, Fault, Problem};
 
-use elimination::{eliminate, Elimination, End, Step, Variable, PROOF_LENGTH, STEP_LENGTH};
+use elimination::{eliminate, Elimination, End, Step, Variable, STEP_LENGTH};
 use model::{model, MODEL_LENGTH};
 
 /// 01's verdicts: satisfiable, unsatisfiable, and satisfiable without a sheet.
@@ -49,25 +49,42 @@ pub enum Answer {
 
 /// Solves a question; book and sheet are left as 01's "What each call says" has them.
 pub fn solve(question: &[u8], book: &mut [u8], sheet: &mut [u8]) -> Answer {
-    run(Rules::TODAY, Search::Plain, question, book, sheet)
+    Run::TODAY.solve(question, book, sheet)
+}
+
+/// The same with another limit of lines: 02's (iii).
+pub fn solve_within(limit: Limit, question: &[u8], book: &mut [u8], sheet: &mut [u8]) -> Answer {
+    let run = Run {
+        limit,
+        ..Run::TODAY
+    };
+    run.solve(question, book, sheet)
 }
 
 /// The same, with a choice how the line that drops another is looked for.
 pub fn solve_by(search: Search, question: &[u8], book: &mut [u8], sheet: &mut [u8]) -> Answer {
-    run(Rules::TODAY, search, question, book, sheet)
+    let run = Run {
+        search,
+        ..Run::TODAY
+    };
+    run.solve(question, book, sheet)
 }
 
 /// The same, by other rules of the course: in rising order, as before 02's (vii), or with equal lines
 /// alone dropped, as before (viii), or both.
 pub fn solve_under(rules: Rules, question: &[u8], book: &mut [u8], sheet: &mut [u8]) -> Answer {
-    run(rules, Search::Plain, question, book, sheet)
+    let run = Run {
+        rules,
+        ..Run::TODAY
+    };
+    run.solve(question, book, sheet)
 }
 
 /// The figures that a question's course takes, in their order, up to its end; none of a question
 /// at fault.
 pub fn figures_taken(question: &[u8]) -> Option<Vec<usize>> {
     let problem = read(question).ok()?;
-    let course = eliminate(&problem, Rules::TODAY, Search::Plain);
+    let course = Run::TODAY.eliminate(&problem);
     let figure = |variable: &Variable| match *variable {
         Variable::Rational(figure) if figure < problem.rationals => Some(figure),
         _ => None,
@@ -75,28 +92,47 @@ pub fn figures_taken(question: &[u8]) -> Option<Vec<usize>> {
     Some(course.taken.iter().filter_map(figure).collect())
 }
 
-fn run(rules: Rules, search: Search, question: &[u8], book: &mut [u8], sheet: &mut [u8]) -> Answer {
-    let refused = |number, place| Answer::Refused {
-        number,
-        place,
-        pairs: 0,
+/// How a question is solved: the limit of lines, the rules of the course, and how a line is looked
+/// for.
+#[derive(Clone, Copy)]
+struct Run {
+    limit: Limit,
+    rules: Rules,
+    search: Search,
+}
+
+impl Run {
+    const TODAY: Run = Run {
+        limit: Limit::STANDARD,
+        rules: Rules::TODAY,
+        search: Search::Plain,
     };
-    if book.len() < PROOF_LENGTH {
-        return refused(1, 0);
+
+    fn eliminate(self, problem: &Problem) -> Elimination {
+        eliminate(problem, self.limit, self.rules, self.search)
     }
-    if sheet.len() < MODEL_LENGTH {
-        return refused(2, 0);
-    }
-    match read(question) {
-        Ok(problem) => {
-            let course = eliminate(&problem, rules, search);
-            answer(&problem, &course, book, sheet)
+
+    fn solve(self, question: &[u8], book: &mut [u8], sheet: &mut [u8]) -> Answer {
+        let refused = |number, place| Answer::Refused {
+            number,
+            place,
+            pairs: 0,
+        };
+        let book = match book.get_mut(..self.limit.proof_length()) {
+            Some(book) => book,
+            None => return refused(1, 0),
+        };
+        if sheet.len() < MODEL_LENGTH {
+            return refused(2, 0);
         }
-        Err(Fault { number, place }) => refused(number, place),
+        match read(question) {
+            Ok(problem) => answer(&problem, &self.eliminate(&problem), book, sheet),
+            Err(Fault { number, place }) => refused(number, place),
+        }
     }
 }
 
-/// The answer after the course, written into full-size buffers.
+/// The answer after the course, written into a book of the limit's bytes and a full-size sheet.
 fn answer(problem: &Problem, course: &Elimination, book: &mut [u8], sheet: &mut [u8]) -> Answer {
     let found = match course.end {
         End::Saturated => model(problem, course),
@@ -130,7 +166,7 @@ fn refuse(number: u8, course: &Elimination, book: &mut [u8]) -> Answer {
 
 /// Writes the used lines and zeroes the unused ones.
 fn write_proof(steps: &[Step], book: &mut [u8]) {
-    let (used, unused) = book[..PROOF_LENGTH].split_at_mut(steps.len() * STEP_LENGTH);
+    let (used, unused) = book.split_at_mut(steps.len() * STEP_LENGTH);
     for (line, step) in used.chunks_exact_mut(STEP_LENGTH).zip(steps) {
         line.copy_from_slice(&step.encode());
     }

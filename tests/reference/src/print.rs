@@ -1,14 +1,14 @@
 //! What the program prints for a question: 01's "The program solves standard input", below the
 //! examples.
 
-use crate::elimination::{PROOF_LENGTH, STEP_LENGTH};
+use crate::elimination::{Limit, STEP_LENGTH};
 use crate::model::MODEL_LENGTH;
 use crate::{hand_back, solve, Answer, Part, Verdict};
 use std::fmt::Write;
 
 /// The whole output, every line ended.
 pub fn print(question: &[u8]) -> String {
-    let mut book = vec![0; PROOF_LENGTH];
+    let mut book = vec![0; Limit::STANDARD.proof_length()];
     let mut sheet = [0; MODEL_LENGTH];
     let answer = solve(question, &mut book, &mut sheet);
     let mut output = headline(&answer);

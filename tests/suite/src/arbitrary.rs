@@ -1,12 +1,12 @@
-//! Arbitrary bytes and buffers of arbitrary length and content: no call panics, both solvers answer
-//! alike and leave the same bytes, all calls name the same first fault of a question, and a fault
-//! leaves every lent byte as it was.
+//! Arbitrary bytes and buffers of arbitrary length and content: no call panics, with either limit of
+//! lines both solvers answer alike and leave the same bytes, all calls name the same first fault of a
+//! question, and a fault leaves every lent byte as it was.
 
-use crate::buffers::{BOOK_LENGTH, SHEET_LENGTH};
+use crate::buffers::{book_length, SHEET_LENGTH};
 use crate::report::{demand, equal, Group, Outcome, Sums};
-use crate::solver::{Solver, BOTH};
+use crate::solver::{Solver, BOTH, PREVIEWS};
 use questions::random::Random;
-use reference::{print, read, Answer, Checked, Fault, Part};
+use reference::{print, read, Answer, Checked, Fault, Limit, Part};
 
 const CASES: usize = 5_000;
 const SEED: u64 = 4;
@@ -20,26 +20,33 @@ type Tally = [usize; 5];
 pub fn run(sums: &mut Sums) {
     let mut group = Group::new("arbitrary bytes");
     let mut random = Random::new(SEED);
-    let mut tally = Tally::default();
+    let mut tallies = [Tally::default(); 2];
     for number in 0..CASES {
         let question = question(&mut random);
         let (book, sheet) = lengths(&mut random);
         let book = bytes(&mut random, book);
         let sheet = bytes(&mut random, sheet);
         let name = format!("number {number}");
-        group.case(&name, || check_calls(&question, &book, &sheet, &mut tally));
+        group.case(&name, || {
+            let limits = [BOTH, PREVIEWS].into_iter().zip(&mut tallies);
+            for (solvers, tally) in limits {
+                check_calls(solvers, &question, &book, &sheet, tally)?;
+            }
+            Ok(())
+        });
     }
     group.case("each answer comes often", || {
-        let often = tally.iter().all(|&count| count >= OFTEN);
-        demand(often, &format!("answers came {tally:?} times"))
+        let often = tallies.iter().flatten().all(|&count| count >= OFTEN);
+        demand(often, &format!("answers came {tallies:?} times"))
     });
     group.finish(sums);
 }
 
-/// Lengths of a book and a sheet, mostly about the shortest that solving takes.
+/// Lengths of a book and a sheet, mostly about the shortest that solving takes, or its preview.
 fn lengths(random: &mut Random) -> (i64, i64) {
-    match random.between(0, 3) {
+    match random.between(0, 4) {
         0 => (random.between(0, 70_000), random.between(0, 70)),
+        1 => (random.between(16_381, 16_393), random.between(62, 72)),
         _ => (random.between(65_533, 65_545), random.between(62, 72)),
     }
 }
@@ -76,8 +83,15 @@ struct Said {
     checked: [Checked; 2],
 }
 
-fn check_calls(question: &[u8], book: &[u8], sheet: &[u8], tally: &mut Tally) -> Outcome {
-    let fault = first_fault(question, book, sheet);
+/// Both solvers have the same limit of lines.
+fn check_calls(
+    solvers: [Solver; 2],
+    question: &[u8],
+    book: &[u8],
+    sheet: &[u8],
+    tally: &mut Tally,
+) -> Outcome {
+    let fault = first_fault(solvers[0].limit, question, book, sheet);
     tally[match fault.map(|fault| fault.number) {
         Some(1) => 0,
         Some(2) => 1,
@@ -85,7 +99,7 @@ fn check_calls(question: &[u8], book: &[u8], sheet: &[u8], tally: &mut Tally) ->
         Some(_) => 3,
         None => 4,
     }] += 1;
-    let [second, proved] = BOTH.map(|solver| said(solver, question, book, sheet, fault));
+    let [second, proved] = solvers.map(|solver| said(solver, question, book, sheet, fault));
     demand(second? == proved?, "the solvers differ")?;
     if let Err(Fault { number, place }) = read(question) {
         let printed = format!("refused {number} {place} 0\n");
@@ -133,9 +147,9 @@ fn said(
 }
 
 /// The fault that solving must name: of the buffers first, then of the question.
-fn first_fault(question: &[u8], book: &[u8], sheet: &[u8]) -> Option<Fault> {
+fn first_fault(limit: Limit, question: &[u8], book: &[u8], sheet: &[u8]) -> Option<Fault> {
     let place = 0;
-    if book.len() < BOOK_LENGTH {
+    if book.len() < book_length(limit) {
         return Some(Fault { number: 1, place });
     }
     if sheet.len() < SHEET_LENGTH {

@@ -1,11 +1,13 @@
 //! Batches and diamonds: the proved code and the second solver give the same answer and leave the
 //! same bytes, a sheet satisfies its batch by the suite's own arithmetic, and the proved checks
-//! accept what a verdict hands back. None of these batches is refused, as README says.
+//! accept what a verdict hands back. None of these batches is refused, as README says, and of the
+//! natural and loose ones none by the preview.
 
 use crate::buffers::{read_sheet, solve_filled, Solved, BOOK_LENGTH, SHEET_LENGTH};
+use crate::preview::is_full;
 use crate::report::{demand, equal, Group, Outcome, Sums};
 use crate::solver::Solver;
-use crate::solving::check_part;
+use crate::solving::compare_limits;
 use questions::batches::{loose, natural, richer};
 use questions::diamonds::{diamonds, Ways};
 use questions::problem::{Assignment, Problem, Term};
@@ -42,10 +44,12 @@ const FAMILIES: [Family; 8] = [
     ("natural, 3 x 2", |random| natural(random, 3, 2), [0, 0]),
     ("natural, 2 x 4", |random| natural(random, 2, 4), [10, 0]),
     ("natural, 4 x 2", |random| natural(random, 4, 2), [10, 0]),
-    ("richer", richer, [10, 3]),
+    (RICHER, richer, [10, 3]),
     ("loose, 2 x 4", |random| loose(random, 2, 4), [3, 0]),
     ("loose, 4 x 2", |random| loose(random, 4, 2), [3, 0]),
 ];
+/// Of this family alone some fill the preview's book, and not all.
+const RICHER: &str = "richer";
 
 pub fn run(sums: &mut Sums) {
     for family in FAMILIES {
@@ -57,12 +61,13 @@ pub fn run(sums: &mut Sums) {
 fn run_family((name, draw, fewest): Family, sums: &mut Sums) {
     let mut group = Group::new(format!("batches: {name}"));
     let mut random = Random::new(SEED);
-    let (mut verdicts, mut refused, mut stated) = ([0; 2], [0; 2], 0);
+    let (mut verdicts, mut refused, mut stated, mut full) = ([0; 2], [0; 2], 0, 0);
     for number in 0..CASES {
         let problem = draw(&mut random);
         group.case(&format!("number {number}"), || {
-            let agrees = decide(&problem)?;
+            let (agrees, fills) = decide(&problem)?;
             verdicts[usize::from(agrees)] += 1;
+            full += usize::from(fills);
             let earlier = EARLIER.into_iter().zip(&mut refused);
             for (rules, refused) in earlier.filter(|_| number < BEFORE) {
                 match decide_under(rules, &problem) {
@@ -80,6 +85,10 @@ fn run_family((name, draw, fewest): Family, sums: &mut Sums) {
         let often = verdicts.iter().all(|&count| count >= OFTEN);
         demand(often, &format!("they came {verdicts:?} times"))
     });
+    group.case("full in the preview", || {
+        let expected = if name == RICHER { 1..CASES } else { 0..1 };
+        demand(expected.contains(&full), &format!("{full} are"))
+    });
     group.case("most state an =", || {
         let most = 10 * stated > 8 * CASES / STATED;
         demand(most, &format!("{stated} do"))
@@ -92,10 +101,10 @@ fn run_family((name, draw, fewest): Family, sums: &mut Sums) {
     group.finish(sums);
 }
 
-/// Whether a batch agrees, which must be decided.
-fn decide(problem: &Problem) -> Result<bool, String> {
-    let solved = compare(&problem.encode())?;
-    match solved.answer {
+/// Whether a batch agrees, which must be decided, and whether it fills the preview's book.
+fn decide(problem: &Problem) -> Result<(bool, bool), String> {
+    let (solved, preview) = compare_limits(&problem.encode(), 0xab)?;
+    let agrees = match solved.answer {
         Answer::Verdict {
             verdict: Verdict::Agrees,
             ..
@@ -105,7 +114,8 @@ fn decide(problem: &Problem) -> Result<bool, String> {
             ..
         } => Ok(false),
         answer => Err(format!("undecided: {answer:?}")),
-    }
+    };
+    Ok((agrees?, is_full(&preview.answer)))
 }
 
 /// The batch with its charges and entries as =, and shares that are at least 0, is answered alike,
@@ -114,23 +124,11 @@ fn decide_stated(problem: &Problem) -> Result<bool, String> {
     let stated = problem.joined();
     demand(stated.apart() == *problem, "another batch")?;
     decide(&stated)?;
-    let solve = |problem: &Problem| solve_filled(Solver::Proved, &problem.encode());
+    let solve = |problem: &Problem| solve_filled(Solver::PROVED, &problem.encode());
     let (joined, written) = (solve(&stated), solve(problem));
     joined.expect(&written.answer)?;
     demand(joined.sheet() == written.sheet(), "the sheets differ")?;
     Ok(stated.clauses.iter().flatten().any(Term::is_equal))
-}
-
-/// Both solve, and must answer and leave the buffers alike.
-fn compare(question: &[u8]) -> Result<Solved, String> {
-    let ours = solve_filled(Solver::Proved, question);
-    let theirs = solve_filled(Solver::Second, question);
-    equal("answer", &theirs.answer, &ours.answer)?;
-    demand(theirs.book == ours.book, "the books differ")?;
-    demand(theirs.sheet == ours.sheet, "the sheets differ")?;
-    let part = proved::hand_back(&ours.answer, &ours.book, &ours.sheet);
-    check_part(question, &ours.answer, part)?;
-    Ok(ours)
 }
 
 fn satisfies(problem: &Problem, solved: &Solved) -> Outcome {
@@ -175,7 +173,8 @@ fn run_diamonds(sums: &mut Sums) {
     for (count, ways, lines, pairs) in [(5, Ways::Three, 549, 15_053), (7, Ways::Two, 308, 5_627)] {
         group.case(&format!("lines of {count} of {ways:?} ways"), || {
             let most = i32::from(count) - 1;
-            let solved = compare(&diamonds(count, ways, most).encode())?;
+            let question = diamonds(count, ways, most).encode();
+            let (solved, _) = compare_limits(&question, 0xab)?;
             let verdict = Verdict::Cannot;
             solved.expect(&Answer::Verdict {
                 verdict,
@@ -189,8 +188,8 @@ fn run_diamonds(sums: &mut Sums) {
 
 /// Whether a question agrees; none if it fills the book.
 fn decide_or_full(problem: &Problem) -> Result<Option<bool>, String> {
-    match compare(&problem.encode())?.answer {
-        Answer::Refused { number: 15, .. } => Ok(None),
-        _ => decide(problem).map(Some),
+    match compare_limits(&problem.encode(), 0xab)? {
+        (large, _) if is_full(&large.answer) => Ok(None),
+        _ => decide(problem).map(|(agrees, _)| Some(agrees)),
     }
 }

@@ -3,9 +3,10 @@
 
 use crate::report::{demand, equal, Outcome};
 use crate::solver::Solver;
-use reference::{Answer, Verdict};
+use reference::{Answer, Limit, Verdict};
 
 pub const BOOK_LENGTH: usize = 65_536;
+pub const PREVIEW_LENGTH: usize = 16_384;
 pub const SHEET_LENGTH: usize = 64;
 pub const LINE_LENGTH: usize = 64;
 
@@ -14,19 +15,39 @@ const BEYOND: usize = 16;
 const BOOK_FILL: u8 = 0xab;
 const SHEET_FILL: u8 = 0xcd;
 
-/// An answer, and both buffers after the call.
+/// An answer, and both buffers after the call, which had this limit of lines.
 pub struct Solved {
+    pub limit: Limit,
     pub answer: Answer,
     pub book: Vec<u8>,
     pub sheet: Vec<u8>,
 }
 
-/// Solves with buffers filled beforehand and somewhat longer than needed.
+/// Solves with buffers filled beforehand and somewhat longer than any call needs.
 pub fn solve_filled(solver: Solver, question: &[u8]) -> Solved {
-    let mut book = vec![BOOK_FILL; BOOK_LENGTH + BEYOND];
-    let mut sheet = vec![SHEET_FILL; SHEET_LENGTH + BEYOND];
+    solve_lent(
+        solver,
+        question,
+        BOOK_LENGTH + BEYOND,
+        SHEET_LENGTH + BEYOND,
+    )
+}
+
+/// The same with buffers of these lengths.
+pub fn solve_lent(solver: Solver, question: &[u8], book: usize, sheet: usize) -> Solved {
+    solve_in(
+        solver,
+        question,
+        vec![BOOK_FILL; book],
+        vec![SHEET_FILL; sheet],
+    )
+}
+
+/// The same with these buffers.
+pub fn solve_in(solver: Solver, question: &[u8], mut book: Vec<u8>, mut sheet: Vec<u8>) -> Solved {
     let answer = solver.solve(question, &mut book, &mut sheet);
     Solved {
+        limit: solver.limit,
         answer,
         book,
         sheet,
@@ -47,11 +68,11 @@ impl Solved {
         &self.sheet[..SHEET_LENGTH]
     }
 
-    /// Tests all that 01 says of the buffers but the content of the used lines and of the sheet
-    /// after "agrees".
+    /// Tests all that 01 says of buffers filled beforehand but the content of the used lines and of
+    /// the sheet after "agrees".
     pub fn check_buffers(&self) -> Outcome {
-        let (book, beyond_book) = self.book.split_at(BOOK_LENGTH);
-        let (sheet, beyond_sheet) = self.sheet.split_at(SHEET_LENGTH);
+        let (book, beyond_book) = split(&self.book, book_length(self.limit));
+        let (sheet, beyond_sheet) = split(&self.sheet, SHEET_LENGTH);
         demand(all(beyond_book, BOOK_FILL), "bytes after the book altered")?;
         demand(
             all(beyond_sheet, SHEET_FILL),
@@ -82,7 +103,17 @@ pub fn ends_course(number: u8) -> bool {
     matches!(number, 14 | 15)
 }
 
-fn all(bytes: &[u8], byte: u8) -> bool {
+/// The bytes of a full-size book with this limit of lines.
+pub fn book_length(Limit(lines): Limit) -> usize {
+    lines * LINE_LENGTH
+}
+
+/// The bytes that a call may touch, and those beyond; a short buffer has none beyond.
+fn split(bytes: &[u8], length: usize) -> (&[u8], &[u8]) {
+    bytes.split_at(length.min(bytes.len()))
+}
+
+pub fn all(bytes: &[u8], byte: u8) -> bool {
     bytes.iter().all(|&b| b == byte)
 }
 

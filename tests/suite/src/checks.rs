@@ -1,12 +1,13 @@
 //! The checks: the proved code and the second solver accept the same books and sheets, and name
-//! the same first line, clause or place where they do not.
+//! the same first line, clause or place where they do not; and so does the preview, of a book that is
+//! not too long for it.
 
-use crate::buffers::{solve_filled, BOOK_LENGTH, LINE_LENGTH, SHEET_LENGTH};
+use crate::buffers::{solve_filled, BOOK_LENGTH, LINE_LENGTH, PREVIEW_LENGTH, SHEET_LENGTH};
 use crate::report::{demand, equal, Group, Outcome, Sums};
 use crate::solver::Solver;
 use crate::vectors;
 use questions::random::Random;
-use reference::{Answer, Checked, Verdict};
+use reference::{Answer, Checked, Limit, Verdict};
 
 const SEED: u64 = 6;
 const BOOKS: usize = 100_000;
@@ -27,7 +28,16 @@ pub fn run(sums: &mut Sums) {
 
 fn compare_book(question: &[u8], book: &[u8]) -> Outcome {
     let expected = reference::check_book(question, book);
-    equal("check", &expected, &proved::check_book(question, book))
+    equal("check", &expected, &proved::check_book(question, book))?;
+    let expected = match reference::read(question) {
+        Ok(_) if book.len() > PREVIEW_LENGTH => Checked::Refused {
+            number: 16,
+            place: book.len(),
+        },
+        _ => expected,
+    };
+    let checked = proved::check_book_within(Limit::PREVIEW, question, book);
+    equal("check by the preview", &expected, &checked)
 }
 
 fn compare_sheet(question: &[u8], sheet: &[u8]) -> Outcome {
@@ -37,8 +47,9 @@ fn compare_sheet(question: &[u8], sheet: &[u8]) -> Outcome {
 
 fn check_vectors(sums: &mut Sums) {
     let mut group = Group::new("checks: the vectors' books and sheets");
-    let compared: [(_, fn(&[u8], &[u8]) -> Outcome); 2] = [
+    let compared: [(_, fn(&[u8], &[u8]) -> Outcome); 3] = [
         ("check_book.txt", compare_book),
+        ("preview/check_book.txt", compare_book),
         ("check_sheet.txt", compare_sheet),
     ];
     for (file, compare) in compared {
@@ -68,7 +79,7 @@ fn case(random: &mut Random) -> Case {
         false => random.problem(),
     });
     let question = random.doubled(100, problem).encode();
-    let solved = solve_filled(Solver::Second, &question);
+    let solved = solve_filled(Solver::SECOND, &question);
     let verdict = match solved.answer {
         Answer::Verdict { verdict, .. } => Some(verdict),
         Answer::Refused { .. } => None,
@@ -292,6 +303,9 @@ fn check_lengths(sums: &mut Sums) {
         64,
         65,
         128,
+        PREVIEW_LENGTH - 64,
+        PREVIEW_LENGTH - 1,
+        PREVIEW_LENGTH,
         BOOK_LENGTH - 64,
         BOOK_LENGTH - 1,
         BOOK_LENGTH,

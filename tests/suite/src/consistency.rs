@@ -7,7 +7,7 @@ use crate::report::{demand, equal, Outcome, Sums};
 use crate::solver::Solver;
 use questions::problem::{Assignment, Problem};
 use questions::random::Random;
-use reference::{Answer, Checked, Verdict};
+use reference::{Answer, Checked, Limit, Verdict};
 
 const CASES: usize = 20_000;
 const SEED: u64 = 1;
@@ -41,8 +41,9 @@ fn check_problem(solver: Solver, problem: &Problem, tally: &mut Tally) -> Outcom
             lines,
             pairs,
         } => {
+            let Limit(most) = solver.limit;
             demand(
-                lines <= 1_024 && pairs <= 262_144,
+                lines <= most && pairs <= (most * most / 4) as u64,
                 "too many lines or pairs",
             )?;
             tally[verdict as usize] += 1;

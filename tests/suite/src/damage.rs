@@ -9,9 +9,10 @@ use questions::random::Random;
 use reference::{Answer, Checked, Verdict};
 
 const SEED: u64 = 3;
-/// So many problems of either verdict, each with at most so many lines; they come among the first
-/// so many.
+/// So many problems of either verdict, fewer for the preview, each with at most so many lines; they
+/// come among the first so many.
 const PROBLEMS: usize = 200;
+const PREVIEW_PROBLEMS: usize = 20;
 const TRIED: usize = 20_000;
 const MAX_LINES: usize = 24;
 
@@ -21,8 +22,8 @@ pub fn run(solver: Solver, sums: &mut Sums) {
     let refuted = problems(solver, Verdict::Cannot, &mut random);
     let satisfied = problems(solver, Verdict::Agrees, &mut random);
     group.case("enough problems", || {
-        equal("refuted", &PROBLEMS, &refuted.len())?;
-        equal("satisfied", &PROBLEMS, &satisfied.len())
+        equal("refuted", &count(solver), &refuted.len())?;
+        equal("satisfied", &count(solver), &satisfied.len())
     });
     for (i, (problem, solved)) in refuted.iter().enumerate() {
         let question = problem.encode();
@@ -46,6 +47,13 @@ pub fn run(solver: Solver, sums: &mut Sums) {
     group.finish(sums);
 }
 
+fn count(solver: Solver) -> usize {
+    match solver.is_preview() {
+        true => PREVIEW_PROBLEMS,
+        false => PROBLEMS,
+    }
+}
+
 /// Random problems with this verdict and a short book of some lines.
 fn problems(solver: Solver, wanted: Verdict, random: &mut Random) -> Vec<(Problem, Solved)> {
     let solve = || {
@@ -60,7 +68,7 @@ fn problems(solver: Solver, wanted: Verdict, random: &mut Random) -> Vec<(Proble
         }
         Answer::Refused { .. } => false,
     };
-    solved.filter(wanted).take(PROBLEMS).collect()
+    solved.filter(wanted).take(count(solver)).collect()
 }
 
 /// Calls the test with each place and the bytes changed there: each bit turned, and all.

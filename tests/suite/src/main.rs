@@ -1,6 +1,7 @@
 //! The test program: runs the second solver and the proved code on the examples of document 01, on
-//! the vectors, on random problems and on damaged parts, compares the two, and what the program
-//! prints with the second solver. One line for each group; the last line is the sum.
+//! the vectors, on random problems and on damaged parts, with both limits of lines, compares the
+//! two, and what the program prints with the second solver. One line for each group; the last line is
+//! the sum.
 
 mod arbitrary;
 mod batches;
@@ -12,6 +13,7 @@ mod earlier;
 mod examples;
 mod integers;
 mod lengths;
+mod preview;
 mod program;
 mod reading;
 mod relations;
@@ -28,7 +30,7 @@ fn main() -> ExitCode {
     let mut sums = Sums::default();
     integers::run(&mut sums);
     examples::run_printed(&mut sums);
-    for solver in solver::BOTH {
+    for solver in solver::BOTH.into_iter().chain(solver::PREVIEWS) {
         examples::run(solver, &mut sums);
         vectors::run(solver, &mut sums);
         consistency::run(solver, &mut sums);
@@ -39,6 +41,7 @@ fn main() -> ExitCode {
     reading::run(&mut sums);
     checks::run(&mut sums);
     solving::run(&mut sums);
+    preview::run(&mut sums);
     weaker::run(&mut sums);
     relations::run(&mut sums);
     earlier::run(&mut sums);

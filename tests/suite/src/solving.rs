@@ -1,21 +1,26 @@
 //! Solving: the proved code and the second solver give the same answer and leave the same bytes in
-//! book and sheet; and what a verdict hands back, the proved checks accept.
+//! book and sheet; what a verdict hands back, the proved checks accept; and the preview says and
+//! leaves what 02's (iii) makes of it.
 
-use crate::buffers::{ends_course, solve_filled, BOOK_LENGTH, LINE_LENGTH, SHEET_LENGTH};
+use crate::buffers::{ends_course, solve_filled, solve_in, Solved};
+use crate::buffers::{BOOK_LENGTH, LINE_LENGTH, PREVIEW_LENGTH, SHEET_LENGTH};
+use crate::preview::{self, is_full};
 use crate::report::{demand, equal, Group, Outcome, Sums};
 use crate::solver::{Solver, BOTH};
 use crate::{examples, vectors};
 use questions::largest::{self, Kind};
 use questions::problem::{at_most, yes, Problem};
 use questions::random::Random;
-use reference::{Answer, Checked, Part, Verdict};
+use reference::{Answer, Checked, Limit, Part, Verdict};
 use std::collections::BTreeMap;
 
 const SEED: u64 = 7;
 const RANDOM: usize = 200_000;
 /// How often each kind of answer must come at least.
 const OFTEN: usize = 20;
-const LENGTHS: [usize; 8] = [0, 1, 63, 64, 65, 65_535, 65_536, 65_600];
+pub const LENGTHS: [usize; 12] = [
+    0, 1, 63, 64, 65, 16_383, 16_384, 16_385, 65_535, 65_536, 65_537, 65_600,
+];
 
 pub fn run(sums: &mut Sums) {
     solve_vectors(sums);
@@ -26,27 +31,28 @@ pub fn run(sums: &mut Sums) {
     hand_back_refusals(sums);
 }
 
-/// Both solve with buffers of these lengths, filled alike, and must leave them alike.
-fn compare_lengths(question: &[u8], book: usize, sheet: usize, fill: u8) -> Result<Answer, String> {
-    let filled = |length| -> Vec<u8> { (0..length).map(|i| (i as u8) ^ fill).collect() };
-    let (mut our_book, mut our_sheet) = (filled(book), filled(sheet));
-    let (mut book, mut sheet) = (our_book.clone(), our_sheet.clone());
-    let expected = reference::solve(question, &mut book, &mut sheet);
-    let answer = proved::solve(question, &mut our_book, &mut our_sheet);
-    equal("answer", &expected, &answer)?;
-    demand(book == our_book, "the books differ")?;
-    demand(sheet == our_sheet, "the sheets differ")?;
-    let part = reference::hand_back(&answer, &book, &sheet);
-    equal(
-        "part",
-        &part,
-        &proved::hand_back(&answer, &our_book, &our_sheet),
-    )?;
-    check_part(question, &answer, part)?;
-    Ok(answer)
+/// Bytes that differ from place to place.
+fn filled(length: usize, fill: u8) -> Vec<u8> {
+    (0..length).map(|i| (i as u8) ^ fill).collect()
 }
 
-/// What is handed back after a verdict is accepted by the proved checks.
+/// Both solve with this limit of lines and these buffers, and must leave them alike.
+fn compare_in(limit: Limit, question: &[u8], book: &[u8], sheet: &[u8]) -> Result<Solved, String> {
+    let (second, proved) = (Solver::second(limit), Solver::proved(limit));
+    let theirs = solve_in(second, question, book.to_vec(), sheet.to_vec());
+    let ours = solve_in(proved, question, book.to_vec(), sheet.to_vec());
+    equal("answer", &theirs.answer, &ours.answer)?;
+    demand(theirs.book == ours.book, "the books differ")?;
+    demand(theirs.sheet == ours.sheet, "the sheets differ")?;
+    let part = second.hand_back(&ours.answer, &theirs.book, &theirs.sheet);
+    let our_part = proved.hand_back(&ours.answer, &ours.book, &ours.sheet);
+    equal("part", &part, &our_part)?;
+    check_part(question, &ours.answer, part)?;
+    Ok(ours)
+}
+
+/// What is handed back after a verdict is accepted by the proved checks; by the preview's, too, if it
+/// has no more lines.
 pub fn check_part(question: &[u8], answer: &Answer, part: Part) -> Outcome {
     let checked = match (answer, part) {
         (
@@ -55,7 +61,15 @@ pub fn check_part(question: &[u8], answer: &Answer, part: Part) -> Outcome {
                 ..
             },
             Part::Book(book),
-        ) => proved::check_book(question, book),
+        ) => {
+            let preview = proved::check_book_within(Limit::PREVIEW, question, book);
+            let expected = match book.len() {
+                0..=PREVIEW_LENGTH => Checked::Accepted,
+                place => Checked::Refused { number: 16, place },
+            };
+            equal("check by the preview", &expected, &preview)?;
+            proved::check_book(question, book)
+        }
         (
             Answer::Verdict {
                 verdict: Verdict::Agrees,
@@ -68,9 +82,32 @@ pub fn check_part(question: &[u8], answer: &Answer, part: Part) -> Outcome {
     equal("check", &Checked::Accepted, &checked)
 }
 
-/// Both solve with buffers somewhat longer than asked for.
+/// Both solve with buffers somewhat longer than asked for, and so does the preview.
 pub fn compare(question: &[u8], fill: u8) -> Result<Answer, String> {
-    compare_lengths(question, BOOK_LENGTH + 16, SHEET_LENGTH + 16, fill)
+    compare_limits(question, fill).map(|(large, _)| large.answer)
+}
+
+/// The same with all that the proved code said and left with 1,024 lines, and with 256, which it is
+/// lent a book of either size for, by the fill. The second solver's preview is asked where the answer
+/// with 1,024 lines does not settle it.
+pub fn compare_limits(question: &[u8], fill: u8) -> Result<(Solved, Solved), String> {
+    let (book, sheet) = (
+        filled(BOOK_LENGTH + 16, fill),
+        filled(SHEET_LENGTH + 16, fill),
+    );
+    let large = compare_in(Limit::STANDARD, question, &book, &sheet)?;
+    let book = match fill % 4 {
+        3 => &book[..],
+        _ => &book[..PREVIEW_LENGTH + 16],
+    };
+    let small = Solver::proved(Limit::PREVIEW);
+    let small = solve_in(small, question, book.to_vec(), sheet.clone());
+    preview::check_limits(&small, &large, book, &sheet)?;
+    if is_full(&small.answer) {
+        let theirs = compare_in(Limit::PREVIEW, question, book, &sheet)?;
+        small.expect(&theirs.answer)?;
+    }
+    Ok((large, small))
 }
 
 fn solve_vectors(sums: &mut Sums) {
@@ -87,9 +124,15 @@ fn solve_vectors(sums: &mut Sums) {
 
 fn solve_examples(sums: &mut Sums) {
     let mut group = Group::new("solving: examples");
-    for (name, question, expected) in examples::questions() {
+    let previews = examples::questions(Limit::PREVIEW);
+    for ((name, question, expected), (.., preview)) in examples::questions(Limit::STANDARD)
+        .into_iter()
+        .zip(previews)
+    {
         group.case(name, || {
-            equal("answer", &expected, &compare(&question, 0xab)?)
+            let (large, small) = compare_limits(&question, 0xab)?;
+            large.expect(&expected)?;
+            small.expect(&preview)
         });
     }
     group.finish(sums);
@@ -103,7 +146,9 @@ fn solve_random(sums: &mut Sums) {
     for number in 0..RANDOM {
         let question = question(&mut random);
         group.case(&format!("number {number}"), || {
-            let (answer, lines) = match compare(&question, number as u8)? {
+            let (large, small) = compare_limits(&question, number as u8)?;
+            let preview = is_full(&small.answer).then(|| "15 by the preview".to_string());
+            let (answer, lines) = match large.answer {
                 Answer::Verdict { verdict, lines, .. } => (format!("{verdict:?}"), lines),
                 Answer::Refused { number, place, .. } if ends_course(number) => {
                     (number.to_string(), place)
@@ -111,7 +156,7 @@ fn solve_random(sums: &mut Sums) {
                 Answer::Refused { number, .. } => (number.to_string(), 0),
             };
             let near = (lines >= 1_000).then(|| format!("{answer} with 1,000 lines"));
-            for kind in near.into_iter().chain([answer]) {
+            for kind in near.into_iter().chain(preview).chain([answer]) {
                 *seen.entry(kind).or_insert(0_usize) += 1;
             }
             Ok(())
@@ -129,6 +174,7 @@ fn solve_random(sums: &mut Sums) {
         "14",
         "15",
         "18",
+        "15 by the preview",
     ];
     let all = all.map(str::to_string);
     for kind in all.iter().chain(&near) {
@@ -195,12 +241,16 @@ fn many_lines(random: &mut Random) -> Problem {
 /// Buffers of every length about those that are asked for.
 fn solve_lengths(sums: &mut Sums) {
     let mut group = Group::new("solving: lengths of the buffers");
-    for (name, question, _) in examples::questions() {
+    for (name, question, _) in examples::questions(Limit::STANDARD) {
         for book in LENGTHS {
             for sheet in [0, 63, 64, 65, 128] {
-                group.case(&format!("{name}, {book}, {sheet}"), || {
-                    compare_lengths(&question, book, sheet, 0x5a).map(|_| ())
-                });
+                let (book, sheet) = (filled(book, 0x5a), filled(sheet, 0x5a));
+                for limit in [Limit::STANDARD, Limit::PREVIEW] {
+                    let name = format!("{name}, {}, {}, {limit:?}", book.len(), sheet.len());
+                    group.case(&name, || {
+                        compare_in(limit, &question, &book, &sheet).map(|_| ())
+                    });
+                }
             }
         }
     }
@@ -219,10 +269,12 @@ fn solve_largest(sums: &mut Sums) {
         place: 1_024,
         pairs: 960,
     };
-    for (more, expected) in [(None, agrees), (Some(13), full)] {
+    // 64 and 65 lines are loaded, and each pair adds one, until the preview's 256 are held.
+    for (more, expected, pairs) in [(None, agrees, 193), (Some(13), full, 192)] {
         group.case(&format!("{more:?} more"), || {
-            let answer = compare(&largest::run(more).encode(), 1)?;
-            equal("answer", &expected, &answer)
+            let (large, small) = compare_limits(&largest::run(more).encode(), 1)?;
+            large.expect(&expected)?;
+            small.expect(&preview::full(pairs))
         });
     }
     group.case("the most lines loaded", solve_loaded);
@@ -243,8 +295,10 @@ fn solve_loaded() -> Outcome {
         lines,
         pairs: 256 * 256,
     };
-    equal("answer", &expected, &compare(&question, 1)?)?;
-    let solved = solve_filled(Solver::Proved, &question);
+    let (large, small) = compare_limits(&question, 1)?;
+    large.expect(&expected)?;
+    small.expect(&preview::full(0))?;
+    let solved = solve_filled(Solver::PROVED, &question);
     let mut loaded = solved.used().chunks_exact(LINE_LENGTH);
     demand(loaded.all(|line| line[0] == 0), "a result")?;
     for solver in BOTH {
@@ -258,6 +312,7 @@ fn solve_loaded() -> Outcome {
 fn hand_back_refusals(sums: &mut Sums) {
     let mut group = Group::new("handing back: refusals by any number");
     let (book, sheet) = ([1; BOOK_LENGTH], [1; SHEET_LENGTH]);
+    let limits = [Limit::STANDARD, Limit::PREVIEW];
     for number in 0..=u8::MAX {
         let refused = Answer::Refused {
             number,
@@ -265,11 +320,10 @@ fn hand_back_refusals(sums: &mut Sums) {
             pairs: 0,
         };
         group.case(&format!("number {number}"), || {
-            equal(
-                "part",
-                &Part::Book(&[]),
-                &proved::hand_back(&refused, &book, &sheet),
-            )
+            limits.into_iter().try_for_each(|limit| {
+                let part = proved::hand_back_within(limit, &refused, &book, &sheet);
+                equal("part", &Part::Book(&[]), &part)
+            })
         });
     }
     group.finish(sums);

@@ -1,7 +1,8 @@
 //! The vectors beside the suite: every line of every file is a case, and a line that cannot be
 //! read is a failure.
 
-use crate::buffers::{ends_course, solve_filled, BOOK_LENGTH};
+use crate::buffers::{book_length, ends_course, solve_filled, BOOK_LENGTH, PREVIEW_LENGTH};
+use crate::preview::{full, held, pairs};
 use crate::report::{demand, equal, Outcome, Sums};
 use crate::solver::Solver;
 use reference::{Answer, Checked, Part, Verdict};
@@ -13,20 +14,38 @@ const FEWEST: usize = 20;
 /// The fields of one line.
 type Fields<'a> = [&'a str];
 
-/// Runs all seven files.
+/// Runs all files: the preview those of its own folder, and the others' questions and books, of which it
+/// says what the stored answer comes to.
 pub fn run(solver: Solver, sums: &mut Sums) {
-    run_file(solver, "solve.txt", solve_case, sums);
-    run_file(solver, "check_book.txt", book_case, sums);
-    run_file(solver, "base_books.txt", book_case, sums);
-    run_file(solver, "cheapest_books.txt", book_case, sums);
-    run_file(solver, "check_sheet.txt", sheet_case, sums);
-    run_file(solver, "buffers.txt", buffers_case, sums);
-    run_file(solver, "hand_back.txt", hand_back_case, sums);
+    if solver.is_preview() {
+        run_file(solver, "preview/solve.txt", solve_case, sums);
+        run_file(solver, "preview/check_book.txt", book_case, sums);
+        run_file(solver, "preview/buffers.txt", buffers_case, sums);
+        run_file(solver, "preview/hand_back.txt", hand_back_case, sums);
+        run_file(solver, "solve.txt", large_case, sums);
+        run_file(solver, "check_book.txt", large_book_case, sums);
+        run_file(solver, "base_books.txt", large_book_case, sums);
+        run_file(solver, "cheapest_books.txt", large_book_case, sums);
+    } else {
+        run_file(solver, "solve.txt", solve_case, sums);
+        run_file(solver, "check_book.txt", book_case, sums);
+        run_file(solver, "base_books.txt", book_case, sums);
+        run_file(solver, "cheapest_books.txt", book_case, sums);
+        run_file(solver, "check_sheet.txt", sheet_case, sums);
+        run_file(solver, "buffers.txt", buffers_case, sums);
+        run_file(solver, "hand_back.txt", hand_back_case, sums);
+    }
 }
 
 /// The questions of all files that have one.
 pub fn questions() -> Vec<Result<Vec<u8>, String>> {
-    let second = ["solve.txt", "check_book.txt", "check_sheet.txt"];
+    let second = [
+        "solve.txt",
+        "check_book.txt",
+        "check_sheet.txt",
+        "preview/solve.txt",
+        "preview/check_book.txt",
+    ];
     let second = second.into_iter().flat_map(|file| {
         let question = |line: String| bytes(line.split('|').nth(1).ok_or("malformed")?);
         lines(file).into_iter().map(question)
@@ -85,8 +104,16 @@ fn run_file(solver: Solver, file: &str, case: fn(Solver, &Fields) -> Outcome, su
     group.finish(sums);
 }
 
+/// A case of solving, as it is stored.
+struct Stored {
+    question: Vec<u8>,
+    answer: Answer,
+    sheet: Vec<u8>,
+    hash: u64,
+}
+
 /// name, question, answer, sheet after, hash of the book after.
-fn solve_case(solver: Solver, fields: &Fields) -> Outcome {
+fn stored(fields: &Fields) -> Result<Stored, String> {
     let (question, a, b, c, rest) = match fields {
         [_, question, a, b, c, rest @ ..] => (question, a, b, c, rest),
         _ => return Err("malformed".into()),
@@ -96,26 +123,68 @@ fn solve_case(solver: Solver, fields: &Fields) -> Outcome {
         [sheet, hash] => (sheet, hash),
         _ => return Err("malformed".into()),
     };
-    let solved = solve_filled(solver, &bytes(question)?);
-    solved.expect(&answer)?;
+    Ok(Stored {
+        question: bytes(question)?,
+        answer,
+        sheet: bytes(sheet)?,
+        hash: u64::from_str_radix(hash, 16).map_err(|error| error.to_string())?,
+    })
+}
+
+fn solve_case(solver: Solver, fields: &Fields) -> Outcome {
+    let stored = stored(fields)?;
+    let solved = solve_filled(solver, &stored.question);
+    solved.expect(&stored.answer)?;
     solved.check_buffers()?;
-    equal("sheet after", &bytes(sheet)?.as_slice(), &solved.sheet())?;
-    let hash = u64::from_str_radix(hash, 16).map_err(|error| error.to_string())?;
-    equal(
-        "hash of the book",
-        &hash,
-        &fnv1a(&solved.book[..BOOK_LENGTH]),
-    )
+    equal("sheet after", &stored.sheet.as_slice(), &solved.sheet())?;
+    let book = &solved.book[..book_length(solver.limit)];
+    equal("hash of the book", &stored.hash, &fnv1a(book))
+}
+
+/// The preview of a case with 1,024 lines: it is full if that holds more than 256, after pairs that are
+/// not stored, and else the same, with a book that lacks the unused lines from there on.
+fn large_case(solver: Solver, fields: &Fields) -> Outcome {
+    let stored = stored(fields)?;
+    let solved = solve_filled(solver, &stored.question);
+    solved.check_buffers()?;
+    if held(&stored.answer) > Some(256) {
+        return solved.expect(&full(pairs(&solved.answer)));
+    }
+    solved.expect(&stored.answer)?;
+    equal("sheet after", &stored.sheet.as_slice(), &solved.sheet())?;
+    let mut book = solved.book[..BOOK_LENGTH].to_vec();
+    if held(&stored.answer).is_some() {
+        book[book_length(solver.limit)..].fill(0);
+    }
+    equal("hash of the book", &stored.hash, &fnv1a(&book))
 }
 
 /// name, question, book, what the check says.
+fn stored_book(fields: &Fields) -> Result<(Vec<u8>, Vec<u8>, Checked), String> {
+    match fields {
+        [_, question, book, expected @ ..] => {
+            Ok((bytes(question)?, bytes(book)?, checked(expected)?))
+        }
+        _ => Err("malformed".into()),
+    }
+}
+
 fn book_case(solver: Solver, fields: &Fields) -> Outcome {
-    let (question, book, expected) = match fields {
-        [_, question, book, expected @ ..] => (question, book, expected),
-        _ => return Err("malformed".into()),
+    let (question, book, expected) = stored_book(fields)?;
+    equal("check", &expected, &solver.check_book(&question, &book))
+}
+
+/// The preview of a case with 1,024 lines: a book with more than 256 is refused, if the question is not.
+fn large_book_case(solver: Solver, fields: &Fields) -> Outcome {
+    let (question, book, stored) = stored_book(fields)?;
+    let expected = match stored {
+        Checked::Accepted | Checked::Fails(_) if book.len() > PREVIEW_LENGTH => Checked::Refused {
+            number: 16,
+            place: book.len(),
+        },
+        stored => stored,
     };
-    let got = solver.check_book(&bytes(question)?, &bytes(book)?);
-    equal("check", &checked(expected)?, &got)
+    equal("check", &expected, &solver.check_book(&question, &book))
 }
 
 /// name, question, sheet, what the check says.

@@ -90,7 +90,7 @@ fn run_pairs(sums: &mut Sums) {
 fn check_pair(problem: &Problem, dropped: &mut usize) -> Outcome {
     let question = problem.encode();
     solving::compare(&question, 0xab)?;
-    let solved = solve_filled(Solver::Proved, &question);
+    let solved = solve_filled(Solver::PROVED, &question);
     let mut lines = solved.used().chunks_exact(LINE_LENGTH);
     let second = |line: &[u8]| line[..6] == [0, 0, 1, 0, 0, 0];
     if lines.any(second) {
