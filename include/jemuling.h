@@ -47,7 +47,7 @@
  * lines of the book; only where the preview's book is full does that go on.
  *
  * Beside what it is lent, a call takes stack and no other memory. Beyond its
- * caller's, in bytes as measured on x86-64, solving takes at most 1,536, the
+ * caller's, in bytes as measured on x86-64, solving takes at most 1,664, the
  * check of a book 2,560, the check of a sheet 640, and handing back 64, for a
  * preview too. Solving is lent question, book and sheet alone, and holds no
  * array over 1,024 bytes.

@@ -21,7 +21,7 @@ static const struct {
     const char *name;
     size_t most;
 } said[CALLS] = {
-    [SOLVING] = { "solving", 1536 },
+    [SOLVING] = { "solving", 1664 },
     [BOOK] = { "the check of a book", 2560 },
     [SHEET] = { "the check of a sheet", 640 },
     [BACK] = { "handing back", 64 },
