@@ -41,10 +41,11 @@
  * A book has 1,024 lines of 64 bytes; a preview's has 256, and calls of its
  * own: jemuling_preview_solve, jemuling_preview_check_book and
  * jemuling_preview_hand_back, which differ from the others in that number
- * alone. They read and write the first 16,384 bytes of a longer buffer, and
- * keep the rest. A verdict of the preview, and JEMULING_WIDE, is also what
+ * alone. Of a longer buffer a preview writes the first 16,384 bytes, and keeps
+ * the rest. A verdict of the preview, or JEMULING_WIDE, is also what
  * jemuling_solve says of the question, with the same lines, pairs, sheet and
- * lines of the book; only where the preview's book is full does that go on.
+ * lines of the book; where 256 lines are not enough, the preview says
+ * JEMULING_FULL, and its caller may turn to jemuling_solve.
  *
  * Beside what it is lent, a call takes stack and no other memory. Beyond its
  * caller's, in bytes as measured on x86-64, solving takes at most 1,664, the
@@ -205,7 +206,7 @@ jemuling_told jemuling_hand_back(uint64_t number, size_t lines,
                                  const uint8_t *book, size_t book_length,
                                  const uint8_t *sheet, size_t sheet_length);
 
-/* The same with 16,384 bytes in place of 65,536, and 256 lines of 1,024. */
+/* The same with 16,384 bytes in place of 65,536, and 256 lines in place of 1,024. */
 jemuling_told jemuling_preview_hand_back(uint64_t number, size_t lines,
                                          const uint8_t *book, size_t book_length,
                                          const uint8_t *sheet, size_t sheet_length);
