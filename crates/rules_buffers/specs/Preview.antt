@@ -5,6 +5,7 @@ use mathlib.Core.List.{List, [], _∷_, _++_}
 use Prim.Native.Nat.{ℕ, _+_, _-_, _*_}
 use lib.IntN.{ℤ, pos, negsuc, negℤ}
 use lib.ListN.{replicate}
+use Rattle.rules_types.specs.declared.answers.Refusal.{Refusal}
 use Rattle.rules_types.specs.declared.answers.Refusal.the-variants as refusal
 use Rattle.rules_types.specs.declared.answers.Verdict.the-variants.{Satisfiable, Unsatisfiable}
 use Rattle.rules_types.specs.declared.answers.Answer.the-variants.{Decided, Refused}
@@ -14,7 +15,7 @@ use Rattle.rules_types.specs.Answers.{verdictNumber}
 use Rattle.rules_types.specs.Limits as limit
 use Rattle.rules_types.specs.Terms.{preview}
 use Rattle.rules.specs.Lists.{tabulate}
-use Rattle.rules.specs.Calls.{solve, proofChecked, evidence}
+use Rattle.rules.specs.Calls.{Solving, solve, proofChecked, evidence}
 use Rattle.rules.specs.Write.{atMost, equals, clauseOf, alone, problemOf}
 use Rattle.rules.specs.Compute.{definitions}
 use Rattle.rules_buffers.specs.Buffers.{zeros, lentModel, seven, sevenLines, ten}
@@ -43,12 +44,12 @@ pub seven-previewed : solve preview seven lentProof lentModel
 unfolding definitions
 seven-previewed = refl
 
-pub ten-previewed : solve preview ten lentProof lentModel
-    ≡ record {
-      solved = record { answer = Refused refusal.Overflow 2; pairs = 1 };
-      proof = zeros proofBytes ++ beyond;
-      model = lentModel;
-    }
+-- a refused elimination: zeros in the preview's own bytes; what lies beyond, and the model, are kept
+abbrev stopped : Refusal → ℕ → ℕ → Solving
+stopped f lines pairs =
+    record { solved = record { answer = Refused f lines; pairs = pairs }; proof = zeros proofBytes ++ beyond; model = lentModel }
+
+pub ten-previewed : solve preview ten lentProof lentModel ≡ stopped refusal.Overflow 2 1
 unfolding definitions
 ten-previewed = refl
 
@@ -56,17 +57,12 @@ ten-previewed = refl
 abbrev manyEqualities : List ℕ
 manyEqualities = problemOf 0 2 (tabulate 129 (λ k. alone (equals (pos 1 ∷ pos (k + 1) ∷ []) (pos 0))))
 
-pub full-while-loading : solve preview manyEqualities lentProof lentModel
-    ≡ record {
-      solved = record { answer = Refused refusal.OutOfSteps 256; pairs = 0 };
-      proof = zeros proofBytes ++ beyond;
-      model = lentModel;
-    }
+pub full-while-loading : solve preview manyEqualities lentProof lentModel ≡ stopped refusal.OutOfSteps 256 0
 unfolding definitions
 full-while-loading = refl
 
--- x + 100my ≤ 1 for m from 1 to 12, and -12 to -1, and -x + jy ≤ 0 for j from 1 to 20, and -20 to -1: each pair by x adds a line, and the
--- 193rd finds no room
+-- x + 100my ≤ 1 for m from 1 to 12 and from -1 to -12, -x + jy ≤ 0 for j from 1 to 20 and from -1 to -20: each pair by x adds a line, and
+-- the 193rd finds no room
 abbrev manyPairs : List ℕ
 manyPairs =
     let row : ℤ → ℤ → ℤ → List ℕ = λ x y bound. alone (atMost (x ∷ y ∷ []) bound) in
@@ -74,7 +70,7 @@ manyPairs =
     (tabulate 12 (λ m. row (pos 1) (pos (100 * (m + 1))) (pos 1)) ++ tabulate 12 (λ m. row (pos 1) (negℤ (pos (100 * (m + 1)))) (pos 1))
     ++ tabulate 20 (λ j. row (negsuc 0) (pos (j + 1)) (pos 0)) ++ tabulate 20 (λ j. row (negsuc 0) (negsuc j) (pos 0)))
 
-pub full-in-a-round : solve preview manyPairs lentProof lentModel .solved ≡ record { answer = Refused refusal.OutOfSteps 256; pairs = 193 }
+pub full-in-a-round : solve preview manyPairs lentProof lentModel ≡ stopped refusal.OutOfSteps 256 193
 unfolding definitions
 full-in-a-round = refl
 
