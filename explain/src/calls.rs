@@ -24,5 +24,5 @@ pub const PREVIEW: Calls = Calls {
     solve: preview::solve,
     check_book: preview::check_book,
     hand_back: preview::hand_back,
-    full: "the preview's 256 lines are not enough; ./solve without --preview has 1,024",
+    full: "the preview's 256 lines are not enough; ./solve without --preview has 1,024 lines",
 };

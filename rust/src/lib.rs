@@ -163,8 +163,9 @@ pub fn hand_back<'a>(answer: Answer, book: &'a [u8], sheet: &'a [u8]) -> Part<'a
     hand_back_by(jemuling_hand_back, answer, book, sheet)
 }
 
-/// The calls with a preview's book: 256 lines, [`PREVIEW_BYTES`](crate::PREVIEW_BYTES). What they
-/// say, but for refusal 15, the others say too; a longer book keeps its bytes from there on.
+/// The calls with a preview's book: 256 lines, [`PREVIEW_BYTES`](crate::PREVIEW_BYTES); a longer one
+/// keeps its bytes from there on. A verdict of the preview, or 14, is also what
+/// [`solve`](crate::solve) says with a full-size book.
 pub mod preview {
     use super::{Answer, Checked, Part, Solved};
 

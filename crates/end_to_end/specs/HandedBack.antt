@@ -1,5 +1,6 @@
--- What joins several calls: `jemuling_hand_back` with the number, the value and the buffers that `jemuling_solve` returned and left, and
--- the check of what it hands back. The premises are the records of the calls' own `ensures` (jemuling/specs/Promised.antt).
+-- What joins several calls: handing back with the number, the value and the buffers that solving returned and left, and the check of what
+-- it hands back; on any terms, so with either limit of lines. The premises are the records of the calls' own `ensures`
+-- (jemuling/specs/Promised.antt).
 use mathlib.Core.Path.{_≡_, refl, sym, ap, _∙_, subst}
 use mathlib.Core.Logic.{_⊎_, ⊎-elim, inl, inr}
 use mathlib.Core.List.{List}

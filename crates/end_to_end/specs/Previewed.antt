@@ -1,23 +1,26 @@
--- What joins solving with fewer lines and with more: `jemuling_preview_solve` and `jemuling_solve` on one problem, by the numbers that they
--- returned and the buffers that they left.
-use mathlib.Core.Path.{_≡_, sym, ap, _∙_}
+-- What joins solving with fewer lines and with more: `jemuling_preview_solve` and `jemuling_solve` on one problem, by the numbers that
+-- they returned and the buffers that they left.
+use mathlib.Core.Path.{_≡_, refl, sym, ap, _∙_}
 use mathlib.Core.Logic.{_↔_}
 use mathlib.Core.List.{List}
 use Prim.Native.Nat.{ℕ, _<_}
 use native.Mathlib.Omega.{arith}
 use lib.ListN.{take}
+use Rattle.rules_types.specs.declared.answers.Refusal.{Refusal}
 use Rattle.rules_types.specs.declared.answers.Refusal.the-variants.{OutOfSteps}
 use Rattle.rules_types.specs.declared.answers.Verdict.{Verdict}
+use Rattle.rules_types.specs.declared.answers.Answer.the-variants.{Refused}
 use Rattle.rules_types.specs.declared.limits.Limits.{Limits}
 use Rattle.rules_types.specs.declared.terms.Terms.{Terms}
 use Rattle.rules_types.specs.Limits as limit
 use Rattle.rules_types.specs.Terms.{standard, preview}
-use Rattle.rules_types.specs.Answers.{refusalNumber, verdictNumber}
+use Rattle.rules_types.specs.Answers.{refusalNumber, verdictNumber, answerNumber}
 use Rattle.rules.specs.Problem.{Problem}
-use Rattle.rules.specs.Calls.{sound, read, Solving, solve}
-use Rattle.promises.specs.Words.{FullSize}
+use Rattle.rules.specs.Calls.{Reading, faulty, sound, read, Solving, solve}
+use Rattle.promises.specs.Words.{Comes, FullSize}
 use Rattle.promises.specs.Numbers.{verdict-exactly, refusal-exactly}
-use Rattle.promises.specs.Preview.{AsLarger, as-larger}
+use Rattle.promises.specs.Demand1.{untouched, demand1}
+use Rattle.promises.specs.Preview.{AsLarger, not-both, as-larger}
 use Rattle.jemuling.specs.declared.told.SolvedTold.{SolvedTold}
 use Rattle.jemuling.specs.Told.{solvedTold}
 
@@ -27,38 +30,71 @@ pub record Solves (terms : Terms) (input lentProof lentModel : List ℕ) (told :
   pub leavesProof : proof ≡ solve terms input lentProof lentModel .proof
   pub leavesModel : model ≡ solve terms input lentProof lentModel .model
 
--- "With full-size buffers, a preview verdict or 14 is also the large caller's, with the same lines": the same number, lines and pairs, the
--- same bytes in the shorter book, after a verdict the same sheet; and 15 comes exactly if the large caller's lines are more than the
--- preview's
-pub record Previewed (lesser : Limits) (told : SolvedTold) (proof model : List ℕ) (large : SolvedTold) (largeProof largeModel : List ℕ)
-    : Type 0 where
-  pub outOfSteps : (told .number ≡ refusalNumber OutOfSteps) ↔ (lesser .steps < large .value)
+pub record Previewed (lesser : Limits) (input : List ℕ) (told : SolvedTold) (proof model : List ℕ) (large : SolvedTold)
+    (largeProof largeModel : List ℕ) : Type 0 where
+  -- "a preview verdict or 14 is also the large caller's, with the same lines", and the same pairs; so is a fault of the problem
   pub solved : (told .number ≡ refusalNumber OutOfSteps → ⊥) → told ≡ large
-  pub book : (told .number ≡ refusalNumber OutOfSteps → ⊥)
+  -- after a verdict the lines are the same, zeros behind them, and so is the sheet
+  pub book : (v : Verdict) → told .number ≡ verdictNumber v
       → take (limit.proofBytes lesser) proof ≡ take (limit.proofBytes lesser) largeProof
   pub sheet : (v : Verdict) → told .number ≡ verdictNumber v → take limit.modelBytes model ≡ take limit.modelBytes largeModel
+  -- 15 comes exactly if the large caller's lines are more than the preview has
+  pub outOfSteps : (p : Problem) → read input ≡ sound p → (told .number ≡ refusalNumber OutOfSteps) ↔ (lesser .steps < large .value)
 
--- of what solving is, by its numbers
-told-of : (lesser : Limits) (ours theirs : Solving) → AsLarger lesser ours theirs
-    → Previewed lesser (solvedTold (ours .solved)) (ours .proof) (ours .model) (solvedTold (theirs .solved)) (theirs .proof) (theirs .model)
+-- of a problem read without fault
+of-sound : (lesser : Limits) (input : List ℕ) (ours theirs : Solving) → AsLarger lesser ours theirs
+    → Previewed lesser input (solvedTold (ours .solved)) (ours .proof) (ours .model) (solvedTold (theirs .solved)) (theirs .proof)
+    (theirs .model)
 unfolding solvedTold
-told-of lesser ours theirs h =
+of-sound lesser input ours theirs h =
     let r = refusal-exactly OutOfSteps (ours .solved .answer) in
+    let comes : (v : Verdict) → answerNumber (ours .solved .answer) ≡ verdictNumber v → Comes v (ours .solved .answer) =
+    λ v k. verdict-exactly v (ours .solved .answer) .0 k in
     record {
-      outOfSteps = (λ k. h .outOfSteps .0 (r .0 k), λ k. r .1 (h .outOfSteps .1 k));
       solved = λ k. ap solvedTold (h .solved (λ f. k (r .1 f)));
-      book = λ k. h .proof (λ f. k (r .1 f));
-      sheet = λ v k. h .model v (verdict-exactly v (ours .solved .answer) .0 k);
+      book = λ v k. h .proof (λ f. not-both (ours .solved .answer) v OutOfSteps (comes v k) f);
+      sheet = λ v k. h .model v (comes v k);
+      outOfSteps = λ p e. (λ k. h .outOfSteps .0 (r .0 k), λ k. r .1 (h .outOfSteps .1 k));
     }
 
--- the two calls
-pub previewed : (input : List ℕ) (p : Problem) → read input ≡ sound p
-    → (lentProof lentModel : List ℕ) (told : SolvedTold) (proof model : List ℕ) → FullSize (preview .limits) lentProof lentModel
-    → Solves preview input lentProof lentModel told proof model
+-- of one at fault
+of-faulty : (lesser : Limits) (input : List ℕ) (f : Refusal) (place : ℕ) → read input ≡ faulty f place
+    → (proof model largeProof largeModel : List ℕ)
+    → let told = solvedTold (untouched f place proof model .solved) in Previewed lesser input told proof model told largeProof largeModel
+unfolding solvedTold
+of-faulty lesser input f place e proof model largeProof largeModel =
+    let never : (v : Verdict) → answerNumber (Refused f place) ≡ verdictNumber v → ⊥ = λ v k. verdict-exactly v (Refused f place) .0 k in
+    record {
+      solved = λ k. refl;
+      book = λ v k. absurd (never v k);
+      sheet = λ v k. absurd (never v k);
+      outOfSteps = λ p s. absurd (let z : _≡_ {A = ℕ} 0 1 = cc in omega arith);
+    }
+
+-- the two calls, on bytes of every kind: "With full-size buffers"
+pub previewed : (input lentProof lentModel : List ℕ) (told : SolvedTold) (proof model : List ℕ)
+    → FullSize (preview .limits) lentProof lentModel → Solves preview input lentProof lentModel told proof model
     → (lentLarge lentSheet : List ℕ) (large : SolvedTold) (largeProof largeModel : List ℕ) → FullSize (standard .limits) lentLarge lentSheet
     → Solves standard input lentLarge lentSheet large largeProof largeModel
-    → Previewed (preview .limits) told proof model large largeProof largeModel
-previewed input p e lentProof lentModel told proof model full ours lentLarge lentSheet large largeProof largeModel largeFull theirs =
-    rw (ours .tells, ours .leavesProof, ours .leavesModel, theirs .tells, theirs .leavesProof, theirs .leavesModel)
-    (told-of (preview .limits) _ _
-    (as-larger (preview .limits) (standard .limits) (omega arith) 1 input p e lentProof lentModel lentLarge lentSheet full largeFull))
+    → Previewed (preview .limits) input told proof model large largeProof largeModel
+previewed input lentProof lentModel told proof model full ours lentLarge lentSheet large largeProof largeModel largeFull theirs =
+    rw (ours .tells, ours .leavesProof, ours .leavesModel, theirs .tells, theirs .leavesProof, theirs .leavesModel) (by (read input) refl)
+  where
+    small : Solving
+    small = solve preview input lentProof lentModel
+
+    big : Solving
+    big = solve standard input lentLarge lentSheet
+
+    by : (r : Reading) → read input ≡ r
+        → Previewed (preview .limits) input (solvedTold (small .solved)) (small .proof) (small .model) (solvedTold (big .solved))
+        (big .proof) (big .model)
+    by (sound p) e =
+        of-sound (preview .limits) input small big
+        (as-larger (preview .limits) (standard .limits) (omega arith) 1 input p e lentProof lentModel lentLarge lentSheet full largeFull)
+    by (faulty f place) e =
+        rw (
+          demand1 preview input lentProof lentModel .faultyInput full f place e,
+          demand1 standard input lentLarge lentSheet .faultyInput largeFull f place e,
+        )
+        (of-faulty (preview .limits) input f place e lentProof lentModel lentLarge lentSheet)

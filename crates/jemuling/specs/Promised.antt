@@ -1,5 +1,5 @@
--- What the four calls promise: the demands, said of the numbers that they return and of the bytes that they leave. Each record stands in
--- the `ensures` of its call (src/calls.rt), beside the equation with document 01's definition.
+-- What the calls promise, with either limit of lines: the demands, said of the numbers that they return and of the bytes that they leave.
+-- Each record stands in the `ensures` of its calls (src/calls.rt), beside the equation with document 01's definition.
 use mathlib.Core.Path.{_≡_}
 use mathlib.Core.Logic.{_↔_}
 use mathlib.Core.List.{List}
@@ -43,7 +43,8 @@ pub record TellsPart (told : Told) (part : Evidence) : Type 0 where
   pub ofModel : (n : ℕ) → ((told .number ≡ 70) × (told .value ≡ n)) ↔ (part ≡ OfModel n)
 
 -- ---- the calls; a lent slice holds bytes, so what the demands say of bytes holds of it
--- `jemuling_solve`: `lentProof` and `lentModel` are the buffers before it, `proof` and `model` what it left in them
+-- `jemuling_solve`, `jemuling_preview_solve`: `lentProof` and `lentModel` are the buffers before it, `proof` and `model` what it left in
+-- them
 pub record Delivered (terms : Terms) (input lentProof lentModel : List ℕ) (told : SolvedTold) (proof model : List ℕ) : Type 0 where
   pub bytes : AllBytes input
   pub bytesLeft : AllBytes proof × AllBytes model
@@ -56,7 +57,7 @@ pub record Delivered (terms : Terms) (input lentProof lentModel : List ℕ) (tol
   pub third : (p : Problem) → read input ≡ sound p → FullSize (terms .limits) lentProof lentModel
       → Demand3 terms input (inEdition (terms .edition) p) lentProof lentModel ours
 
--- `jemuling_check_book`
+-- `jemuling_check_book`, `jemuling_preview_check_book`
 pub record BookChecked (terms : Terms) (input proof : List ℕ) (told : Told) : Type 0 where
   pub bytes : AllBytes input
   pub says : Checked
@@ -70,7 +71,7 @@ pub record SheetChecked (terms : Terms) (input model : List ℕ) (told : Told) :
   pub tells : TellsChecked told says
   pub checks : ChecksModel terms input model says
 
--- `jemuling_hand_back`, from a number and lines as the caller names them
+-- `jemuling_hand_back`, `jemuling_preview_hand_back`, from a number and lines as the caller names them
 pub record PartHanded (limits : Limits) (number lines : ℕ) (proof model : List ℕ) (told : Told) : Type 0 where
   pub part : Evidence
   pub tells : TellsPart told part

@@ -76,7 +76,7 @@ pub extern "C" fn jemuling_hand_back(number: u64, lines: usize, proof: &[u8], mo
     ensures { λ t. ⌜ t ≡ evidenceTold (evidence (standard .limits) number lines (now (proof .entry)) (now (model .entry))) ⌝ }
     ensures { λ t. ⌜ PartHanded (standard .limits) number lines (now (proof .entry)) (now (model .entry)) t ⌝ }
 {
-    hand_back_on(Limits::standard(), number, lines, proof, model)
+    hand_back_on(number, lines, proof, model, Limits::standard())
 }
 
 // The same for a preview.
@@ -90,5 +90,5 @@ pub extern "C" fn jemuling_preview_hand_back(
     ensures { λ t. ⌜ t ≡ evidenceTold (evidence (preview .limits) number lines (now (proof .entry)) (now (model .entry))) ⌝ }
     ensures { λ t. ⌜ PartHanded (preview .limits) number lines (now (proof .entry)) (now (model .entry)) t ⌝ }
 {
-    hand_back_on(Limits::preview(), number, lines, proof, model)
+    hand_back_on(number, lines, proof, model, Limits::preview())
 }

@@ -38,7 +38,7 @@ pub fn check_book_on(input: &[u8], proof: &[u8], terms: Terms) -> Told
 }
 
 // Which part of proof or model is handed back, from a verdict's number and lines.
-pub fn hand_back_on(limits: Limits, number: u64, lines: usize, proof: &[u8], model: &[u8]) -> Told
+pub fn hand_back_on(number: u64, lines: usize, proof: &[u8], model: &[u8], limits: Limits) -> Told
     ensures { λ t. ⌜ t ≡ evidenceTold (evidence limits number lines (now (proof .entry)) (now (model .entry))) ⌝ }
     ensures { λ t. ⌜ PartHanded limits number lines (now (proof .entry)) (now (model .entry)) t ⌝ }
 {

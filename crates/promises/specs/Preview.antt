@@ -41,7 +41,7 @@ pub record AsLarger (lesser : Limits) (ours theirs : Solving) : Type 0 where
   pub model : (v : Verdict) → Comes v (ours .solved .answer)
       → take limit.modelBytes (ours .model) ≡ take limit.modelBytes (theirs .model)
 
-not-both : (a : Answer) (v : Verdict) (f : Refusal) → Comes v a → IsRefused f a → ⊥
+pub not-both : (a : Answer) (v : Verdict) (f : Refusal) → Comes v a → IsRefused f a → ⊥
 not-both (Decided u n) v f h k = k
 not-both (Refused g n) v f h k = h
 
@@ -134,7 +134,7 @@ module _ (lesser larger : Limits) (less : lesser .steps < larger .steps) where
         → length (proofAfter lesser (concluded p ourEnd) proof) ≡ length proof
         → length (modelAfter (concluded p ourEnd) model) ≡ length model
         → AsLarger lesser (left lesser (concluded p ourEnd) proof model) (left larger (concluded p theirEnd) other otherModel)
-    by-ends alike few kept keptModel =
+    by-ends alike most kept keptModel =
         ⊎-elim
         (λ same.
         let never : IsRefused refusal.OutOfSteps (answerOf (concluded p ourEnd)) → ⊥ = λ k. same .1 (out-of-steps p ourEnd .1 k) in
@@ -143,7 +143,7 @@ module _ (lesser larger : Limits) (less : lesser .steps < larger .steps) where
         (record {
           outOfSteps = (λ k. absurd (never k), λ k. absurd (omega (arith, reported-lines p ourEnd, k)));
           solved = λ k. refl;
-          proof = λ k. same-proof proof other (ourSize .proofSize) (concluded p ourEnd) (held p ourEnd few) kept;
+          proof = λ k. same-proof proof other (ourSize .proofSize) (concluded p ourEnd) (held p ourEnd most) kept;
           model = λ v k. same-model model otherModel (ourSize .modelSize) (concluded p ourEnd) v k keptModel;
         }))
         (λ more.
