@@ -20,7 +20,7 @@ use Rattle.rules.specs.Steps.{Step, encodeProof}
 use Rattle.rules.specs.Elimination.{State, running, ended, empty, overflow, outOfSteps, orderOf, limited, elimination}
 use Rattle.rules.specs.Needs.{stepsOf}
 use Rattle.rules.specs.Values.{walk}
-use Rattle.rules.specs.Model.{written}
+use Rattle.rules.specs.Model.{isOpen, written}
 use Rattle.rules.specs.Calls.{Reading, faulty, sound, read, Outcome, faulted, stopped, decided, concluded, outcome}
 use Rattle.rules.specs.Calls.{lent, said, proofAfter, modelAfter, solve, evidenceBytes}
 use Rattle.rules.specs.Print.{ascii, decimal, printLine, printModel, printProof, printRefusal, printed}
@@ -54,15 +54,15 @@ module _ (p : Problem) (w : WellFormed p) where
   concluded-printable : (s : State) → length (stepsOf s) ≤ limit.steps → All Numbered (stepsOf s) → PrintableOutcome (concluded p s)
   unfolding concluded stepsOf
   concluded-printable (running steps pairs) n h =
-      by (written (p .booleans) (p .rationals) (walk (orderOf p) (map (λ s. s .line) steps))) refl
+      by (written (p .booleans) (p .rationals) (isOpen p) (walk (orderOf p) (map (λ s. s .line) steps))) refl
     where
-      by : (o : Option (List ℕ)) → written (p .booleans) (p .rationals) (walk (orderOf p) (map (λ s. s .line) steps)) ≡ o
+      by : (o : Option (List ℕ)) → written (p .booleans) (p .rationals) (isOpen p) (walk (orderOf p) (map (λ s. s .line) steps)) ≡ o
           → PrintableOutcome (concluded p (running steps pairs))
       by none e = rw (e, concluded) (n, tt)
       by (some bytes) e =
           rw (e, concluded) (
             n,
-            written-printable (p .booleans) (p .rationals) (walk (orderOf p) (map (λ s. s .line) steps)) bytes (w .booleans)
+            written-printable (p .booleans) (p .rationals) (isOpen p) (walk (orderOf p) (map (λ s. s .line) steps)) bytes (w .booleans)
                 (w .rationals) e,
           )
   concluded-printable (ended empty steps pairs) n h = (n, h)

@@ -19,17 +19,20 @@ use Rattle.theory_bytes.specs.Bytes.{length-toBytes, length-padded}
 use Rattle.theory_bytes.specs.Amounts.{length-amountBytes}
 use Rattle.printing.specs.Texts.{Printable}
 
-written-is : (b r : ℕ) (w : Walked) (bytes : List ℕ) → written b r w ≡ some bytes → bytes ≡ encodeModel b r (w .assignment)
+written-is : (b r : ℕ) (opens : ℕ → Bool) (w : Walked) (bytes : List ℕ) → written b r opens w ≡ some bytes → bytes ≡ encodeModel b r opens (w .assignment)
 unfolding written
-written-is b r w bytes e = by (w .exceeded || tooLarge r (w .assignment)) refl
+written-is b r opens w bytes e = by (w .exceeded || tooLarge r (w .assignment)) refl
   where
-    by : (t : Bool) → (w .exceeded || tooLarge r (w .assignment)) ≡ t → bytes ≡ encodeModel b r (w .assignment)
+    by : (t : Bool) → (w .exceeded || tooLarge r (w .assignment)) ≡ t → bytes ≡ encodeModel b r opens (w .assignment)
     by true f = let n : none ≡ some bytes = rw (f, written) at e in let z : _≡_ {A = ℕ} 0 1 = cc in absurd (omega arith)
-    by false f = let n : some (encodeModel b r (w .assignment)) ≡ some bytes = rw (f, written) at e in cc
+    by false f = let n : some (encodeModel b r opens (w .assignment)) ≡ some bytes = rw (f, written) at e in cc
 
-module _ (b r : ℕ) (χ : Assignment) where
+module _ (b r : ℕ) (opens : ℕ → Bool) (χ : Assignment) where
+  abbrev flag : ℕ → ℕ
+  flag i = booleanByte (opens i) (χ .booleans i)
+
   abbrev front : List ℕ
-  front = b ∷ tabulate b (λ i. booleanByte (χ .booleans i))
+  front = b ∷ tabulate b flag
 
   abbrev middle : List ℕ
   middle = r ∷ toBytes 4 (χ .denominator)
@@ -38,18 +41,18 @@ module _ (b r : ℕ) (χ : Assignment) where
   amounts = amountBytes (tabulate r (χ .numerators))
 
   front-length : length front ≡ layout.modelRationals b
-  front-length = omega (arith, length-tabulate b (λ i. booleanByte (χ .booleans i)))
+  front-length = omega (arith, length-tabulate b flag)
 
   content-length : length (front ++ middle ++ amounts) ≡ layout.modelNumerators b + length amounts
   content-length =
       length-append (front ++ middle) amounts
       ∙ omega (arith, length-append front middle, front-length, length-toBytes 4 (χ .denominator))
 
-  booleans-is : fieldAt layout.modelBooleans 1 (encodeModel b r χ) ≡ b
+  booleans-is : fieldAt layout.modelBooleans 1 (encodeModel b r opens χ) ≡ b
   unfolding fieldAt fromBytes encodeModel padded
   booleans-is = omega arith
 
-  rationals-is : fieldAt (layout.modelRationals b) 1 (encodeModel b r χ) ≡ r
+  rationals-is : fieldAt (layout.modelRationals b) 1 (encodeModel b r opens χ) ≡ r
   unfolding fieldAt fromBytes encodeModel padded
   rationals-is =
       let zeros = replicate {A = ℕ} (limit.modelBytes - length (front ++ middle ++ amounts)) 0 in
@@ -58,7 +61,7 @@ module _ (b r : ℕ) (χ : Assignment) where
       ∙ ap (λ (l : List ℕ). fromBytes (take 1 l)) (drop-at front (middle ++ (amounts ++ zeros)) (layout.modelRationals b) front-length)
       ∙ omega arith
 
-  pub printable : b ≤ limit.booleans → r ≤ limit.rationals → Printable (encodeModel b r χ)
+  pub printable : b ≤ limit.booleans → r ≤ limit.rationals → Printable (encodeModel b r opens χ)
   unfolding encodeModel
   printable h k =
       record {
@@ -68,6 +71,7 @@ module _ (b r : ℕ) (χ : Assignment) where
         rationals = rw booleans-is (omega (arith, rationals-is));
       }
 
-pub written-printable : (b r : ℕ) (w : Walked) (bytes : List ℕ) → b ≤ limit.booleans → r ≤ limit.rationals → written b r w ≡ some bytes
+pub written-printable : (b r : ℕ) (opens : ℕ → Bool) (w : Walked) (bytes : List ℕ) → b ≤ limit.booleans → r ≤ limit.rationals
+    → written b r opens w ≡ some bytes
     → Printable bytes
-written-printable b r w bytes h k e = rw (written-is b r w bytes e) (printable b r (w .assignment) h k)
+written-printable b r opens w bytes h k e = rw (written-is b r opens w bytes e) (printable b r opens (w .assignment) h k)

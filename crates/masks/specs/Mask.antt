@@ -23,6 +23,10 @@ unfoldable pub bits : ℕ → ℕ → Booleans
 bits zero n = []
 bits (suc k) n = eqb (n % 2) 1 ∷ bits k (n / 2)
 
+-- those that are not members
+unfoldable pub outside : ℕ → ℕ → Bool
+outside n = λ i. not (getD (bits limit.allBooleans n) i false)
+
 -- every variable
 abbrev pub allBits : ℕ
 allBits = 2 ^ limit.allBooleans - 1

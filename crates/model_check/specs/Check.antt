@@ -11,6 +11,7 @@ use Rattle.rules_types.specs.declared.answers.Checked.the-variants.{Refused}
 use Rattle.rules_types.specs.declared.terms.Terms.{Terms}
 use Rattle.rules_types.specs.Limits as limit
 use Rattle.rules.specs.Problem.{inEdition}
+use Rattle.rules.specs.Model.{isOpen}
 use Rattle.rules.specs.Calls.{sound, read, modelChecked}
 use Rattle.rules.specs.Checker.{checkClauses}
 use Rattle.problem_scan.specs.declared.cursor.Sizes.{Sizes}
@@ -35,7 +36,8 @@ module _ (terms : Terms) {q : List ℕ} {sizes : Sizes} (given : Readable q size
   unfolding modelChecked
   checked-short h = rw (given .is-read, lt-ltb (length s) limit.modelBytes h, modelChecked)
 
-  module _ {back : ModelRead} (long : limit.modelBytes ≤ length s) (read : ReadModel s (sizes .booleans) (sizes .rationals) back) where
+  module _ {back : ModelRead} (long : limit.modelBytes ≤ length s)
+      (read : ReadModel s (sizes .booleans) (sizes .rationals) (isOpen (problemAt q sizes)) back) where
     pub checked-bad : back .sound ≡ false → modelChecked terms q s ≡ Refused refusal.BadModel (back .place)
     unfolding modelChecked reading
     checked-bad e = rw (given .is-read, le-ltb (length s) limit.modelBytes long, read .same, e, modelChecked)

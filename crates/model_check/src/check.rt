@@ -1,6 +1,7 @@
 // The call: "question faults (3 to 13), then ... 2 and 17", then the clauses.
 use crate::failing::check_clauses;
 use models::read::read_model;
+use problem_read::occurring::occurring;
 use problem_read::read::read;
 use problem_scan::cursor::Scan;
 use problem_scan::cursor::Sizes;
@@ -21,7 +22,12 @@ fn check_readable(input: &[u8], bytes: &[u8], sizes: Sizes, terms: Terms) -> Che
     if bytes.len() < Limits::MODEL_BYTES {
         return Checked::Refused(Refusal::ShortModel, 0);
     }
-    let s = read_model(bytes, sizes.booleans, sizes.rationals);
+    let s = read_model(
+        bytes,
+        sizes.booleans,
+        sizes.rationals,
+        occurring(input, sizes),
+    );
     if !s.sound {
         return Checked::Refused(Refusal::BadModel, s.place);
     }

@@ -1,6 +1,6 @@
 -- The parts of a model's bytes, stored one behind the other.
 use mathlib.Core.Path.{_≡_, refl, sym, ap, _∙_}
-use mathlib.Core.Bool.{false}
+use mathlib.Core.Bool.{Bool, false}
 use mathlib.Core.List.{List, [], _∷_, _++_, append-assoc}
 use Prim.Native.Nat.{ℕ, zero, suc, _+_, _-_, _≤_, _<_}
 use native.Mathlib.Numerals.{add-one}
@@ -16,12 +16,15 @@ use Rattle.rules.specs.Meaning.{Assignment}
 use Rattle.theory_lists.specs.Tabulated.{length-tabulate, tabulate-snoc}
 use Rattle.theory_bytes.specs.Bytes.{length-toBytes}
 use Rattle.theory_bytes.specs.Amounts.{length-amountBytes}
-use Rattle.masks.specs.Mask.{bits}
+use Rattle.masks.specs.Mask.{bits, outside}
 use Rattle.fields.specs.Field.{stored, length-stored, stored-++, byte-stored}
 
--- a byte for each of b Boolean variables of a mask
-abbrev pub flagBytes : ℕ → ℕ → List ℕ
-flagBytes b mask = tabulate b (λ i. booleanByte (getD (bits limit.allBooleans mask) i false))
+-- variable i's byte, of those in a mask; and the bytes of b Boolean variables
+abbrev pub flagByte : ℕ → ℕ → ℕ → ℕ
+flagByte mask occurring i = booleanByte (outside occurring i) (getD (bits limit.allBooleans mask) i false)
+
+abbrev pub flagBytes : ℕ → ℕ → ℕ → List ℕ
+flagBytes b mask occurring = tabulate b (flagByte mask occurring)
 
 -- one place more of a function
 pub tabulate-stored : (at i : ℕ) (g : ℕ → ℕ) (s : List ℕ) → at + i < length (stored at (tabulate i g) s) → at ≤ length s
@@ -36,9 +39,9 @@ drop-zeros zero (suc k) = let e : 0 - suc k ≡ 0 = omega arith in ap (λ (m : �
 drop-zeros (suc n) (suc k) = let e : suc n - suc k ≡ n - k = omega arith in drop-zeros n k ∙ ap (λ (m : ℕ). replicate {A = ℕ} m 0) (sym e)
 
 -- ---- all parts, over zeros
-module _ (b r : ℕ) (χ : Assignment) (hb : b ≤ limit.booleans) (hr : r ≤ limit.rationals) where
+module _ (b r : ℕ) (opens : ℕ → Bool) (χ : Assignment) (hb : b ≤ limit.booleans) (hr : r ≤ limit.rationals) where
   abbrev booleans : List ℕ
-  booleans = tabulate b (λ i. booleanByte (χ .booleans i))
+  booleans = tabulate b (λ i. booleanByte (opens i) (χ .booleans i))
 
   abbrev numerators : List ℕ
   numerators = amountBytes (tabulate r (χ .numerators))
@@ -60,13 +63,13 @@ module _ (b r : ℕ) (χ : Assignment) (hb : b ≤ limit.booleans) (hr : r ≤ l
 
   pub encoded-is : stored (layout.modelNumerators b) numerators
       (stored (layout.modelDenominator b) denominator
-      (set (stored layout.modelFlags booleans (set zeros layout.modelBooleans b)) (layout.modelRationals b) r)) ≡ encodeModel b r χ
+      (set (stored layout.modelFlags booleans (set zeros layout.modelBooleans b)) (layout.modelRationals b) r)) ≡ encodeModel b r opens χ
   unfolding encodeModel padded
   encoded-is =
       let two = b ∷ booleans in
       let three = two ++ (r ∷ []) in
       let four = three ++ denominator in
-      let l₂ : length two ≡ layout.modelRationals b = omega (arith, length-tabulate b (λ i. booleanByte (χ .booleans i))) in
+      let l₂ : length two ≡ layout.modelRationals b = omega (arith, length-tabulate b (λ i. booleanByte (opens i) (χ .booleans i))) in
       let l₃ : length three ≡ layout.modelDenominator b = length-append two (r ∷ []) ∙ omega arith in
       let l₄ : length four ≡ layout.modelNumerators b = length-append three denominator
       ∙ omega (arith, length-toBytes 4 (χ .denominator)) in

@@ -8,7 +8,7 @@ use native.Mathlib.Nat.{eq-zero-or-pos, suc-mul}
 use native.Mathlib.Omega.{arith}
 use lib.ListN.{length, drop, getD}
 use Rattle.rules_types.specs.declared.answers.Refusal.the-variants as refusal
-use Rattle.rules.specs.Problem.{Read, fault, got, Reader, after, repeat}
+use Rattle.rules.specs.Problem.{Read, fault, got, Reader, after, each}
 use Rattle.problem_scan.specs.Values.{valuesAt}
 
 -- read up to a place, or 17 at it
@@ -16,41 +16,48 @@ unfoldable pub reading : {A : Type 0} → List ℕ → Bool → ℕ → A → Re
 reading s true place a = got a (drop place s) place
 reading s false place a = fault refusal.BadModel place
 
--- a reader of a field by its test
-pub record Tested {A : Type 0} (s : List ℕ) (one : Reader A) (size : ℕ) (test : ℕ → Bool) (value : ℕ → A) : Type 0 where
-  pub good : (at : ℕ) → at + size ≤ length s → test at ≡ true → one (drop at s) at ≡ got (value at) (drop (at + size) s) (at + size)
-  pub bad : (at : ℕ) → at + size ≤ length s → test at ≡ false → one (drop at s) at ≡ fault refusal.BadModel at
+-- readers of fields by their numbers, each with its test of what stands at a place
+pub record Tested {A : Type 0} (s : List ℕ) (one : ℕ → Reader A) (size : ℕ) (test : ℕ → ℕ → Bool) (value : ℕ → A) : Type 0 where
+  pub good : (i at : ℕ) → at + size ≤ length s → test i at ≡ true → one i (drop at s) at ≡ got (value at) (drop (at + size) s) (at + size)
+  pub bad : (i at : ℕ) → at + size ≤ length s → test i at ≡ false → one i (drop at s) at ≡ fault refusal.BadModel at
 
-module _ {A : Type 0} {s : List ℕ} {one : Reader A} {size : ℕ} {test : ℕ → Bool} {value : ℕ → A}
+module _ {A : Type 0} {s : List ℕ} {one : ℕ → Reader A} {size : ℕ} {test : ℕ → ℕ → Bool} {value : ℕ → A}
     (tested : Tested s one size test value) where
-  -- the test of field j from the second on
-  later : (k at : ℕ) → ((j : ℕ) → j < suc k → test (at + j * size) ≡ true) → (j : ℕ) → j < k → test (at + size + j * size) ≡ true
-  later k at h j l = let e : at + suc j * size ≡ at + size + j * size = omega (arith, suc-mul j size) in rw e at (h (suc j) (omega arith))
+  -- k fields from number i on pass their tests; and so do those behind the first
+  abbrev Pass : ℕ → ℕ → ℕ → Type 0
+  Pass i k at = (j : ℕ) → j < k → test (i + j) (at + j * size) ≡ true
 
-  first : (k at : ℕ) → ((j : ℕ) → j < suc k → test (at + j * size) ≡ true) → test at ≡ true
-  first k at h = let e : at + 0 * size ≡ at = omega arith in rw e at (h 0 (omega arith))
+  later : (i k at : ℕ) → Pass i (suc k) at → Pass (suc i) k (at + size)
+  later i k at h j l =
+      let e : at + suc j * size ≡ at + size + j * size = omega (arith, suc-mul j size) in
+      let n : i + suc j ≡ suc i + j = omega arith in
+      rw (e, n) at (h (suc j) (omega arith))
 
-  pub repeat-good : (k at : ℕ) → at + k * size ≤ length s → ((j : ℕ) → j < k → test (at + j * size) ≡ true)
-      → repeat k one (drop at s) at ≡ reading s true (at + k * size) (valuesAt value size k at)
-  unfolding repeat after reading valuesAt
-  repeat-good zero at h t = let e : at + 0 * size ≡ at = omega arith in rw e
-  repeat-good (suc k) at h t =
+  first : (i k at : ℕ) → Pass i (suc k) at → test i at ≡ true
+  first i k at h = let e : at + 0 * size ≡ at = omega arith in let n : i + 0 ≡ i = omega arith in rw (e, n) at (h 0 (omega arith))
+
+  pub each-good : (k i at : ℕ) → at + k * size ≤ length s → Pass i k at
+      → each i k one (drop at s) at ≡ reading s true (at + k * size) (valuesAt value size k at)
+  unfolding each after reading valuesAt
+  each-good zero i at h t = let e : at + 0 * size ≡ at = omega arith in rw e
+  each-good (suc k) i at h t =
       let e : at + size + k * size ≡ at + suc k * size = omega (arith, suc-mul k size) in
-      rw (tested .good at (omega arith) (first k at t), repeat-good k (at + size) (omega arith) (later k at t), e)
+      rw (tested .good i at (omega arith) (first i k at t), each-good k (suc i) (at + size) (omega arith) (later i k at t), e)
 
-  pub repeat-bad : (i k at : ℕ) → i < k → at + k * size ≤ length s → ((j : ℕ) → j < i → test (at + j * size) ≡ true)
-      → test (at + i * size) ≡ false
-      → repeat k one (drop at s) at ≡ reading s false (at + i * size) (valuesAt value size k at)
-  unfolding repeat after reading
-  repeat-bad i zero at l h t f = absurd (omega arith)
-  repeat-bad zero (suc k) at l h t f =
+  pub each-bad : (n k i at : ℕ) → n < k → at + k * size ≤ length s → Pass i n at → test (i + n) (at + n * size) ≡ false
+      → each i k one (drop at s) at ≡ reading s false (at + n * size) (valuesAt value size k at)
+  unfolding each after reading
+  each-bad n zero i at l h t f = absurd (omega arith)
+  each-bad zero (suc k) i at l h t f =
       let e : at + 0 * size ≡ at = omega arith in
-      rw (e, tested .bad at (omega (arith, suc-mul k size)) (rw e at f))
-  repeat-bad (suc i) (suc k) at l h t f =
-      let e : at + size + i * size ≡ at + suc i * size = omega (arith, suc-mul i size) in
+      let z : i + 0 ≡ i = omega arith in
+      rw (e, tested .bad i at (omega (arith, suc-mul k size)) (rw (e, z) at f))
+  each-bad (suc n) (suc k) i at l h t f =
+      let e : at + size + n * size ≡ at + suc n * size = omega (arith, suc-mul n size) in
+      let z : suc i + n ≡ i + suc n = omega arith in
       rw (
-        tested .good at (omega (arith, suc-mul k size)) (first i at t),
-        repeat-bad i k (at + size) (omega arith) (omega (arith, suc-mul k size)) (later i at t) (rw (sym e) at f),
+        tested .good i at (omega (arith, suc-mul k size)) (first i n at t),
+        each-bad n k (suc i) (at + size) (omega arith) (omega (arith, suc-mul k size)) (later i n at t) (rw (sym e, sym z) at f),
         e,
       )
 

@@ -17,10 +17,11 @@ use Rattle.rules.specs.Problem.{after, repeat, amount, inRange}
 use Rattle.theory_lists.specs.Tests.{clash, of-false}
 use Rattle.theory_lists.specs.All.{getD-replicate-same}
 use Rattle.theory_vectors.specs.Amounts.{Amounts}
+use Rattle.theory_bytes.specs.ReadBack.{repeat-each}
 use Rattle.problem_scan.specs.Fields.{field-good, field-bad}
 use Rattle.problem_scan.specs.Values.{valuesAt, amountAt}
 use Rattle.models.specs.declared.numerators.Row.{Row}
-use Rattle.models.specs.Fields.{reading, Tested, repeat-good, repeat-bad, Filled, filled-none, filled-more, filled-values}
+use Rattle.models.specs.Fields.{reading, Tested, each-good, each-bad, Filled, filled-none, filled-more, filled-values}
 
 pub record ReadNumerators (s : List ℕ) (from count : ℕ) (row : Row) : Type 0 where
   pub same : repeat count (amount refusal.BadModel) (drop from s) from
@@ -28,12 +29,12 @@ pub record ReadNumerators (s : List ℕ) (from count : ℕ) (row : Row) : Type 0
   pub small : Amounts (row .numerators)
   pub values : row .sound ≡ true → (j : ℕ) → getD (row .numerators) j (pos 0) ≡ getD (valuesAt (amountAt s) 4 count from) j (pos 0)
 
-amount-tested : (s : List ℕ) → Tested s (amount refusal.BadModel) 4 (λ at. inRange (amountAt s at)) (amountAt s)
+amount-tested : (s : List ℕ) → Tested s (λ i. amount refusal.BadModel) 4 (λ i at. inRange (amountAt s at)) (amountAt s)
 unfolding amount amountAt after
 amount-tested s =
     record {
-      good = λ at h t. rw (field-good s 4 (λ n. inRange (fromUnsigned n)) refusal.BadModel at h t);
-      bad = λ at h t. rw (field-bad s 4 (λ n. inRange (fromUnsigned n)) refusal.BadModel at h t);
+      good = λ i at h t. rw (field-good s 4 (λ n. inRange (fromUnsigned n)) refusal.BadModel at h t);
+      bad = λ i at h t. rw (field-bad s 4 (λ n. inRange (fromUnsigned n)) refusal.BadModel at h t);
     }
 
 -- ---- the loop: the first i are amounts, and are kept in front of zeros
@@ -68,7 +69,8 @@ module _ {s : List ℕ} {from : ℕ} where
       → ReadNumerators s from count (record { sound = false; place = from + i * 4; numerators = out })
   row-bad {i} {count} {out} f l h z e t =
       record {
-        same = repeat-bad (amount-tested s) i count from l h (f .filled .passed) (ap inRange (sym e) ∙ t);
+        same = rw (repeat-each (amount refusal.BadModel) count 0)
+            (each-bad (amount-tested s) i count 0 from l h (f .filled .passed) (ap inRange (sym e) ∙ t));
         small = amounts f;
         values = λ e. absurd (clash true tt (of-false true (sym e)));
       }
@@ -82,7 +84,7 @@ module _ {s : List ℕ} {from : ℕ} where
   row-done {i} {count} {out} f e h =
       let g : RowTo s from count out = rw e at f in
       record {
-        same = repeat-good (amount-tested s) count from h (g .filled .passed);
+        same = rw (repeat-each (amount refusal.BadModel) count 0) (each-good (amount-tested s) count 0 from h (g .filled .passed));
         small = amounts f;
         values = λ t. filled-values (amountAt s) 4 (pos 0) (λ z. z) count from (g .filled);
       }

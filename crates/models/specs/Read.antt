@@ -14,7 +14,7 @@ use Rattle.rules_types.specs.declared.answers.Refusal.the-variants as refusal
 use Rattle.rules_types.specs.Limits as limit
 use Rattle.rules_types.specs.Layout as layout
 use Rattle.rules.specs.Bytes.{fieldAt}
-use Rattle.rules.specs.Problem.{fault, got, Reader, after, _>>=_, return, repeat, field, amount}
+use Rattle.rules.specs.Problem.{fault, got, Reader, after, _>>=_, return, repeat, each, field, amount}
 use Rattle.rules.specs.Meaning.{Assignment}
 use Rattle.rules.specs.Model.{model}
 use Rattle.theory_lists.specs.Tests.{of-true}
@@ -41,14 +41,14 @@ refused place = record {
 }
 
 -- what the definition reads, and what evaluation asks of a model
-pub record ReadModel (s : List ℕ) (b r : ℕ) (back : ModelRead) : Type 0 where
-  pub same : model b r s 0 ≡ reading s (back .sound) (back .place) (assignment (back .model))
+pub record ReadModel (s : List ℕ) (b r : ℕ) (opens : ℕ → Bool) (back : ModelRead) : Type 0 where
+  pub same : model b r opens s 0 ≡ reading s (back .sound) (back .place) (assignment (back .model))
   pub numerators : Amounts (back .model .numerators)
   pub denominator : (1 ≤ back .model .denominator) × (back .model .denominator ≤ limit.amount)
 
-pub read-refused : (s : List ℕ) (b r place : ℕ) → model b r s 0 ≡ fault refusal.BadModel place → ReadModel s b r (refused place)
+pub read-refused : (s : List ℕ) (b r : ℕ) (opens : ℕ → Bool) (place : ℕ) → model b r opens s 0 ≡ fault refusal.BadModel place → ReadModel s b r opens (refused place)
 unfolding reading refused
-read-refused s b r place e = record { same = e; numerators = zeros-amounts limit.rationals; denominator = (omega arith, omega arith) }
+read-refused s b r opens place e = record { same = e; numerators = zeros-amounts limit.rationals; denominator = (omega arith, omega arith) }
 
 -- ---- a field that is there, and what comes next
 module _ {A : Type 0} (s : List ℕ) (k : ℕ) (good : ℕ → Bool) (f : Refusal) (at : ℕ) (next : ℕ → Reader A) (h : at + k ≤ length s) where
@@ -81,20 +81,20 @@ pub record Sized (s : List ℕ) (b r : ℕ) : Type 0 where
   pub rationals : r ≤ limit.rationals
 
 -- b is the problem's, and the Boolean variables were read
-pub record BooleansRead (s : List ℕ) (b r : ℕ) (flags : Flags) : Type 0 where
+pub record BooleansRead (s : List ℕ) (b r : ℕ) (opens : ℕ → Bool) (flags : Flags) : Type 0 where
   pub sized : Sized s b r
   pub count : getD s layout.modelBooleans 0 ≡ b
-  pub given : ReadBooleans s layout.modelFlags b flags
+  pub given : ReadBooleans s layout.modelFlags b opens flags
 
 -- they are sound, and r is the problem's
-pub record RationalsAhead (s : List ℕ) (b r : ℕ) (flags : Flags) : Type 0 where
-  pub booleans : BooleansRead s b r flags
+pub record RationalsAhead (s : List ℕ) (b r : ℕ) (opens : ℕ → Bool) (flags : Flags) : Type 0 where
+  pub booleans : BooleansRead s b r opens flags
   pub sound : flags .sound ≡ true
   pub count : getD s (layout.modelRationals b) 0 ≡ r
 
 -- the denominator is within its limits, and the numerators were read
-pub record RationalsRead (s : List ℕ) (b r : ℕ) (flags : Flags) (row : Row) : Type 0 where
-  pub ahead : RationalsAhead s b r flags
+pub record RationalsRead (s : List ℕ) (b r : ℕ) (opens : ℕ → Bool) (flags : Flags) (row : Row) : Type 0 where
+  pub ahead : RationalsAhead s b r opens flags
   pub denominator : isDenominator (fieldAt (layout.modelDenominator b) 4 s) ≡ true
   pub given : ReadNumerators s (layout.modelNumerators b) r row
 
@@ -105,39 +105,39 @@ module _ {s : List ℕ} {b r : ℕ} where
   denominator-there : Sized s b r → layout.modelDenominator b + 4 ≤ length s
   denominator-there h = omega (arith, h .long, h .booleans)
 
-  pub booleans-differ : Sized s b r → (getD s layout.modelBooleans 0 ≡ b → ⊥) → model b r s 0 ≡ fault refusal.BadModel layout.modelBooleans
+  pub booleans-differ : (opens : ℕ → Bool) → Sized s b r → (getD s layout.modelBooleans 0 ≡ b → ⊥) → model b r opens s 0 ≡ fault refusal.BadModel layout.modelBooleans
   unfolding model
-  booleans-differ h n = stops s 1 (eqb b) refusal.BadModel layout.modelBooleans _ (omega (arith, h .long))
+  booleans-differ opens h n = stops s 1 (eqb b) refusal.BadModel layout.modelBooleans _ (omega (arith, h .long))
       (rw (fieldAt-1 layout.modelBooleans s (omega (arith, h .long))) (ne-eqb b (getD s layout.modelBooleans 0) (λ e. n (sym e))))
 
-  module _ {flags : Flags} where
-    booleans-on : BooleansRead s b r flags
-        → model b r s 0 ≡ after (repeat b flag (drop layout.modelFlags s) layout.modelFlags) (rationalsOn r)
+  module _ {opens : ℕ → Bool} {flags : Flags} where
+    booleans-on : BooleansRead s b r opens flags
+        → model b r opens s 0 ≡ after (each 0 b (flag opens) (drop layout.modelFlags s) layout.modelFlags) (rationalsOn r)
     unfolding model flag rationalsOn denominatorOn numeratorsAfter isDenominator
     booleans-on h =
         let l : layout.modelBooleans + 1 ≤ length s = omega (arith, h .sized .long) in
         goes s 1 (eqb b) refusal.BadModel layout.modelBooleans _ l
         (rw (fieldAt-1 layout.modelBooleans s l) (eq-eqb b (getD s layout.modelBooleans 0) (sym (h .count))))
 
-    pub boolean-bad : BooleansRead s b r flags → flags .sound ≡ false → model b r s 0 ≡ fault refusal.BadModel (flags .place)
+    pub boolean-bad : BooleansRead s b r opens flags → flags .sound ≡ false → model b r opens s 0 ≡ fault refusal.BadModel (flags .place)
     unfolding reading after
     boolean-bad h e = booleans-on h ∙ rw (h .given .same, e)
 
-    rationals-on : BooleansRead s b r flags → flags .sound ≡ true
-        → model b r s 0 ≡ rationalsOn r (bytesAt s b layout.modelFlags) (drop (layout.modelRationals b) s) (layout.modelRationals b)
+    rationals-on : BooleansRead s b r opens flags → flags .sound ≡ true
+        → model b r opens s 0 ≡ rationalsOn r (bytesAt s b layout.modelFlags) (drop (layout.modelRationals b) s) (layout.modelRationals b)
     unfolding reading after
     rationals-on h e = booleans-on h ∙ rw (h .given .same, e, h .given .end e)
 
-    pub rationals-differ : BooleansRead s b r flags → flags .sound ≡ true → (getD s (layout.modelRationals b) 0 ≡ r → ⊥)
-        → model b r s 0 ≡ fault refusal.BadModel (layout.modelRationals b)
+    pub rationals-differ : BooleansRead s b r opens flags → flags .sound ≡ true → (getD s (layout.modelRationals b) 0 ≡ r → ⊥)
+        → model b r opens s 0 ≡ fault refusal.BadModel (layout.modelRationals b)
     unfolding rationalsOn
     rationals-differ h e n =
         let l = r-there (h .sized) in
         rationals-on h e ∙ stops s 1 (eqb r) refusal.BadModel (layout.modelRationals b) _ (omega arith)
         (rw (fieldAt-1 (layout.modelRationals b) s l) (ne-eqb r (getD s (layout.modelRationals b) 0) (λ e. n (sym e))))
 
-    denominator-on : RationalsAhead s b r flags
-        → model b r s 0 ≡ denominatorOn r (bytesAt s b layout.modelFlags) (drop (layout.modelDenominator b) s) (layout.modelDenominator b)
+    denominator-on : RationalsAhead s b r opens flags
+        → model b r opens s 0 ≡ denominatorOn r (bytesAt s b layout.modelFlags) (drop (layout.modelDenominator b) s) (layout.modelDenominator b)
     unfolding rationalsOn
     denominator-on h =
         let l = r-there (h .booleans .sized) in
@@ -145,14 +145,14 @@ module _ {s : List ℕ} {b r : ℕ} where
         rationals-on (h .booleans) (h .sound) ∙ goes s 1 (eqb r) refusal.BadModel (layout.modelRationals b) _ (omega arith)
         (rw (fieldAt-1 (layout.modelRationals b) s l) (eq-eqb r (getD s (layout.modelRationals b) 0) (sym (h .count)))) ∙ rw e
 
-    pub denominator-bad : RationalsAhead s b r flags → isDenominator (fieldAt (layout.modelDenominator b) 4 s) ≡ false
-        → model b r s 0 ≡ fault refusal.BadModel (layout.modelDenominator b)
+    pub denominator-bad : RationalsAhead s b r opens flags → isDenominator (fieldAt (layout.modelDenominator b) 4 s) ≡ false
+        → model b r opens s 0 ≡ fault refusal.BadModel (layout.modelDenominator b)
     unfolding denominatorOn
     denominator-bad h e = denominator-on h
         ∙ stops s 4 isDenominator refusal.BadModel (layout.modelDenominator b) _ (denominator-there (h .booleans .sized)) e
 
-    module _ {row : Row} (h : RationalsRead s b r flags row) where
-      numerators-on : model b r s 0 ≡ numeratorsAfter r (bytesAt s b layout.modelFlags) (fieldAt (layout.modelDenominator b) 4 s)
+    module _ {row : Row} (h : RationalsRead s b r opens flags row) where
+      numerators-on : model b r opens s 0 ≡ numeratorsAfter r (bytesAt s b layout.modelFlags) (fieldAt (layout.modelDenominator b) 4 s)
           (drop (layout.modelNumerators b) s) (layout.modelNumerators b)
       unfolding denominatorOn
       numerators-on =
@@ -160,12 +160,12 @@ module _ {s : List ℕ} {b r : ℕ} where
           denominator-on (h .ahead) ∙ goes s 4 isDenominator refusal.BadModel (layout.modelDenominator b) _
           (denominator-there (h .ahead .booleans .sized)) (h .denominator) ∙ rw e
 
-      pub numerator-bad : row .sound ≡ false → model b r s 0 ≡ fault refusal.BadModel (row .place)
+      pub numerator-bad : row .sound ≡ false → model b r opens s 0 ≡ fault refusal.BadModel (row .place)
       unfolding numeratorsAfter reading after
       numerator-bad e = numerators-on ∙ rw (h .given .same, e)
 
       pub model-read : row .sound ≡ true
-          → ReadModel s b r (record {
+          → ReadModel s b r opens (record {
             sound = true;
             place = row .place;
             model = record { booleans = flags .mask; numerators = row .numerators; denominator = fieldAt (layout.modelDenominator b) 4 s };

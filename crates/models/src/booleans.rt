@@ -1,10 +1,12 @@
-// "b bytes of 0 or 1" as a set.
+// "b bytes of 0 or 1" as a set, and 02, (iv)'s 2 of the open ones.
+use masks::member;
 use masks::with;
 ghost use mathlib.Core.Path.{_≡_};
 ghost use Prim.Native.Nat.{_+_, _≤_};
 ghost use lib.ListN.{length};
 ghost use Rattle.rules_types.specs.Limits.{allBooleans, booleans};
-ghost use Rattle.masks.specs.Mask.{bits};
+ghost use Rattle.rules.specs.Model.{isBooleanByte};
+ghost use Rattle.masks.specs.Mask.{bits, outside};
 ghost use Rattle.models.specs.Booleans.{joined, ReadBooleans};
 
 // Bit i of the mask: byte i is 1. Where one is refused, its place.
@@ -12,6 +14,16 @@ pub struct Flags {
     pub sound: bool,
     pub place: usize,
     pub mask: u32,
+}
+
+// "The check allows 2 exactly there"
+fn is_boolean_byte(opens: bool, byte: u8) -> bool
+    ensures { λ t. ⌜ t ≡ isBooleanByte opens byte ⌝ }
+{
+    if opens {
+        return byte == 2;
+    }
+    byte <= 1
 }
 
 // With variable i, where its byte is 1.
@@ -24,11 +36,11 @@ fn joined(mask: u32, i: usize, byte: u8) -> u32
     mask
 }
 
-// So many bytes.
-pub fn booleans(s: &[u8], from: usize, count: u8) -> Flags
+// So many bytes; variables that are not occurring are open.
+pub fn booleans(s: &[u8], from: usize, count: u8, occurring: u32) -> Flags
     requires { ⌜ from + count ≤ length (now s) ⌝ }
     requires { ⌜ count ≤ booleans ⌝ }
-    ensures { λ f. ⌜ ReadBooleans (now (s .entry)) from count f ⌝ }
+    ensures { λ f. ⌜ ReadBooleans (now (s .entry)) from count (outside occurring) f ⌝ }
 {
     let end = from + count as usize;
     let mut mask: u32 = 0;
@@ -36,7 +48,7 @@ pub fn booleans(s: &[u8], from: usize, count: u8) -> Flags
     while i < count {
         let at = from + i as usize;
         let byte = s[at];
-        if 1 < byte {
+        if !is_boolean_byte(!member(occurring, i as usize), byte) {
             return Flags {
                 sound: false,
                 place: at,

@@ -13,6 +13,7 @@ ghost use mathlib.Core.Path.{_≡_};
 ghost use Prim.Native.Nat.{_≤_};
 ghost use lib.ListN.{length};
 ghost use Rattle.rules_types.specs.Limits.{booleans, modelBytes, rationals};
+ghost use Rattle.masks.specs.Mask.{outside};
 ghost use Rattle.models.specs.Read.{isDenominator, refused, ReadModel};
 
 // What is read up to a place, or 17 at it, with any model.
@@ -43,17 +44,17 @@ fn is_denominator(n: u64) -> bool
     1 <= n && n <= Limits::AMOUNT
 }
 
-// Of a problem with b Boolean and r rational variables.
-pub fn read_model(s: &[u8], b: u8, r: u8) -> ModelRead
+// Of a problem with b Boolean and r rational variables; those that are not occurring are open.
+pub fn read_model(s: &[u8], b: u8, r: u8, occurring: u32) -> ModelRead
     requires { ⌜ modelBytes ≤ length (now s) ⌝ }
     requires { ⌜ b ≤ booleans ⌝ }
     requires { ⌜ r ≤ rationals ⌝ }
-    ensures { λ back. ⌜ ReadModel (now (s .entry)) b r back ⌝ }
+    ensures { λ back. ⌜ ReadModel (now (s .entry)) b r (outside occurring) back ⌝ }
 {
     if s[MODEL_BOOLEANS] != b {
         return refused(MODEL_BOOLEANS);
     }
-    let flags = booleans(s, MODEL_FLAGS, b);
+    let flags = booleans(s, MODEL_FLAGS, b, occurring);
     if !flags.sound {
         return refused(flags.place);
     }

@@ -1,7 +1,7 @@
--- The variables of a clause's literals, one sign at a time, gathered from the last literal to the first.
+-- The variables of a clause's literals, one sign at a time, gathered from the last literal to the first; and of both signs.
 use mathlib.Core.Path.{_≡_, sym, ap, _∙_}
 use mathlib.Core.Bool.{Bool, true, false, Bool·beq}
-use mathlib.Core.List.{List}
+use mathlib.Core.List.{List, [], _∷_}
 use Prim.Native.Nat.{ℕ, _+_, _-_, _%_, _≤_, _<_}
 use native.Mathlib.Omega.{arith}
 use borrow.Author.Tests.{le-leb, lt-leb}
@@ -72,4 +72,29 @@ module _ {q : List ℕ} {from count left positive negative : ℕ} (run : Gathere
         few = omega (arith, run .few);
         positives = gathered-more q from count left more (run .few) false _ (bits allBooleans p) (run .positives) e;
         negatives = gathered-more q from count left more (run .few) true _ (bits allBooleans n) (run .negatives) f;
+      }
+
+-- ---- the variables of both signs, from the first literal to the last
+unfoldable pub withVariables : List Literal → Booleans → Booleans
+withVariables [] s = s
+withVariables (l ∷ ls) s = withVariables ls (including (l .boolean) s)
+
+-- of `count` literals, `left` are left, from `at` on, and those before them are gathered
+pub record Joining (q : List ℕ) (from count mask at left all : ℕ) : Type 0 where
+  pub end : at + left ≡ from + count
+  pub same : withVariables (valuesAt (literalAt q) 1 left at) (bits allBooleans all)
+      ≡ withVariables (valuesAt (literalAt q) 1 count from) (bits allBooleans mask)
+
+module _ {q : List ℕ} {from count mask at left all : ℕ} (run : Joining q from count mask at left all) where
+  pub joining-done : left ≤ 0 → bits allBooleans all ≡ withVariables (valuesAt (literalAt q) 1 count from) (bits allBooleans mask)
+  unfolding withVariables valuesAt
+  joining-done h = let e : left ≡ 0 = omega arith in rw e at (run .same)
+
+  pub joining-next : 0 < left → (m : ℕ) → bits allBooleans m ≡ including (getD q at 0 % 128) (bits allBooleans all)
+      → Joining q from count mask (at + 1) (left - 1) m
+  unfolding withVariables literalAt
+  joining-next more m e =
+      record {
+        end = omega (arith, run .end);
+        same = rw e (rw (values-next (literalAt q) 1 at left more) at (run .same));
       }

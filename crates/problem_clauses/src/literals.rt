@@ -1,4 +1,4 @@
-// A clause's literals as two sets: the variables of its positive literals, and those of its negative ones.
+// A clause's literals as two sets: the variables of its positive literals, and those of its negative ones; and as one.
 use masks::with;
 ghost use mathlib.Core.Path.{_≡_};
 ghost use mathlib.Core.Bool.{true, false};
@@ -8,7 +8,7 @@ ghost use Rattle.rules_types.specs.Limits.{allBooleans};
 ghost use Rattle.problem_scan.specs.Values.{valuesAt, behind, literalAt};
 ghost use Rattle.masks.specs.Mask.{bits};
 ghost use Rattle.rules.specs.Normalize.{membersOf};
-ghost use Rattle.problem_clauses.specs.Literals.{literalOf, joined};
+ghost use Rattle.problem_clauses.specs.Literals.{literalOf, joined, withVariables};
 
 pub struct Members {
     pub positive: u32,
@@ -49,4 +49,20 @@ pub fn literals(input: &[u8], from: usize, count: u8) -> Members
         l = including(l, input[from + left as usize]);
     }
     l
+}
+
+// Those of a mask, and those of so many literals in either sign.
+pub fn with_variables(mask: u32, input: &[u8], from: usize, count: u8) -> u32
+    requires { ⌜ behind 1 count from ≤ length (now input) ⌝ }
+    ensures { λ m. ⌜ bits allBooleans m ≡ withVariables (valuesAt (literalAt (now (input .entry))) 1 count from) (bits allBooleans mask) ⌝ }
+{
+    let mut all = mask;
+    let mut at = from;
+    let mut left = count;
+    while 0 < left {
+        all = with(all, (input[at] % 128) as usize);
+        at += 1;
+        left -= 1;
+    }
+    all
 }

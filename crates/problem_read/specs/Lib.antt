@@ -3,3 +3,4 @@ pub mod Over
 pub mod Parsed
 pub mod ScanOf
 pub mod Readable
+pub mod Occurring

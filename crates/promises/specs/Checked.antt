@@ -17,9 +17,9 @@ use Rattle.rules_types.specs.declared.limits.Limits.{Limits}
 use Rattle.rules_types.specs.declared.terms.Terms.{Terms}
 use Rattle.rules_types.specs.Limits as limit
 use Rattle.rules.specs.Problem.{Clause, Problem, inEdition, Read, fault, got}
-use Rattle.rules.specs.Meaning.{Assignment, clauseHolds}
+use Rattle.rules.specs.Meaning.{Assignment, clauseHolds, Satisfies}
 use Rattle.rules.specs.Elimination.{loadableOf}
-use Rattle.rules.specs.Model.{model}
+use Rattle.rules.specs.Model.{isOpen, model}
 use Rattle.rules.specs.Checker.{followedLines, checkProof, checkClauses}
 use Rattle.rules.specs.Calls.{faulty, sound, read, wholeSteps, proofChecked, modelChecked}
 use Rattle.theory_lists.specs.Tests.{split, is-true, is-false, clash}
@@ -28,12 +28,13 @@ use Rattle.theory_checks.specs.ModelChecked.{CheckedModel, model-checked-satisf
 use Rattle.theory_splitting.specs.WellFormed.{WellFormed}
 use Rattle.theory_splitting.specs.WellRead.{posed-well-formed}
 use Rattle.theory_bytes.specs.Bytes.{AllBytes}
-use Rattle.theory_layout.specs.Offsets.{FirstBadField}
+use Rattle.theory_layout.specs.Offsets.{StatesModel, FirstBadField}
 use Rattle.theory_layout.specs.Models.{refused-exactly}
 use Rattle.theory_checks.specs.EndsEmpty.{end-accepted}
 use Rattle.theory_checks.specs.LinesFollow.{follow-exactly}
 use Rattle.theory_checks.specs.Writable.{parts-writable}
 use Rattle.promises.specs.Words.{Refutes, WritesAssignment}
+use Rattle.promises.specs.Opens.{open-marks}
 
 accepted-exactly : (p : Problem) → WellFormed p → (bytes : List ℕ) → AllBytes bytes → length bytes / limit.stepBytes ≤ limit.mostSteps
     → checkProof p bytes ≡ Accepted
@@ -93,11 +94,14 @@ module _ (terms : Terms) (input : List ℕ) (q : Problem) (e : read input ≡ so
 
   read-assignment : (bytes : List ℕ) (c : CheckedModel terms input bytes) → c .problem ≡ q → WritesAssignment p bytes
   read-assignment bytes c same =
+      let stated : StatesModel bytes (p .booleans) (p .rationals) (isOpen p) (c .assignment) = rw same at (c .states) in
+      let satisfies : Satisfies (c .assignment) p = rw same at (c .satisfies) in
       record {
         size = c .size;
         assignment = c .assignment;
-        stated = rw same at (c .states);
-        satisfies = rw same at (c .satisfies);
+        stated = stated;
+        satisfies = satisfies;
+        opens = open-marks p (posed-well-formed (terms .edition) input q e) (c .assignment) bytes stated satisfies;
       }
 
   pub model-exactly : (bytes : List ℕ) → modelChecked terms input bytes ≡ Accepted ↔ WritesAssignment p bytes
@@ -119,20 +123,20 @@ module _ (terms : Terms) (input : List ℕ) (q : Problem) (e : read input ≡ so
 
   -- 17, and which field: the first that is not as it must be
   pub model-field-refused : (bytes : List ℕ) → limit.modelBytes ≤ length bytes → (place : ℕ)
-      → modelChecked terms input bytes ≡ Refused BadModel place ↔ FirstBadField bytes (p .booleans) (p .rationals) place
+      → modelChecked terms input bytes ≡ Refused BadModel place ↔ FirstBadField bytes (p .booleans) (p .rationals) (isOpen p) place
   unfolding modelChecked
   model-field-refused bytes h place =
       let w = posed-well-formed (terms .edition) input q e in
-      let x = refused-exactly bytes (p .booleans) (p .rationals) h (w .booleans) (w .rationals) place in (
-        λ a. x .0 (by (model (p .booleans) (p .rationals) bytes 0) refl
+      let x = refused-exactly bytes (p .booleans) (p .rationals) (isOpen p) h (w .booleans) (w .rationals) place in (
+        λ a. x .0 (by (model (p .booleans) (p .rationals) (isOpen p) bytes 0) refl
             (rw (e, modelChecked, le-ltb (length bytes) limit.modelBytes h) at a)),
         λ k. rw (e, modelChecked, le-ltb (length bytes) limit.modelBytes h, x .1 k),
       )
     where
-      by : (m : Read Assignment) → model (p .booleans) (p .rationals) bytes 0 ≡ m
+      by : (m : Read Assignment) → model (p .booleans) (p .rationals) (isOpen p) bytes 0 ≡ m
           → _≡_ {A = Checked} (elim m [ fault f at ↦ Refused f at | got χ rest at ↦ checkClauses χ 0 (p .clauses) ])
           (Refused BadModel place)
-          → model (p .booleans) (p .rationals) bytes 0 ≡ fault BadModel place
+          → model (p .booleans) (p .rationals) (isOpen p) bytes 0 ≡ fault BadModel place
       by (fault f at) m a = let i : f ≡ BadModel = cc in let j : at ≡ place = cc in m ∙ (λ k. fault (i k) (j k))
       by (got χ rest at) m a = absurd (never-refused χ 0 (p .clauses) BadModel place a)
 

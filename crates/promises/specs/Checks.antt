@@ -13,6 +13,7 @@ use Rattle.rules_types.specs.Limits as limit
 use Rattle.rules.specs.Problem.{Problem, inEdition}
 use Rattle.rules.specs.Meaning.{Assignment}
 use Rattle.rules.specs.Elimination.{loadableOf}
+use Rattle.rules.specs.Model.{isOpen}
 use Rattle.rules.specs.Calls.{faulty, sound, read, proofChecked, modelChecked}
 use Rattle.theory_bytes.specs.Bytes.{AllBytes}
 use Rattle.theory_layout.specs.Offsets.{StatesModel, FirstBadField}
@@ -42,12 +43,13 @@ pub record ChecksModel (terms : Terms) (input bytes : List ℕ) (says : Checked)
   pub faultyInput : (f : Refusal) (place : ℕ) → read input ≡ faulty f place → says ≡ Refused f place
   pub short : (p : Problem) → read input ≡ sound p → length bytes < limit.modelBytes → says ≡ Refused ShortModel 0
   pub field : (p : Problem) → read input ≡ sound p → limit.modelBytes ≤ length bytes → (place : ℕ) → (says ≡ Refused BadModel place)
-      ↔ FirstBadField bytes (p .booleans) (p .rationals) place
-  -- "a sheet exactly if every clause holds": the assignment on it satisfies Q
+      ↔ (let posed = inEdition (terms .edition) p in FirstBadField bytes (posed .booleans) (posed .rationals) (isOpen posed) place)
+  -- "a sheet exactly if every clause holds": the assignment on it satisfies Q; 02, (iv), "with either value" where it has a 2
   pub accepted : (p : Problem) → read input ≡ sound p → (says ≡ Accepted) ↔ WritesAssignment (inEdition (terms .edition) p) bytes
   -- "the first clause that fails"
   pub fails : (p : Problem) → read input ≡ sound p → (χ : Assignment) → limit.modelBytes ≤ length bytes
-      → StatesModel bytes (p .booleans) (p .rationals) χ → (n : ℕ) → (says ≡ Fails n)
+      → (let posed = inEdition (terms .edition) p in StatesModel bytes (posed .booleans) (posed .rationals) (isOpen posed) χ)
+      → (n : ℕ) → (says ≡ Fails n)
       ↔ ClauseFails χ (inEdition (terms .edition) p .clauses) n
 
 pub checks-proof : (terms : Terms) → terms .limits .steps ≤ limit.mostSteps → (input proof : List ℕ) → AllBytes proof

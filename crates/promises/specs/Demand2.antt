@@ -24,6 +24,7 @@ use Rattle.rules.specs.Steps.{Step}
 use Rattle.rules.specs.Elimination.{Stops, State, running, orderAfter, orderOf, drops, covered, roundPairs, loadableOf}
 use Rattle.rules.specs.Elimination.{chosenRun, elimination}
 use Rattle.rules.specs.Needs.{stepsOf}
+use Rattle.rules.specs.Model.{isOpen}
 use Rattle.rules.specs.Calls.{sound, read, solve, proofChecked, modelChecked, evidence}
 use Rattle.theory_lists.specs.All.{All, Any}
 use Rattle.theory_lists.specs.Places.{element-all}
@@ -41,6 +42,7 @@ use Rattle.theory_splitting.specs.PartsChosen.{Chosen}
 use Rattle.theory_splitting.specs.SplitProblem.{StepsHold, splitting-keeps}
 use Rattle.theory_splitting.specs.SplitsInto.{SplitsInto, splits-into, clause-splits}
 use Rattle.theory_splitting.specs.Few.{splits-few}
+use Rattle.theory_splitting.specs.Occurs.{open-exactly}
 use Rattle.theory_splitting.specs.WellRead.{posed-well-formed}
 use Rattle.theory_elimination.specs.Sound.{Sound}
 use Rattle.theory_elimination.specs.Origins.{Each, Justified, Fresh, Distinct}
@@ -50,7 +52,7 @@ use Rattle.theory_elimination.specs.Costs.{Costs, costs}
 use Rattle.theory_elimination.specs.InOrder.{InOrder, round-in-order}
 use Rattle.theory_elimination.specs.Exactly.{Exactly}
 use Rattle.theory_elimination.specs.Loaded.{AllLoaded}
-use Rattle.promises.specs.Words.{WholeLines, Refutes, WritesAssignment}
+use Rattle.promises.specs.Words.{WholeLines, Refutes, InNoClause, WritesAssignment}
 use Rattle.theory_elimination.specs.OfProblem.{elimination-lines, elimination-undropped, elimination-distinct, elimination-is}
 use Rattle.theory_elimination.specs.OfProblem.{elimination-only, elimination-parts, elimination-normalized}
 use Rattle.promises.specs.Checked.{model-exactly}
@@ -101,6 +103,8 @@ pub record Demand2 (edition : ℕ) (input : List ℕ) (p : Problem) : Type 0 whe
   pub dropping : (earlier l : Line) → T (drops earlier l) ↔ Subsumes earlier l
   pub covering : (l : Line) (steps : List Step) → T (covered l steps) ↔ Any (λ s. T (drops (s .line) l)) steps
   pub loaded : (stops : Stops) → AllLoaded stops (loadableOf p) (elimination stops p)
+  -- (iv): which Boolean variables are open
+  pub opens : (i : ℕ) → T (isOpen p i) ↔ InNoClause p i
   -- "The check accepts a book exactly if its lines follow and the last is empty, a sheet exactly if every clause holds,"
   pub proof : (limits : Limits) → limits .steps ≤ limit.mostSteps → (bytes : List ℕ) → AllBytes bytes
       → proofChecked (record { limits = limits; edition = edition }) input bytes ≡ Accepted
@@ -134,6 +138,7 @@ demand2 edition input q e = let p = inEdition edition q in record {
   dropping = drops-exactly;
   covering = covered-exactly;
   loaded = elimination-parts p;
+  opens = open-exactly p;
   proof = λ limits few bytes b. accepted-lines (record { limits = limits; edition = edition }) input q e bytes b few;
   model = λ limits. model-exactly (record { limits = limits; edition = edition }) input q e;
 }

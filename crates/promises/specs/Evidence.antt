@@ -17,6 +17,7 @@ use Rattle.rules.specs.Steps.{Step, encodeProof}
 use Rattle.rules.specs.Elimination.{limited, State, running, ended, empty, overflow, outOfSteps, orderOf, elimination}
 use Rattle.rules.specs.Needs.{stepsOf}
 use Rattle.rules.specs.Values.{walk}
+use Rattle.rules.specs.Model.{isOpen}
 use Rattle.rules.specs.Calls.{sound, read, concluded, said, proofAfter, modelAfter, proofChecked}
 use Rattle.theory_lists.specs.All.{All, all-map}
 use Rattle.theory_resolution.specs.Formed.{Formed}
@@ -33,6 +34,7 @@ use Rattle.promises.specs.Decided.{running-satisfies}
 use Rattle.promises.specs.Words.{OurModel, Comes}
 use Rattle.promises.specs.Outcomes.{finished, walkModel, concluded-running, answerOf, finished-unsatisfiable, walk-is, model-is}
 use Rattle.promises.specs.Outcomes.{unstopped-fits}
+use Rattle.promises.specs.Opens.{open-marks}
 use Rattle.promises.specs.Reported.{left, reported-lines, proof-holds}
 
 -- ---- the model
@@ -46,15 +48,17 @@ module _ (limits : Limits) (p : Problem) (w : WellFormed p) where
       let walked = walk (orderOf p) (map (λ s. s .line) steps) in
       let fit = unstopped-fits limits p steps n c in
       let s = running-satisfies p w (limited limits) steps n c in
-      let k = written-fits (p .booleans) (p .rationals) walked bytes (w .booleans) (w .rationals) (s .denominator) q in
+      let k = written-fits (p .booleans) (p .rationals) (isOpen p) walked bytes (w .booleans) (w .rationals) (s .denominator) q in
       let old = drop limit.modelBytes model in
       let same = walk-is limits p w steps n c fit in
+      let m = written-model (p .booleans) (p .rationals) (isOpen p) (walked .assignment) (k .fits) old in
       record {
         rule = (bytes, model-is limits p w steps n c fit ∙ q);
-        written = rw (same, k .is) (written-model (p .booleans) (p .rationals) (walked .assignment) (k .fits) old);
+        written = rw (same, k .is) m;
         beyond = drop-at bytes old limit.modelBytes
-            (rw (k .is) (model-length (p .booleans) (p .rationals) (walked .assignment) (k .fits)));
+            (rw (k .is) (model-length (p .booleans) (p .rationals) (isOpen p) (walked .assignment) (k .fits)));
         satisfies = rw same s;
+        opens = rw (same, k .is) (open-marks p w (walked .assignment) _ (m .states) s);
       }
 
   pub our-model : (proof model : List ℕ) → Comes Satisfiable (answerOf (concluded p (elimination (limited limits) p)))

@@ -17,6 +17,7 @@ use Rattle.rules.specs.Meaning.{Assignment, clauseHolds}
 use Rattle.rules.specs.Lines.{Line}
 use Rattle.rules.specs.Steps.{Step}
 use Rattle.rules.specs.Elimination.{loadableOf}
+use Rattle.rules.specs.Model.{isOpen}
 use Rattle.rules.specs.Checker.{followed, followedLines, withEmptyEnd, checkProof, checkClauses}
 use Rattle.rules.specs.Calls.{sound, read, wholeSteps, proofChecked, modelChecked}
 use Rattle.theory_lists.specs.All.{All}
@@ -107,7 +108,7 @@ module _ (terms : Terms) (input : List ℕ) (q : Problem) (e : read input ≡ so
   p = inEdition (terms .edition) q
 
   pub model-fails : (bytes : List ℕ) (χ : Assignment) → limit.modelBytes ≤ length bytes
-      → StatesModel bytes (p .booleans) (p .rationals) χ
+      → StatesModel bytes (p .booleans) (p .rationals) (isOpen p) χ
       → (k : ℕ) → modelChecked terms input bytes ≡ Fails k ↔ ClauseFails χ (p .clauses) k
   model-fails bytes χ h s k =
       let z : 0 + k ≡ k = omega arith in rw (model-checks terms input bytes q e h χ s) (rw z at (clauses-fail χ (p .clauses) 0 k))

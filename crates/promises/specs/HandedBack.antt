@@ -20,6 +20,7 @@ use Rattle.rules_types.specs.declared.terms.Terms.{Terms}
 use Rattle.rules_types.specs.Limits as limit
 use Rattle.rules_types.specs.Answers.{answerNumber, answerValue}
 use Rattle.rules.specs.Problem.{Problem, inEdition}
+use Rattle.rules.specs.Model.{isOpen}
 use Rattle.rules.specs.Calls.{Reading, faulty, sound, read, Solving, proofChecked, modelChecked}
 use Rattle.theory_lists.specs.Tests.{split}
 use Rattle.theory_layout.specs.WrittenModels.{front-states}
@@ -81,8 +82,8 @@ module _ (terms : Terms) (input proof model : List ℕ) (ours : Solving) (d : De
         length-take-le limit.modelBytes (ours .model) (s .written .room) in
         satisfying-model-checked terms input (take limit.modelBytes (ours .model)) (r .problem) (r .reads) (omega (arith, size))
         (walkOf p .assignment)
-        (front-states (ours .model) (p .booleans) (p .rationals) (w .booleans) (w .rationals) (walkOf p .assignment) (s .written .states))
-        (s .satisfies)
+        (front-states (ours .model) (p .booleans) (p .rationals) (isOpen p) (w .booleans) (w .rationals) (walkOf p .assignment)
+        (s .written .states)) (s .satisfies)
 
     proof-accepted : Comes Unsatisfiable (ours .solved .answer)
         → proofChecked terms input (take (limit.stepBytes * answerValue (ours .solved .answer)) (ours .proof)) ≡ Accepted

@@ -8,6 +8,7 @@ pub mod Unwritten
 pub mod Outcomes
 pub mod Reported
 pub mod First
+pub mod Opens
 pub mod Evidence
 pub mod Checked
 pub mod Failing

@@ -13,7 +13,7 @@ use Rattle.rules.specs.Steps.{Step}
 use Rattle.rules.specs.Elimination.{limited, State, running, ended, empty, overflow, outOfSteps, orderOf, elimination}
 use Rattle.rules.specs.Needs.{stepsOf, Fits}
 use Rattle.rules.specs.Values.{walk}
-use Rattle.rules.specs.Model.{written}
+use Rattle.rules.specs.Model.{isOpen, written}
 use Rattle.rules.specs.Calls.{Outcome, decided, noModel, concluded, said}
 use Rattle.theory_splitting.specs.WellFormed.{WellFormed}
 use Rattle.theory_elimination.specs.Limits.{fits-same, fits-or-stopped, fits-unstopped}
@@ -28,7 +28,7 @@ finished steps n none = decided Unwritten steps n noModel
 finished steps n (some bytes) = decided Satisfiable steps n bytes
 
 abbrev pub walkModel : Problem → List Step → Option (List ℕ)
-walkModel p steps = written (p .booleans) (p .rationals) (walk (orderOf p) (map (λ s. s .line) steps))
+walkModel p steps = written (p .booleans) (p .rationals) (isOpen p) (walk (orderOf p) (map (λ s. s .line) steps))
 
 pub concluded-running : (p : Problem) (steps : List Step) (n : ℕ) → concluded p (running steps n) ≡ finished steps n (walkModel p steps)
 unfolding concluded
@@ -86,7 +86,7 @@ module _ (limits : Limits) (p : Problem) (w : WellFormed p) where
   pub model-is : (steps : List Step) (n : ℕ) → elimination (limited limits) p ≡ running steps n → Fits limits p
       → modelOf p ≡ walkModel p steps
   unfolding modelOf
-  model-is steps n e f = ap (written (p .booleans) (p .rationals)) (walk-is steps n e f)
+  model-is steps n e f = ap (written (p .booleans) (p .rationals) (isOpen p)) (walk-is steps n e f)
 
   unsatisfiable-by : (s : State) → elimination (limited limits) p ≡ s → Fits limits p → Comes Unsatisfiable (answer s) ↔ NoAssignment p
   unfolding concluded said

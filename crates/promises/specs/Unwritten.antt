@@ -18,7 +18,7 @@ use Rattle.rules.specs.Problem.{Problem}
 use Rattle.rules.specs.Elimination.{roundOf, orderOf, unlimited, elimination}
 use Rattle.rules.specs.Needs.{stepsOf}
 use Rattle.rules.specs.Values.{Fraction, beyond, Gathered, gather, rationalValue, exceeds, Walked, walkFrom, walk}
-use Rattle.rules.specs.Model.{tooLarge, encodeModel, written}
+use Rattle.rules.specs.Model.{isOpen, tooLarge, encodeModel, written}
 use Rattle.theory_lists.specs.Tests.{split, of-true, or-l, or-r, or-else, is-true}
 use Rattle.theory_lists.specs.All.{Any, any-map, any-yes, yes-any}
 use Rattle.theory_elimination.specs.Saturated.{lines}
@@ -112,14 +112,14 @@ too-large r χ =
     either (ltb limit.amount (χ .denominator)) (any (λ z. ltb limit.amount (natAbs z)) (tabulate r (χ .numerators)))
     (less limit.amount (χ .denominator)) (numerators-large r (χ .numerators))
 
-pub unwritten-is : (b r : ℕ) (variables : List Variable) (lines : List Line)
-    → (written b r (walk variables lines) ≡ none) ↔ SaysUnwritten r variables lines
+pub unwritten-is : (b r : ℕ) (opens : ℕ → Bool) (variables : List Variable) (lines : List Line)
+    → (written b r opens (walk variables lines) ≡ none) ↔ SaysUnwritten r variables lines
 unfolding written walk
-unwritten-is b r variables lines =
+unwritten-is b r opens variables lines =
     let w = walk variables lines in
     let test = w .exceeded || tooLarge r (w .assignment) in
     let e = either (w .exceeded) (tooLarge r (w .assignment)) (walk-exceeds variables lines 0 variables) (too-large r (w .assignment)) in
-    (λ h. e .0 (by test (encodeModel b r (w .assignment)) h), λ h. rw (is-true test (e .1 h), written))
+    (λ h. e .0 (by test (encodeModel b r opens (w .assignment)) h), λ h. rw (is-true test (e .1 h), written))
   where
     by : (t : Bool) (bytes : List ℕ) → _≡_ {A = Option (List ℕ)} (elim t [ true ↦ none | false ↦ some bytes ]) none → T t
     by true bytes h = tt
@@ -131,4 +131,4 @@ RuleSaysSo p = SaysUnwritten (p .rationals) (orderOf p) (lines (stepsOf (elimina
 
 pub rule-says-so : (p : Problem) → (modelOf p ≡ none) ↔ RuleSaysSo p
 unfolding modelOf walkOf
-rule-says-so p = unwritten-is (p .booleans) (p .rationals) (orderOf p) (lines (stepsOf (elimination unlimited p)))
+rule-says-so p = unwritten-is (p .booleans) (p .rationals) (isOpen p) (orderOf p) (lines (stepsOf (elimination unlimited p)))

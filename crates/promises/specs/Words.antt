@@ -1,6 +1,7 @@
 -- The words of the demands, for their statements.
 use mathlib.Core.Path.{_≡_}
-use mathlib.Core.Logic.{_⊎_}
+use mathlib.Core.Logic.{_↔_, _⊎_}
+use mathlib.Core.Bool.{Bool, cond}
 use mathlib.Core.List.{List, [], _∷_, map}
 use mathlib.Core.Option.{Option, none, some}
 use Prim.Native.Nat.{ℕ, _+_, _*_, _≤_, _<_}
@@ -20,9 +21,10 @@ use Rattle.rules.specs.Steps.{Step}
 use Rattle.rules.specs.Elimination.{Stops, End, limited, unlimited, orderOf, elimination}
 use Rattle.rules.specs.Needs.{stepsOf}
 use Rattle.rules.specs.Values.{Walked, walk}
-use Rattle.rules.specs.Model.{written}
+use Rattle.rules.specs.Model.{isOpen, written}
 use Rattle.rules.specs.Calls.{Solving}
 use Rattle.theory_layout.specs.Offsets.{HoldsSteps, ModelAt, StatesModel}
+use Rattle.theory_splitting.specs.Occurs.{Stands}
 use Rattle.theory_elimination.specs.Events.{Event}
 use Rattle.theory_elimination.specs.Cut.{stopAt}
 use Rattle.theory_checks.specs.LinesFollow.{LinesFollow}
@@ -38,7 +40,7 @@ walkOf p = walk (orderOf p) (map (λ s. s .line) (stepsOf (elimination unlimited
 
 -- what the rule gives for Q: a model, or none where it says "unwritten"
 unfoldable pub modelOf : Problem → Option (List ℕ)
-modelOf p = written (p .booleans) (p .rationals) (walkOf p)
+modelOf p = written (p .booleans) (p .rationals) (isOpen p) (walkOf p)
 
 -- "gives a sheet"
 abbrev pub GivesModel : Problem → Type 0
@@ -75,19 +77,40 @@ pub record HoldsLines (limits : Limits) (p : Problem) (proof lentProof : List �
       → fieldAt (64 * i + (16 + 4 * f)) 4 proof ≡ 0
   pub beyond : drop (limit.proofBytes limits) proof ≡ drop (limit.proofBytes limits) lentProof
 
+-- ---- 02, (iv)
+-- "a mark that stands in no clause as read": no literal of any clause as written has it
+abbrev pub InNoClause : Problem → ℕ → Type 0
+InNoClause p i = Stands i (p .clauses) → ⊥
+
+-- an assignment with other values of the open Boolean variables
+unfoldable pub choosing : Problem → (ℕ → Bool) → Assignment → Assignment
+choosing p choice χ =
+    record {
+      booleans = λ i. cond (isOpen p i) (choice i) (χ .booleans i);
+      numerators = χ .numerators;
+      denominator = χ .denominator;
+    }
+
+-- "2 exactly there"; "satisfies the question with either value": of each open one, in every combination
+pub record OpenMarks (p : Problem) (bytes : List ℕ) (χ : Assignment) : Type 0 where
+  pub two : (i : ℕ) → i < p .booleans → (fieldAt (1 + i) 1 bytes ≡ 2) ↔ InNoClause p i
+  pub either : (choice : ℕ → Bool) → Satisfies (choosing p choice χ) p
+
 -- "ours is that sheet, and the choice on it satisfies Q": `ours` is what solving leaves, `lentModel` what the lent model held before
 pub record OurModel (p : Problem) (ours : Solving) (lentModel : List ℕ) : Type 0 where
   pub rule : GivesModel p
-  pub written : ModelAt (ours .model) (p .booleans) (p .rationals) (walkOf p .assignment)
+  pub written : ModelAt (ours .model) (p .booleans) (p .rationals) (isOpen p) (walkOf p .assignment)
   pub beyond : drop limit.modelBytes (ours .model) ≡ drop limit.modelBytes lentModel
   pub satisfies : Satisfies (walkOf p .assignment) p
+  pub opens : OpenMarks p (ours .model) (walkOf p .assignment)
 
 -- "every clause holds": bytes enough for a model, and the assignment that they state satisfies Q
 pub record WritesAssignment (p : Problem) (bytes : List ℕ) : Type 0 where
   pub size : limit.modelBytes ≤ length bytes
   pub assignment : Assignment
-  pub stated : StatesModel bytes (p .booleans) (p .rationals) assignment
+  pub stated : StatesModel bytes (p .booleans) (p .rationals) (isOpen p) assignment
   pub satisfies : Satisfies assignment p
+  pub opens : OpenMarks p bytes assignment
 
 -- "64 to 65,536 by 64s": bytes of k whole lines, no more than the limit
 pub record WholeLines (limits : Limits) (bytes k : ℕ) : Type 0 where

@@ -24,7 +24,7 @@ use Rattle.rules.specs.Split.{overSplit}
 use Rattle.rules.specs.Steps.{Step, encodeProof}
 use Rattle.rules.specs.Elimination.{State, running, ended, empty, overflow, outOfSteps, orderOf, limited, elimination}
 use Rattle.rules.specs.Values.{walk}
-use Rattle.rules.specs.Model.{written, model}
+use Rattle.rules.specs.Model.{isOpen, written, model}
 use Rattle.rules.specs.Checker.{checkProof, checkClauses}
 
 -- ---- a problem, or its first fault 3 to 13; 18, too: "wherever 3 to 13 are named, it is one of them"
@@ -61,7 +61,7 @@ concluded p (ended overflow steps pairs) = stopped refusal.Overflow (length step
 concluded p (ended outOfSteps steps pairs) = stopped refusal.OutOfSteps (length steps) pairs
 concluded p (ended empty steps pairs) = decided Unsatisfiable steps pairs noModel
 concluded p (running steps pairs) =
-    elim (written (p .booleans) (p .rationals) (walk (orderOf p) (map (λ s. s .line) steps))) [
+    elim (written (p .booleans) (p .rationals) (isOpen p) (walk (orderOf p) (map (λ s. s .line) steps))) [
       | none ↦ decided Unwritten steps pairs noModel
       | some bytes ↦ decided Satisfiable steps pairs bytes
     ]
@@ -135,10 +135,12 @@ modelChecked terms input bytes =
       | faulty f place ↦ checked.Refused f place
       | sound p ↦ elim (ltb (length bytes) limit.modelBytes) [
         | true ↦ checked.Refused refusal.ShortModel 0
-        | false ↦ elim (model (p .booleans) (p .rationals) bytes 0) [
-          | fault f place ↦ checked.Refused f place
-          | got χ rest place ↦ checkClauses χ 0 (inEdition (terms .edition) p .clauses)
-        ]
+        | false ↦
+            let posed = inEdition (terms .edition) p in
+            elim (model (posed .booleans) (posed .rationals) (isOpen posed) bytes 0) [
+              | fault f place ↦ checked.Refused f place
+              | got χ rest place ↦ checkClauses χ 0 (posed .clauses)
+            ]
       ]
     ]
 

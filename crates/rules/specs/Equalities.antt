@@ -1,5 +1,4 @@
 -- Request (i): questions with = and ≥ on which wrong readings answer otherwise. `starred` has them in its table.
-use mathlib.Core.Bool.{true, false}
 use mathlib.Core.List.{List, [], _∷_, _++_}
 use lib.IntN.{ℤ, pos, negsuc}
 use Rattle.rules_types.specs.declared.answers.Refusal.the-variants as refusal
@@ -22,7 +21,7 @@ equality = record {
 abbrev constantHalf : ℤ → Example
 constantHalf bound = record {
   input = problemOf 1 1 (clauseOf (0 ∷ []) (equals (pos 0 ∷ []) bound ∷ []) ∷ []);
-  shows = satisfiable 1 0 (loaded 0 0 ∷ []) (true ∷ []) (pos 0 ∷ []) 1;
+  shows = satisfiable 1 0 (loaded 0 0 ∷ []) (1 ∷ []) (pos 0 ∷ []) 1;
 }
 
 -- 0 = 5 or x ≤ 3 or y ≤ 2
@@ -90,7 +89,7 @@ secondDropped = record {
 abbrev neitherLoaded : Example
 neitherLoaded = record {
   input = problemOf 1 1 (clauseOf (0 ∷ 128 ∷ []) (equals (pos 1 ∷ []) (pos 5) ∷ []) ∷ []);
-  shows = satisfiable 0 0 [] (false ∷ []) (pos 0 ∷ []) 1;
+  shows = satisfiable 0 0 [] (0 ∷ []) (pos 0 ∷ []) 1;
 }
 
 -- "with all signs turned": 2x + 2y = 4; x - y ≥ 1

@@ -1,7 +1,6 @@
--- Document 01's starred examples 1 to 10, each variant; example 12 and questions that tell readings of requests (vii), (viii) and, in
--- Equalities, (i) apart; computed from the problem's bytes.
+-- Document 01's starred examples 1 to 10, each variant; example 12 and questions that tell readings of requests (vii), (viii), in
+-- Equalities (i) and in OpenMarks (iv) apart; computed from the problem's bytes.
 use mathlib.Core.Path.{_≡_, refl}
-use mathlib.Core.Bool.{true, false}
 use mathlib.Core.List.{List, [], _∷_, _++_, map}
 use Prim.Native.Nat.{ℕ, _+_, _*_}
 use lib.IntN.{ℤ, pos, negsuc, negℤ}
@@ -15,6 +14,7 @@ use Rattle.rules.specs.Print.{ascii, printed}
 use Rattle.rules.specs.Write.{atMost, below, clauseOf, alone, problemOf}
 use Rattle.rules.specs.Compute.{definitions, Example, bare, satisfiable, unsatisfiable, shown}
 use Rattle.rules.specs.Equalities.{equalities}
+use Rattle.rules.specs.OpenMarks.{openMarks}
 
 -- 1. Bytes 0 0 0 0: agrees, 0, 0.
 abbrev one : Example
@@ -86,7 +86,7 @@ nine =
     record {
       input = problemOf 1 1
           (clauseOf (0 ∷ []) (atMost (pos 1 ∷ []) (pos 0) ∷ atMost (negsuc 0 ∷ []) (negsuc 4) ∷ []) ∷ clauseOf (128 ∷ []) [] ∷ []);
-      shows = satisfiable 3 1 (loaded 0 0 ∷ loaded 0 1 ∷ loaded 1 0 ∷ []) (false ∷ []) (pos 0 ∷ []) 1;
+      shows = satisfiable 3 1 (loaded 0 0 ∷ loaded 0 1 ∷ loaded 1 0 ∷ []) (0 ∷ []) (pos 0 ∷ []) 1;
     }
 
 -- 10. 1,000,000,000x + 3y ≤ 0; -999,999,999x + z ≤ 0: 14, 2, 1. With y for 3y: agrees, 3, 1.
@@ -204,7 +204,7 @@ abbrev allKinds : Example
 allKinds =
     record {
       input = problemOf 1 2 (xy (pos 0) (pos 1) minus ∷ clauseOf (0 ∷ []) (below (pos 1 ∷ minus ∷ []) minus ∷ []) ∷ []);
-      shows = satisfiable 2 0 (loadedOnly 2) (false ∷ []) (negsuc 2 ∷ minus ∷ []) 1;
+      shows = satisfiable 2 0 (loadedOnly 2) (0 ∷ []) (negsuc 2 ∷ minus ∷ []) 1;
     }
 
 -- a book names the figure, not its turn: y ≤ -1; -y ≤ 0. y costs -1 and x, which stands in no line, 0
@@ -221,7 +221,7 @@ abbrev subsets : Example
 subsets =
     record {
       input = problemOf 3 0 (clauseOf (0 ∷ 1 ∷ []) [] ∷ clauseOf (0 ∷ []) [] ∷ clauseOf (0 ∷ 130 ∷ []) [] ∷ []);
-      shows = satisfiable 2 0 (loadedOnly 2) (true ∷ false ∷ false ∷ []) [] 1;
+      shows = satisfiable 2 0 (loadedOnly 2) (1 ∷ 0 ∷ 0 ∷ []) [] 1;
     }
 
 -- "in each sign": a; not a or b. The first does not drop the second, nor the second their resolvent b
@@ -229,7 +229,7 @@ abbrev eachSign : Example
 eachSign =
     record {
       input = problemOf 2 0 (clauseOf (0 ∷ []) [] ∷ clauseOf (128 ∷ 1 ∷ []) [] ∷ []);
-      shows = satisfiable 3 1 (loaded 0 0 ∷ loaded 1 0 ∷ resolved (boolean 0) 0 1 ∷ []) (true ∷ true ∷ []) [] 1;
+      shows = satisfiable 3 1 (loaded 0 0 ∷ loaded 1 0 ∷ resolved (boolean 0) 0 1 ∷ []) (1 ∷ 1 ∷ []) [] 1;
     }
 
 -- "either no condition": a; a or x ≤ 1; b or x ≤ 1; b. The first drops the second, the third, which has one, not the fourth, which has none
@@ -238,7 +238,7 @@ bareLines =
     record {
       input = problemOf 2 1 (clauseOf (0 ∷ []) [] ∷ clauseOf (0 ∷ []) (atMost (pos 1 ∷ []) (pos 1) ∷ [])
           ∷ clauseOf (1 ∷ []) (atMost (pos 1 ∷ []) (pos 1) ∷ []) ∷ clauseOf (1 ∷ []) [] ∷ []);
-      shows = satisfiable 3 0 (loaded 0 0 ∷ loaded 2 0 ∷ loaded 3 0 ∷ []) (true ∷ true ∷ []) (pos 0 ∷ []) 1;
+      shows = satisfiable 3 0 (loaded 0 0 ∷ loaded 2 0 ∷ loaded 3 0 ∷ []) (1 ∷ 1 ∷ []) (pos 0 ∷ []) 1;
     }
 
 abbrev xyBelow : ℤ → ℤ → ℤ → List ℕ
@@ -297,7 +297,7 @@ byResolvents =
     record {
       input = problemOf 4 0
           (clauseOf (0 ∷ []) [] ∷ clauseOf (128 ∷ 2 ∷ []) [] ∷ clauseOf (1 ∷ 3 ∷ []) [] ∷ clauseOf (129 ∷ 2 ∷ []) [] ∷ []);
-      shows = satisfiable 5 2 (loadedOnly 4 ++ (resolved (boolean 0) 0 1 ∷ [])) (true ∷ true ∷ true ∷ false ∷ []) [] 1;
+      shows = satisfiable 5 2 (loadedOnly 4 ++ (resolved (boolean 0) 0 1 ∷ [])) (1 ∷ 1 ∷ 1 ∷ 0 ∷ []) [] 1;
     }
 
 -- a resolvent that is dropped had its pair: x + y ≤ 5; y ≤ 2; -x ≤ 0; -y ≤ 0. The resolvent by x is y ≤ 5
@@ -336,7 +336,7 @@ table =
     ∷ allKinds ∷ named
     ∷ subsets ∷ eachSign ∷ bareLines ∷ smaller ∷ asStrict ∷ asNormalized ∷ partsToo ∷ splitVariables
     ∷ byResolvents ∷ pairsCount ∷ overflowFirst
-    ∷ twelve 24 ∷ twelve 25 ∷ equalities
+    ∷ twelve 24 ∷ twelve 25 ∷ (equalities ++ openMarks)
 
 -- the tabled result
 pub starred : map (λ e. shown (e .input)) table ≡ map (λ e. e .shows) table

@@ -78,6 +78,14 @@ module _ {A : Type 0} where
     xs ← repeat k one
     return (x ∷ xs)
 
+  -- k of them by their numbers, from i on
+  unfoldable pub each : ℕ → ℕ → (ℕ → Reader A) → Reader (List A)
+  each i zero one = return []
+  each i (suc k) one = do
+    x ← one i
+    xs ← each (suc i) k one
+    return (x ∷ xs)
+
 -- 4: "question ends before a field is complete; its length"
 unfoldable pub byte : Reader ℕ
 byte [] place = fault refusal.Truncated place

@@ -11,7 +11,7 @@ use Rattle.rules.specs.Steps.{Step}
 use Rattle.rules.specs.Elimination.{State, running, ended, empty, overflow, outOfSteps, orderOf}
 use Rattle.rules.specs.Needs.{stepsOf, pairsOf}
 use Rattle.rules.specs.Values.{walk}
-use Rattle.rules.specs.Model.{written}
+use Rattle.rules.specs.Model.{isOpen, written}
 use Rattle.rules.specs.Calls.{Outcome, stopped, decided, noModel, concluded}
 use Rattle.placing.specs.declared.point.Progress.{Progress}
 use Rattle.placing.specs.declared.point.Progress.the-variants.{Running, Empty, Overflow, OutOfSteps}
@@ -24,7 +24,7 @@ module _ (p : Problem) where
   finished s (some bytes) = decided Satisfiable (stepsOf s) (pairsOf s) bytes
 
   abbrev pub modelOf : List Step → Option (List ℕ)
-  modelOf steps = written (p .booleans) (p .rationals) (walk (orderOf p) (map (λ s. s .line) steps))
+  modelOf steps = written (p .booleans) (p .rationals) (isOpen p) (walk (orderOf p) (map (λ s. s .line) steps))
 
   abbrev pub Concludes : State → Progress → Type 0
   Concludes s Overflow = concluded p s ≡ stopped refusal.Overflow (length (stepsOf s)) (pairsOf s)

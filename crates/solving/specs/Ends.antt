@@ -1,5 +1,6 @@
 -- What the functions for the ends of an elimination say and leave.
 use mathlib.Core.Path.{_≡_}
+use mathlib.Core.Bool.{Bool}
 use mathlib.Core.List.{List, _++_}
 use mathlib.Core.Option.{Option, none, some}
 use Prim.Native.Nat.{ℕ}
@@ -40,5 +41,6 @@ abbrev pub WrittenBy : Option (List ℕ) → Point → List ℕ → List ℕ →
 WrittenBy none c model after s = WithoutModel c model after s
 WrittenBy (some bytes) c model after s = WithModel c bytes model after s
 
-abbrev pub Written : ℕ → ℕ → List Variable → Point → List ℕ → List ℕ → List ℕ → Solved → Type 0
-Written b r variables c proof model after s = WrittenBy (written b r (walk variables (linesIn proof (c .steps)))) c model after s
+abbrev pub Written : ℕ → ℕ → (ℕ → Bool) → List Variable → Point → List ℕ → List ℕ → List ℕ → Solved → Type 0
+Written b r opens variables c proof model after s =
+    WrittenBy (written b r opens (walk variables (linesIn proof (c .steps)))) c model after s

@@ -20,7 +20,7 @@ use Rattle.rules.specs.Elimination.{State, running, ended, empty, overflow, out
 use Rattle.rules.specs.Elimination.{elimination}
 use Rattle.rules.specs.Needs.{stepsOf, pairsOf}
 use Rattle.rules.specs.Values.{walk}
-use Rattle.rules.specs.Model.{written}
+use Rattle.rules.specs.Model.{isOpen, written}
 use Rattle.rules.specs.Calls.{stopped, decided, noModel, concluded, said, proofAfter, modelAfter}
 use Rattle.theory_lists.specs.All.{all-map}
 use Rattle.theory_splitting.specs.WellFormed.{WellFormed}
@@ -142,16 +142,16 @@ module _ {limits : Limits} {p : Problem} (w : WellFormed p) {before after : List
     leaves-empty h = leaves-decided Unsatisfiable noModel (zeroModel model) (concludes-at Empty h) no-model
 
     pub leaves-saturated : (filled : List ℕ) (s : Solved) → c .progress ≡ Running
-        → Written (p .booleans) (p .rationals) (orderOf p) c after model filled s
+        → Written (p .booleans) (p .rationals) (isOpen p) (orderOf p) c after model filled s
         → Leaves limits (concluded p state) before model (zeroed (c .steps) (limits .steps) after) filled s
-    leaves-saturated filled s h = by (written (p .booleans) (p .rationals) (walk (orderOf p) (linesIn after (c .steps)))) refl
+    leaves-saturated filled s h = by (written (p .booleans) (p .rationals) (isOpen p) (walk (orderOf p) (linesIn after (c .steps)))) refl
       where
-        concludes : (o : Option (List ℕ)) → written (p .booleans) (p .rationals) (walk (orderOf p) (linesIn after (c .steps))) ≡ o
+        concludes : (o : Option (List ℕ)) → written (p .booleans) (p .rationals) (isOpen p) (walk (orderOf p) (linesIn after (c .steps))) ≡ o
             → concluded p state ≡ finished p state o
         concludes o f =
-            concludes-at Running h o (sym (ap (λ ls. written (p .booleans) (p .rationals) (walk (orderOf p) ls)) (e .lines)) ∙ f)
+            concludes-at Running h o (sym (ap (λ ls. written (p .booleans) (p .rationals) (isOpen p) (walk (orderOf p) ls)) (e .lines)) ∙ f)
 
-        by : (o : Option (List ℕ)) → written (p .booleans) (p .rationals) (walk (orderOf p) (linesIn after (c .steps))) ≡ o
+        by : (o : Option (List ℕ)) → written (p .booleans) (p .rationals) (isOpen p) (walk (orderOf p) (linesIn after (c .steps))) ≡ o
             → WrittenBy o c model filled s
             → Leaves limits (concluded p state) before model (zeroed (c .steps) (limits .steps) after) filled s
         by none f g = rw (g .said) (leaves-decided Unwritten noModel filled (concludes none f) (g .left ∙ no-model))

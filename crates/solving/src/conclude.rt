@@ -18,6 +18,7 @@ ghost use Rattle.theory_saturation.specs.Order.{Ordered};
 ghost use Rattle.lines.specs.Order.{variablesOf};
 ghost use Rattle.steps.specs.Places.{zeroed};
 ghost use Rattle.steps.specs.Lines.{ReadyLines};
+ghost use Rattle.masks.specs.Mask.{outside};
 ghost use Rattle.walk.specs.Narrow.{Narrow};
 ghost use Rattle.solving.specs.Ends.{refusedBy, decidedBy, zeroModel, Written};
 
@@ -63,10 +64,11 @@ pub fn without_model(
     decided(v, c)
 }
 
-// "Without an empty line, turns are walked backwards."
+// "Without an empty line, turns are walked backwards." Variables that are not occurring are open.
 pub fn saturated(
     b: u8,
     r: u8,
+    occurring: u32,
     proof: &mut [u8],
     model: &mut [u8],
     run: Run,
@@ -80,7 +82,7 @@ pub fn saturated(
     requires { ⌜ ReadyLines (now proof) (run .end .steps) ⌝ }
     requires { ⌜ Narrow (now proof) (run .end .steps) r ⌝ }
     requires { ⌜ Ordered (variablesOf (run .order)) ⌝ }
-    ensures { λ s. ⌜ Written b r (variablesOf (run .order)) (run .end) (now (proof .entry)) (now (model .entry)) (now (model .exit)) s ⌝ }
+    ensures { λ s. ⌜ Written b r (outside occurring) (variablesOf (run .order)) (run .end) (now (proof .entry)) (now (model .entry)) (now (model .exit)) s ⌝ }
     ensures { λ _. ⌜ now (proof .exit) ≡ zeroed (run .end .steps) (limits .steps) (now (proof .entry)) ⌝ }
 {
     let c = run.end;
@@ -91,6 +93,6 @@ pub fn saturated(
     }
     let m = w.model;
     zero(proof, c.steps, limits.steps as usize);
-    write_model(model, b, r, m);
+    write_model(model, b, r, occurring, m);
     decided(Verdict::Satisfiable, c)
 }

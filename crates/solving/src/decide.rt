@@ -4,6 +4,7 @@ use crate::conclude::saturated;
 use crate::conclude::without_model;
 use elimination::eliminate::eliminate;
 use placing::point::Progress;
+use problem_read::occurring::occurring;
 use problem_scan::cursor::Sizes;
 use rules_types::answers::Refusal;
 use rules_types::answers::Solved;
@@ -40,6 +41,17 @@ pub fn decide(
         Progress::Overflow => refuse(proof, Refusal::Overflow, c, limits),
         Progress::OutOfSteps => refuse(proof, Refusal::OutOfSteps, c, limits),
         Progress::Empty => without_model(proof, model, Verdict::Unsatisfiable, c, limits),
-        Progress::Running => saturated(sizes.booleans, sizes.rationals, proof, model, run, limits),
+        Progress::Running => {
+            let used = occurring(input, sizes);
+            saturated(
+                sizes.booleans,
+                sizes.rationals,
+                used,
+                proof,
+                model,
+                run,
+                limits,
+            )
+        }
     }
 }

@@ -1,5 +1,5 @@
--- A model reads back: its 64 bytes give an assignment that agrees with the written one on the problem's variables, and has its
--- denominator.
+-- A model reads back: its 64 bytes give an assignment that agrees with the written one on the problem's variables, but for the open ones,
+-- and has its denominator.
 use mathlib.Core.Path.{_≡_, refl}
 use mathlib.Core.Bool.{Bool, true, false, cond, _&&_}
 use mathlib.Core.List.{List, _∷_, _++_, append-assoc}
@@ -13,12 +13,12 @@ use Rattle.rules_types.specs.declared.answers.Refusal.the-variants as refusal
 use Rattle.rules_types.specs.Limits as limit
 use Rattle.rules.specs.Lists.{tabulate}
 use Rattle.rules.specs.Bytes.{toBytes, amountBytes, padded}
-use Rattle.rules.specs.Problem.{after, repeat, field, amount}
+use Rattle.rules.specs.Problem.{after, repeat, each, field, amount}
 use Rattle.rules.specs.Meaning.{Assignment}
-use Rattle.rules.specs.Model.{booleanByte, encodeModel, model}
+use Rattle.rules.specs.Model.{booleanByte, isBooleanByte, encodeModel, model}
 use Rattle.theory_lists.specs.All.{All}
-use Rattle.theory_lists.specs.Tabulated.{length-tabulate, getD-tabulate, all-tabulate}
-use Rattle.theory_vectors.specs.Amounts.{Small}
+use Rattle.theory_lists.specs.Tabulated.{length-tabulate, getD-tabulate}
+use Rattle.theory_vectors.specs.Amounts.{Small, small-amounts}
 use Rattle.theory_bytes.specs.Bytes.{length-toBytes, length-padded}
 use Rattle.theory_bytes.specs.Amounts.{length-amountBytes}
 use Rattle.theory_bytes.specs.ReadBack.{Reads, reads-field, reads-byte, reads-amounts, reads-list}
@@ -32,34 +32,39 @@ pub record Fitting (b r : ℕ) (χ : Assignment) : Type 0 where
   pub numerators : All Small (tabulate r (χ .numerators))
 
 -- the assignment that is read back
-unfoldable pub readBack : ℕ → ℕ → Assignment → Assignment
-readBack b r χ =
+unfoldable pub readBack : ℕ → ℕ → (ℕ → Bool) → Assignment → Assignment
+readBack b r opens χ =
     record {
-      booleans = λ i. eqb (getD (tabulate b (λ i. booleanByte (χ .booleans i))) i 0) 1;
+      booleans = λ i. eqb (getD (tabulate b (λ i. booleanByte (opens i) (χ .booleans i))) i 0) 1;
       numerators = λ f. getD (tabulate r (χ .numerators)) f (pos 0);
       denominator = χ .denominator;
     }
 
-module _ (b r : ℕ) (χ : Assignment) where
-  pub back-boolean : (i : ℕ) → i < b → readBack b r χ .booleans i ≡ χ .booleans i
-  unfolding readBack booleanByte
-  back-boolean i h = rw (getD-tabulate b (λ i. booleanByte (χ .booleans i)) i 0 h) (by (χ .booleans i))
-    where
-      by : (a : Bool) → eqb (cond a 1 0) 1 ≡ a
-      by true = refl
-      by false = refl
+module _ (b r : ℕ) (opens : ℕ → Bool) (χ : Assignment) where
+  -- variable i's byte
+  abbrev bit : ℕ → ℕ
+  bit i = booleanByte (opens i) (χ .booleans i)
 
-  pub back-numerator : (f : ℕ) → f < r → readBack b r χ .numerators f ≡ χ .numerators f
+  pub back-boolean : (i : ℕ) → i < b → booleanByte (opens i) (readBack b r opens χ .booleans i) ≡ bit i
+  unfolding readBack booleanByte
+  back-boolean i h = rw (getD-tabulate b bit i 0 h) (by (opens i) (χ .booleans i))
+    where
+      by : (o a : Bool) → booleanByte o (eqb (booleanByte o a) 1) ≡ booleanByte o a
+      by true a = refl
+      by false true = refl
+      by false false = refl
+
+  pub back-numerator : (f : ℕ) → f < r → readBack b r opens χ .numerators f ≡ χ .numerators f
   unfolding readBack
   back-numerator f h = getD-tabulate r (χ .numerators) f (pos 0) h
 
-  pub back-denominator : readBack b r χ .denominator ≡ χ .denominator
+  pub back-denominator : readBack b r opens χ .denominator ≡ χ .denominator
   unfolding readBack
   back-denominator = refl
 
   -- ---- the bytes, part after part
   abbrev bits : List ℕ
-  bits = tabulate b (λ i. booleanByte (χ .booleans i))
+  bits = tabulate b bit
 
   abbrev amounts : List ℕ
   amounts = amountBytes (tabulate r (χ .numerators))
@@ -67,22 +72,20 @@ module _ (b r : ℕ) (χ : Assignment) where
   abbrev content : List ℕ
   content = b ∷ bits ++ (r ∷ toBytes 4 (χ .denominator)) ++ amounts
 
-  bits-small : All (λ n. T (leb n 1)) bits
-  unfolding booleanByte
-  bits-small = all-tabulate (λ n. T (leb n 1)) b (λ i. booleanByte (χ .booleans i)) (λ i h. by (χ .booleans i))
+  reads-bits : (rest : List ℕ) → Reads (each 0 b (λ i. field 1 (isBooleanByte (opens i)) refusal.BadModel)) (bits ++ rest) bits rest
+  unfolding booleanByte isBooleanByte
+  reads-bits = reads-list refusal.BadModel b (λ i. isBooleanByte (opens i)) bit (λ i h. by (opens i) (χ .booleans i))
     where
-      by : (a : Bool) → T (leb (cond a 1 0) 1)
-      by true = tt
-      by false = tt
-
-  reads-bits : (rest : List ℕ) → Reads (repeat b (field 1 (λ n. leb n 1) refusal.BadModel)) (bits ++ rest) bits rest
-  reads-bits rest place =
-      rw (length-tabulate b (λ i. booleanByte (χ .booleans i))) at (reads-list refusal.BadModel (λ n. leb n 1) bits rest bits-small place)
+      by : (o a : Bool) → T (isBooleanByte o (booleanByte o a))
+      by true a = tt
+      by false true = tt
+      by false false = tt
 
   module _ (fits : Fitting b r χ) where
     reads-numerators : (rest : List ℕ) → Reads (repeat r (amount refusal.BadModel)) (amounts ++ rest) (tabulate r (χ .numerators)) rest
-    reads-numerators rest place = rw (length-tabulate r (χ .numerators))
-        at (reads-amounts refusal.BadModel (tabulate r (χ .numerators)) rest (fits .numerators) place)
+    reads-numerators = reads-amounts refusal.BadModel r (χ .numerators)
+        (λ f h. rw (← getD-tabulate r (χ .numerators) f (pos 0) h)
+        (small-amounts (tabulate r (χ .numerators)) (fits .numerators) .small f))
 
     reads-denominator : (rest : List ℕ)
         → Reads (field 4 (λ n. leb 1 n && leb n limit.amount) refusal.BadModel) (toBytes 4 (χ .denominator) ++ rest) (χ .denominator) rest
@@ -92,7 +95,7 @@ module _ (b r : ℕ) (χ : Assignment) where
         (yes-and (leb 1 d) (leb d limit.amount) (yes-leb (fits .positive)) (yes-leb (fits .denominator)))
 
     reads-parts : (rest : List ℕ)
-        → Reads (model b r) (b ∷ (bits ++ (r ∷ (toBytes 4 (χ .denominator) ++ (amounts ++ rest))))) (readBack b r χ) rest
+        → Reads (model b r opens) (b ∷ (bits ++ (r ∷ (toBytes 4 (χ .denominator) ++ (amounts ++ rest))))) (readBack b r opens χ) rest
     unfolding model readBack after
     reads-parts rest place =
         let f = refusal.BadModel in
@@ -112,18 +115,18 @@ module _ (b r : ℕ) (χ : Assignment) where
         rw (length-append (b ∷ bits ++ (r ∷ toBytes 4 (χ .denominator))) amounts, length-append (b ∷ bits) (r ∷ toBytes 4 (χ .denominator)))
         (omega (
           arith,
-          length-tabulate b (λ i. booleanByte (χ .booleans i)),
+          length-tabulate b bit,
           length-toBytes 4 (χ .denominator),
           length-amountBytes (tabulate r (χ .numerators)),
           length-tabulate r (χ .numerators),
         ))
 
-    pub model-length : length (encodeModel b r χ) ≡ limit.modelBytes
+    pub model-length : length (encodeModel b r opens χ) ≡ limit.modelBytes
     unfolding encodeModel
     model-length = length-padded limit.modelBytes content content-length
 
     pub model-back : (rest : List ℕ)
-        → Reads (model b r) (encodeModel b r χ ++ rest) (readBack b r χ) (replicate (limit.modelBytes - length content) 0 ++ rest)
+        → Reads (model b r opens) (encodeModel b r opens χ ++ rest) (readBack b r opens χ) (replicate (limit.modelBytes - length content) 0 ++ rest)
     unfolding encodeModel padded
     model-back rest =
         let tail : List ℕ = replicate (limit.modelBytes - length content) 0 in

@@ -1,17 +1,16 @@
 -- A reader gets back what was written: a byte, a number, a field that passes its test, an amount, and several of one kind.
-use mathlib.Core.Path.{_≡_, refl}
+use mathlib.Core.Path.{_≡_, refl, ap}
 use mathlib.Core.Bool.{Bool}
 use mathlib.Core.List.{List, [], _∷_, _++_, append-assoc}
 use Prim.Native.Nat.{ℕ, zero, suc, _+_, _*_, _/_, _^_, _<_}
 use native.Mathlib.Omega.{arith}
 use lib.IntN.{ℤ}
 use lib.Dec.{T}
-use lib.ListN.{length}
 use Rattle.rules_types.specs.declared.answers.Refusal.{Refusal}
+use Rattle.rules.specs.Lists.{tabulate}
 use Rattle.rules.specs.Bytes.{toBytes, fromBytes, fromUnsigned, toUnsigned, amountBytes}
-use Rattle.rules.specs.Problem.{Reader, got, after, repeat, byte, number, tested, field, inRange, amount}
+use Rattle.rules.specs.Problem.{Reader, _>>=_, return, got, after, repeat, each, byte, number, tested, field, inRange, amount}
 use Rattle.theory_lists.specs.Tests.{is-true}
-use Rattle.theory_lists.specs.All.{All}
 use Rattle.theory_vectors.specs.Amounts.{Small, range-small}
 use Rattle.theory_bytes.specs.Bytes.{fromBytes-toBytes}
 use Rattle.theory_bytes.specs.Amounts.{toUnsigned-<, fromUnsigned-toUnsigned, small-mag}
@@ -48,22 +47,38 @@ reads-amount f z rest h place =
     (r .0, rw (r .1, e))
 
 -- ---- several
-module _ {A : Type 0} (one : Reader A) (bytes : A → List ℕ) (all : List A → List ℕ) (P : A → Type 0) where
-  reads-repeat : all [] ≡ [] → ((x : A) (xs : List A) → all (x ∷ xs) ≡ bytes x ++ all xs)
-      → ((x : A) (rest : List ℕ) → P x → Reads one (bytes x ++ rest) x rest)
-      → (xs : List A) (rest : List ℕ) → All P xs → Reads (repeat (length xs) one) (all xs ++ rest) xs rest
-  unfolding repeat after
-  reads-repeat nil cons step [] rest h place = (place, rw nil)
-  reads-repeat nil cons step (x ∷ xs) rest h place =
-      let r = step x (all xs ++ rest) (h .0) place in
-      let s = reads-repeat nil cons step xs rest (h .1) (r .0) in
-      (s .0, rw (cons x xs, append-assoc (bytes x) (all xs) rest, r .1, s .1))
+-- by one reader, whatever their numbers
+pub repeat-each : {A : Type 0} (one : Reader A) (k i : ℕ) → repeat k one ≡ each i k (λ j. one)
+unfolding repeat each
+repeat-each one zero i = refl
+repeat-each {A} one (suc k) i =
+    ap (λ (rest : Reader (List A)). _>>=_ one (λ x. _>>=_ rest (λ xs. return (x ∷ xs)))) (repeat-each one k (suc i))
 
-module _ (f : Refusal) where
-  pub reads-amounts : (zs : List ℤ) (rest : List ℕ) → All Small zs → Reads (repeat (length zs) (amount f)) (amountBytes zs ++ rest) zs rest
+module _ {A : Type 0} (one : ℕ → Reader A) (bytes : A → List ℕ) (all : List A → List ℕ) (nil : all [] ≡ [])
+    (cons : (x : A) (xs : List A) → all (x ∷ xs) ≡ bytes x ++ all xs) where
+  reads-each : (k i : ℕ) (g : ℕ → A) → ((j : ℕ) → j < k → (rest : List ℕ) → Reads (one (i + j)) (bytes (g j) ++ rest) (g j) rest)
+      → (rest : List ℕ) → Reads (each i k one) (all (tabulate k g) ++ rest) (tabulate k g) rest
+  unfolding each after tabulate
+  reads-each zero i g h rest place = (place, rw nil)
+  reads-each (suc k) i g h rest place =
+      let later : ℕ → A = λ j. g (suc j) in
+      let r = h 0 (omega arith) (all (tabulate k later) ++ rest) place in
+      let s = reads-each k (suc i) later (λ j l. let e : i + suc j ≡ suc i + j = omega arith in rw e at (h (suc j) (omega arith)))
+      rest (r .0) in
+      let e : i + 0 ≡ i = omega arith in
+      (s .0, rw (cons (g 0) (tabulate k later), append-assoc (bytes (g 0)) (all (tabulate k later)) rest, rw e at (r .1), s .1))
+
+module _ (f : Refusal) (k : ℕ) where
+  pub reads-amounts : (g : ℕ → ℤ) → ((j : ℕ) → j < k → Small (g j)) → (rest : List ℕ)
+      → Reads (repeat k (amount f)) (amountBytes (tabulate k g) ++ rest) (tabulate k g) rest
   unfolding amountBytes
-  reads-amounts = reads-repeat (amount f) (λ z. toBytes 4 (toUnsigned z)) amountBytes Small refl (λ z zs. refl) (reads-amount f)
+  reads-amounts g h =
+      rw (repeat-each (amount f) k 0)
+      (reads-each (λ j. amount f) (λ z. toBytes 4 (toUnsigned z)) amountBytes refl (λ z zs. refl) k 0 g
+      (λ j l rest. reads-amount f (g j) rest (h j l)))
 
-  pub reads-list : (good : ℕ → Bool) (ns rest : List ℕ) → All (λ n. T (good n)) ns
-      → Reads (repeat (length ns) (field 1 good f)) (ns ++ rest) ns rest
-  reads-list good = reads-repeat (field 1 good f) (λ n. n ∷ []) (λ ns. ns) (λ n. T (good n)) refl (λ n ns. refl) (reads-byte good f)
+  pub reads-list : (good : ℕ → ℕ → Bool) (g : ℕ → ℕ) → ((j : ℕ) → j < k → T (good j (g j))) → (rest : List ℕ)
+      → Reads (each 0 k (λ j. field 1 (good j) f)) (tabulate k g ++ rest) (tabulate k g) rest
+  reads-list good g h =
+      reads-each (λ j. field 1 (good j) f) (λ n. n ∷ []) (λ ns. ns) refl (λ n ns. refl) k 0 g
+      (λ j l rest. let e : 0 + j ≡ j = omega arith in reads-byte (good (0 + j)) f (g j) rest (rw e (h j l)))

@@ -34,22 +34,22 @@ small-fits b r χ x y d h =
           (any-no (λ z. ltb limit.amount (natAbs z)) (tabulate r (χ .numerators)) (k .1));
     }
 
-pub record WrittenAs (b r : ℕ) (χ : Assignment) (bytes : List ℕ) : Type 0 where
+pub record WrittenAs (b r : ℕ) (opens : ℕ → Bool) (χ : Assignment) (bytes : List ℕ) : Type 0 where
   pub fits : Fitting b r χ
-  pub is : bytes ≡ encodeModel b r χ
+  pub is : bytes ≡ encodeModel b r opens χ
 
-pub written-fits : (b r : ℕ) (w : Walked) (bytes : List ℕ) → b ≤ limit.booleans → r ≤ limit.rationals → 1 ≤ w .assignment .denominator
-    → written b r w ≡ some bytes
-    → WrittenAs b r (w .assignment) bytes
+pub written-fits : (b r : ℕ) (opens : ℕ → Bool) (w : Walked) (bytes : List ℕ) → b ≤ limit.booleans → r ≤ limit.rationals → 1 ≤ w .assignment .denominator
+    → written b r opens w ≡ some bytes
+    → WrittenAs b r opens (w .assignment) bytes
 unfolding written
-written-fits b r w bytes x y d e =
+written-fits b r opens w bytes x y d e =
     ⊎-elim (λ t. no (rw (is-true unfit t, written) at e)) (λ t. yes t (rw (is-false unfit t, written) at e)) (split unfit)
   where
     unfit : Bool
     unfit = w .exceeded || tooLarge r (w .assignment)
 
-    no : none ≡ some bytes → WrittenAs b r (w .assignment) bytes
+    no : none ≡ some bytes → WrittenAs b r opens (w .assignment) bytes
     no e = let z : _≡_ {A = ℕ} 0 1 = cc in absurd (omega arith)
 
-    yes : T (not unfit) → some (encodeModel b r (w .assignment)) ≡ some bytes → WrittenAs b r (w .assignment) bytes
+    yes : T (not unfit) → some (encodeModel b r opens (w .assignment)) ≡ some bytes → WrittenAs b r opens (w .assignment) bytes
     yes t e = record { fits = small-fits b r (w .assignment) x y d (or-no (w .exceeded) (tooLarge r (w .assignment)) t .1); is = cc }

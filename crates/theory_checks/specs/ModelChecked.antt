@@ -1,6 +1,6 @@
 -- The call that checks a model: it says accepted exactly if every clause holds, and then the assignment that was read satisfies the
 -- problem.
-use mathlib.Core.Path.{_≡_, refl, _∙_}
+use mathlib.Core.Path.{_≡_, refl, sym, _∙_}
 use mathlib.Core.Bool.{Bool, true, false, not, _&&_}
 use mathlib.Core.Logic.{_↔_, ⊎-elim}
 use mathlib.Core.List.{List, [], _∷_}
@@ -18,10 +18,12 @@ use Rattle.theory_lists.specs.Tests.{split, is-true, is-false}
 use Rattle.rules.specs.Lists.{all}
 use Rattle.rules.specs.Problem.{Clause, Problem, inEdition, Read, fault, got}
 use Rattle.rules.specs.Meaning.{Assignment, clauseHolds, Satisfies}
-use Rattle.rules.specs.Model.{model}
+use Rattle.rules.specs.Model.{isOpen, model}
 use Rattle.rules.specs.Checker.{checkClauses}
 use Rattle.rules.specs.Calls.{Reading, faulty, sound, read, modelChecked}
-use Rattle.theory_splitting.specs.WellRead.{read-well-formed, posed-well-formed}
+use Rattle.theory_splitting.specs.WellFormed.{WellFormed}
+use Rattle.theory_splitting.specs.Occurs.{literals-closed}
+use Rattle.theory_splitting.specs.WellRead.{posed-well-formed}
 use Rattle.theory_layout.specs.Offsets.{StatesModel}
 use Rattle.theory_layout.specs.Models.{Stated, got-states, states-got}
 use Rattle.theory_layout.specs.WrittenModels.{same-booleans, same-numerators, same-denominators}
@@ -46,7 +48,8 @@ pub record CheckedModel (terms : Terms) (input bytes : List ℕ) : Type 0 where
   pub reads : read input ≡ sound problem
   pub size : limit.modelBytes ≤ length bytes
   pub assignment : Assignment
-  pub states : StatesModel bytes (problem .booleans) (problem .rationals) assignment
+  pub states : let posed = inEdition (terms .edition) problem in
+      StatesModel bytes (posed .booleans) (posed .rationals) (isOpen posed) assignment
   pub satisfies : Satisfies assignment (inEdition (terms .edition) problem)
 
 pub model-checked-satisfies : (terms : Terms) (input bytes : List ℕ) → modelChecked terms input bytes ≡ checked.Accepted
@@ -57,13 +60,19 @@ model-checked-satisfies terms input bytes a = by (read input) refl
     short : Bool
     short = ltb (length bytes) limit.modelBytes
 
-    stated : (p : Problem) → read input ≡ sound p → T (not short) → (m : Read Assignment) → model (p .booleans) (p .rationals) bytes 0 ≡ m
-        → CheckedModel terms input bytes
+    posed : Problem → Problem
+    posed = inEdition (terms .edition)
+
+    reading : Problem → Read Assignment
+    reading p = model (posed p .booleans) (posed p .rationals) (isOpen (posed p)) bytes 0
+
+    stated : (p : Problem) → read input ≡ sound p → T (not short) → (m : Read Assignment) → reading p ≡ m → CheckedModel terms input bytes
     stated p e t (fault f place) d = absurd (refused-not f place (rw (e, modelChecked, is-false short t, d) at a))
     stated p e t (got χ rest place) d =
-        let w = read-well-formed input p e in
+        let w = posed-well-formed (terms .edition) input p e in
         let size = nltb→le (length bytes) limit.modelBytes t in
-        let s = got-states bytes (p .booleans) (p .rationals) size (w .booleans) (w .rationals) χ rest place d in
+        let s = got-states bytes (posed p .booleans) (posed p .rationals) (isOpen (posed p)) size (w .booleans) (w .rationals) χ rest place
+        d in
         record {
           problem = p;
           reads = e;
@@ -72,7 +81,7 @@ model-checked-satisfies terms input bytes a = by (read input) refl
           states = s;
           satisfies = record {
             denominator = s .least;
-            clauses = accepted-clauses χ 0 (inEdition (terms .edition) p .clauses) .0 (rw (e, modelChecked, is-false short t, d) at a);
+            clauses = accepted-clauses χ 0 (posed p .clauses) .0 (rw (e, modelChecked, is-false short t, d) at a);
           };
         }
 
@@ -80,40 +89,53 @@ model-checked-satisfies terms input bytes a = by (read input) refl
     by (faulty f place) e = absurd (refused-not f place (rw (e, modelChecked) at a))
     by (sound p) e =
         ⊎-elim (λ t. absurd (refused-not refusal.ShortModel 0 (rw (e, modelChecked, is-true short t) at a)))
-        (λ t. stated p e t (model (p .booleans) (p .rationals) bytes 0) refl) (split short)
+        (λ t. stated p e t (reading p) refl) (split short)
 
 -- ---- and back
 -- the assignment that is read agrees with every one that the bytes state
-module _ (terms : Terms) (input bytes : List ℕ) (p : Problem) (e : read input ≡ sound p) (size : limit.modelBytes ≤ length bytes)
-    (χ : Assignment) (s : StatesModel bytes (p .booleans) (p .rationals) χ) where
+module _ (terms : Terms) (input bytes : List ℕ) (q : Problem) (e : read input ≡ sound q) (size : limit.modelBytes ≤ length bytes)
+    (χ : Assignment) where
+  abbrev p : Problem
+  p = inEdition (terms .edition) q
+
   abbrev b : ℕ
   b = p .booleans
 
   abbrev r : ℕ
   r = p .rationals
 
-  was-read : Stated bytes b r size (read-well-formed input p e .booleans) (read-well-formed input p e .rationals)
-  was-read = states-got bytes b r size (read-well-formed input p e .booleans) (read-well-formed input p e .rationals) χ s
+  formed : WellFormed p
+  formed = posed-well-formed (terms .edition) input q e
 
-  read-agrees : Agree b r (was-read .assignment) χ
-  read-agrees =
-      record {
-        booleans = same-booleans bytes b r (was-read .assignment) χ (was-read .states) s;
-        numerators = same-numerators bytes b r (was-read .assignment) χ (was-read .states) s;
-        denominator = same-denominators bytes b r (was-read .assignment) χ (was-read .states) s;
-      }
+  module _ (s : StatesModel bytes b r (isOpen p) χ) where
+    was-read : Stated bytes b r (isOpen p) size (formed .booleans) (formed .rationals)
+    was-read = states-got bytes b r (isOpen p) size (formed .booleans) (formed .rationals) χ s
 
-  -- so the check is of that assignment
-  pub model-checks : modelChecked terms input bytes ≡ checkClauses χ 0 (inEdition (terms .edition) p .clauses)
-  unfolding modelChecked
-  model-checks =
-      rw (
-        e,
-        modelChecked,
-        is-false (ltb (length bytes) limit.modelBytes) (no-ltb {a = length bytes} {b = limit.modelBytes} size),
-        was-read .is,
-      ) (checks-agree b r (was-read .assignment) χ read-agrees 0 (inEdition (terms .edition) p .clauses)
-      (posed-well-formed (terms .edition) input p e .clauses))
+    read-agrees : Agree b r (isOpen p) (was-read .assignment) χ
+    read-agrees =
+        record {
+          booleans = same-booleans bytes b r (isOpen p) (was-read .assignment) χ (was-read .states) s;
+          numerators = same-numerators bytes b r (isOpen p) (was-read .assignment) χ (was-read .states) s;
+          denominator = same-denominators bytes b r (isOpen p) (was-read .assignment) χ (was-read .states) s;
+        }
 
-  pub satisfying-model-checked : Satisfies χ (inEdition (terms .edition) p) → modelChecked terms input bytes ≡ checked.Accepted
-  satisfying-model-checked h = model-checks ∙ accepted-clauses χ 0 (inEdition (terms .edition) p .clauses) .1 (h .clauses)
+    -- so the check is of that assignment
+    pub model-checks : modelChecked terms input bytes ≡ checkClauses χ 0 (p .clauses)
+    unfolding modelChecked
+    model-checks =
+        rw (
+          e,
+          modelChecked,
+          is-false (ltb (length bytes) limit.modelBytes) (no-ltb {a = length bytes} {b = limit.modelBytes} size),
+          was-read .is,
+        ) (checks-agree b r (isOpen p) (was-read .assignment) χ read-agrees 0 (p .clauses) (formed .clauses) (literals-closed p))
+
+    pub satisfying-model-checked : Satisfies χ p → modelChecked terms input bytes ≡ checked.Accepted
+    satisfying-model-checked h = model-checks ∙ accepted-clauses χ 0 (p .clauses) .1 (h .clauses)
+
+    -- 02, (iv): "An accepted sheet with a 2 satisfies the question with either value.": every assignment that the bytes state does
+    pub accepted-model-satisfies : modelChecked terms input bytes ≡ checked.Accepted → Satisfies χ p
+    accepted-model-satisfies a = record {
+      denominator = s .least;
+      clauses = accepted-clauses χ 0 (p .clauses) .0 (sym model-checks ∙ a);
+    }

@@ -1,5 +1,6 @@
 -- The offsets say every byte: two lists of bytes that hold the same steps, or the same model, are the same up to the end of it.
 use mathlib.Core.Path.{_≡_, refl, sym, _∙_}
+use mathlib.Core.Bool.{Bool}
 use mathlib.Core.List.{List, _++_}
 use Prim.Native.Nat.{ℕ, zero, suc, _+_, _*_, _-_, _≤_}
 use native.Mathlib.Omega.{arith}
@@ -51,8 +52,8 @@ module _ (xs ys : List ℕ) (bx : AllBytes xs) (by : AllBytes ys) where
         (λ i l u. p .unused i l (omega arith)) (λ i l u. q .unused i l (omega arith)) (steps-same (length steps) (omega arith)))
 
   -- ---- a model
-  module _ (b r : ℕ) (few : b ≤ limit.booleans) (small : r ≤ limit.rationals) (χ : Assignment) (p : ModelAt xs b r χ)
-      (q : ModelAt ys b r χ) where
+  module _ (b r : ℕ) (opens : ℕ → Bool) (few : b ≤ limit.booleans) (small : r ≤ limit.rationals) (χ : Assignment)
+      (p : ModelAt xs b r opens χ) (q : ModelAt ys b r opens χ) where
     more : (at k : ℕ) → at + k ≤ 64 → fieldAt at k xs ≡ fieldAt at k ys
         → take at xs ≡ take at ys → take (at + k) xs ≡ take (at + k) ys
     more at k h = grow xs ys bx by at k (omega (arith, p .room)) (omega (arith, q .room))

@@ -2,11 +2,12 @@
 -- refusal 17. These name no function that writes or reads whole steps or models.
 use mathlib.Core.Path.{_≡_}
 use mathlib.Core.Logic.{_⊎_}
-use mathlib.Core.Bool.{cond, false}
+use mathlib.Core.Bool.{Bool, cond, not, false}
 use mathlib.Core.List.{List}
 use mathlib.Core.Option.{Option, none, some}
 use Prim.Native.Nat.{ℕ, _+_, _*_, _/_, _%_, _^_, _≤_, _<_}
 use lib.IntN.{ℤ, pos, natAbs}
+use lib.Dec.{T}
 use lib.ListN.{length, getD, getElem?}
 use Rattle.rules.specs.Bytes.{fromUnsigned, fieldAt}
 use Rattle.rules.specs.Problem.{Constraint}
@@ -68,10 +69,10 @@ pub record HoldsSteps (bytes : List ℕ) (steps : List Step) (lines : ℕ) : Typ
 
 -- ---- a model
 -- "b; b bytes of 0 or 1; r; four bytes denominator; r numerators of four bytes": what the bytes say, with denominator and numerators in
--- the range that 17 asks for
-pub record StatesModel (bytes : List ℕ) (b r : ℕ) (χ : Assignment) : Type 0 where
+-- the range that 17 asks for. 02, (iv): the byte of an open variable is 2, which states either value
+pub record StatesModel (bytes : List ℕ) (b r : ℕ) (opens : ℕ → Bool) (χ : Assignment) : Type 0 where
   pub booleans : fieldAt 0 1 bytes ≡ b
-  pub boolean : (i : ℕ) → i < b → fieldAt (1 + i) 1 bytes ≡ cond (χ .booleans i) 1 0
+  pub boolean : (i : ℕ) → i < b → fieldAt (1 + i) 1 bytes ≡ cond (opens i) 2 (cond (χ .booleans i) 1 0)
   pub rationals : fieldAt (1 + b) 1 bytes ≡ r
   pub denominator : fieldAt (2 + b) 4 bytes ≡ χ .denominator
   pub numerator : (f : ℕ) → f < r → fromUnsigned (fieldAt (6 + b + 4 * f) 4 bytes) ≡ χ .numerators f
@@ -80,23 +81,24 @@ pub record StatesModel (bytes : List ℕ) (b r : ℕ) (χ : Assignment) : Type 0
   pub range : (f : ℕ) → f < r → natAbs (χ .numerators f) ≤ 1000000000
 
 -- the same, then "zeros", in 64 bytes
-pub record ModelAt (bytes : List ℕ) (b r : ℕ) (χ : Assignment) : Type 0 where
+pub record ModelAt (bytes : List ℕ) (b r : ℕ) (opens : ℕ → Bool) (χ : Assignment) : Type 0 where
   pub room : 64 ≤ length bytes
-  pub states : StatesModel bytes b r χ
+  pub states : StatesModel bytes b r opens χ
   pub zeros : Zeros (6 + b + 4 * r) 64 bytes
 
 -- ---- 17
--- "count differs, mark not 0 or 1, denominator outside 1 to 1,000,000,000, numerator outside the amounts' range": the field whose first
--- byte is at `place` is so
-pub data BadField (bytes : List ℕ) (b r place : ℕ) : Type 0 where
-  badBooleans : place ≡ 0 → (fieldAt place 1 bytes ≡ b → ⊥) → BadField bytes b r place
-  badBoolean : (i : ℕ) → i < b → place ≡ 1 + i → 1 < fieldAt place 1 bytes → BadField bytes b r place
-  badRationals : place ≡ 1 + b → (fieldAt place 1 bytes ≡ r → ⊥) → BadField bytes b r place
-  badDenominator : place ≡ 2 + b → (fieldAt place 4 bytes < 1) ⊎ (1000000000 < fieldAt place 4 bytes) → BadField bytes b r place
+-- "count differs, mark not 0 or 1, denominator outside 1 to 1,000,000,000, numerator outside the amounts' range", and (iv), "allows 2
+-- exactly there": the field whose first byte is at `place` is so
+pub data BadField (bytes : List ℕ) (b r : ℕ) (opens : ℕ → Bool) (place : ℕ) : Type 0 where
+  badBooleans : place ≡ 0 → (fieldAt place 1 bytes ≡ b → ⊥) → BadField bytes b r opens place
+  badOpen : (i : ℕ) → i < b → place ≡ 1 + i → T (opens i) → (fieldAt place 1 bytes ≡ 2 → ⊥) → BadField bytes b r opens place
+  badBoolean : (i : ℕ) → i < b → place ≡ 1 + i → T (not (opens i)) → 1 < fieldAt place 1 bytes → BadField bytes b r opens place
+  badRationals : place ≡ 1 + b → (fieldAt place 1 bytes ≡ r → ⊥) → BadField bytes b r opens place
+  badDenominator : place ≡ 2 + b → (fieldAt place 4 bytes < 1) ⊎ (1000000000 < fieldAt place 4 bytes) → BadField bytes b r opens place
   badNumerator : (f : ℕ) → f < r → place ≡ 6 + b + 4 * f → 1000000000 < natAbs (fromUnsigned (fieldAt place 4 bytes))
-      → BadField bytes b r place
+      → BadField bytes b r opens place
 
 -- "first byte of the first such field"
-pub record FirstBadField (bytes : List ℕ) (b r place : ℕ) : Type 0 where
-  pub bad : BadField bytes b r place
-  pub first : (earlier : ℕ) → earlier < place → BadField bytes b r earlier → ⊥
+pub record FirstBadField (bytes : List ℕ) (b r : ℕ) (opens : ℕ → Bool) (place : ℕ) : Type 0 where
+  pub bad : BadField bytes b r opens place
+  pub first : (earlier : ℕ) → earlier < place → BadField bytes b r opens earlier → ⊥

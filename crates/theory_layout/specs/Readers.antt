@@ -10,7 +10,7 @@ use lib.ListN.{length, getD, take, drop, length-drop}
 use lib.Seq.{drop-drop}
 use Rattle.rules_types.specs.declared.answers.Refusal.{Refusal}
 use Rattle.rules.specs.Bytes.{fromBytes, fieldAt}
-use Rattle.rules.specs.Problem.{Read, fault, got, Reader, after, repeat, byte, number, tested, field}
+use Rattle.rules.specs.Problem.{Read, fault, got, Reader, after, each, byte, number, tested, field}
 use Rattle.theory_lists.specs.Tests.{split, is-true, is-false}
 
 -- ---- a field, where there are bytes enough
@@ -68,16 +68,16 @@ module _ {A : Type 0} (bytes : List ℕ) (beyond : A) (n : ℕ) (at : ℕ → �
     pub isPlace : place ≡ at n
 
 module _ {A : Type 0} (bytes : List ℕ) (beyond : A) (n : ℕ) (at : ℕ → ℕ) (value : ℕ → A) (good : ℕ → Bool)
-    (Q : Refusal → ℕ → Type 0) (one : Reader A) (f : Refusal)
-    (reads : (i : ℕ) → i < n → T (good i) → one (drop (at i) bytes) (at i) ≡ got (value i) (drop (at (suc i)) bytes) (at (suc i)))
-    (fails : (i : ℕ) → i < n → T (not (good i)) → one (drop (at i) bytes) (at i) ≡ fault f (at i))
+    (Q : Refusal → ℕ → Type 0) (one : ℕ → Reader A) (f : Refusal)
+    (reads : (i : ℕ) → i < n → T (good i) → one i (drop (at i) bytes) (at i) ≡ got (value i) (drop (at (suc i)) bytes) (at (suc i)))
+    (fails : (i : ℕ) → i < n → T (not (good i)) → one i (drop (at i) bytes) (at i) ≡ fault f (at i))
     (bad : (i : ℕ) → i < n → ((j : ℕ) → j < i → T (good j)) → T (not (good i)) → Q f (at i)) where
   abbrev Are : ℕ → ℕ → List A → List ℕ → ℕ → Type 0
   Are = Several bytes beyond n at value good
 
-  pub repeat-ends : (k i : ℕ) → i + k ≡ n → ((j : ℕ) → j < i → T (good j)) → Ends (Are k i) Q (repeat k one (drop (at i) bytes) (at i))
-  unfolding repeat after
-  repeat-ends zero i e h =
+  pub each-ends : (k i : ℕ) → i + k ≡ n → ((j : ℕ) → j < i → T (good j)) → Ends (Are k i) Q (each i k one (drop (at i) bytes) (at i))
+  unfolding each after
+  each-ends zero i e h =
       let q : i ≡ n = omega arith in
       record {
         values = λ j l. absurd (omega arith);
@@ -85,11 +85,11 @@ module _ {A : Type 0} (bytes : List ℕ) (beyond : A) (n : ℕ) (at : ℕ → �
         isRest = ap (λ (m : ℕ). drop (at m) bytes) q;
         isPlace = ap at q;
       }
-  repeat-ends (suc k) i e h =
-      one-ends (Are (suc k) i) Q (good i) (one (drop (at i) bytes) (at i)) _ (value i) (drop (at (suc i)) bytes) (at (suc i)) f (at i)
+  each-ends (suc k) i e h =
+      one-ends (Are (suc k) i) Q (good i) (one i (drop (at i) bytes) (at i)) _ (value i) (drop (at (suc i)) bytes) (at (suc i)) f (at i)
       (reads i (omega arith)) (fails i (omega arith))
-      (λ t. after-ends (Are k (suc i)) (Are (suc k) i) Q (repeat k one (drop (at (suc i)) bytes) (at (suc i))) _
-      (repeat-ends k (suc i) (omega arith) (further t)) (λ xs rest place s. record {
+      (λ t. after-ends (Are k (suc i)) (Are (suc k) i) Q (each (suc i) k one (drop (at (suc i)) bytes) (at (suc i))) _
+      (each-ends k (suc i) (omega arith) (further t)) (λ xs rest place s. record {
         values = first xs (s .values);
         goods = s .goods;
         isRest = s .isRest;

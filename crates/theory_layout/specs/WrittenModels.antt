@@ -23,15 +23,16 @@ use Rattle.theory_layout.specs.Fields.{field-part, field-drop, zeros-bef
 use Rattle.theory_layout.specs.Models.{got-states}
 
 -- ---- two assignments that the same bytes state
-module _ (bytes : List ℕ) (b r : ℕ) (χ ψ : Assignment) (s : StatesModel bytes b r χ) (t : StatesModel bytes b r ψ) where
+module _ (bytes : List ℕ) (b r : ℕ) (opens : ℕ → Bool) (χ ψ : Assignment) (s : StatesModel bytes b r opens χ)
+    (t : StatesModel bytes b r opens ψ) where
   one-bit : (a c : Bool) → _≡_ {A = ℕ} (cond a 1 0) (cond c 1 0) → a ≡ c
   one-bit true true e = refl
   one-bit true false e = absurd (omega arith)
   one-bit false true e = absurd (omega arith)
   one-bit false false e = refl
 
-  pub same-booleans : (i : ℕ) → i < b → χ .booleans i ≡ ψ .booleans i
-  same-booleans i h = one-bit (χ .booleans i) (ψ .booleans i) (sym (s .boolean i h) ∙ t .boolean i h)
+  pub same-booleans : (i : ℕ) → i < b → opens i ≡ false → χ .booleans i ≡ ψ .booleans i
+  same-booleans i h o = one-bit (χ .booleans i) (ψ .booleans i) (rw o at (sym (s .boolean i h) ∙ t .boolean i h))
 
   pub same-numerators : (f : ℕ) → f < r → χ .numerators f ≡ ψ .numerators f
   same-numerators f h = sym (s .numerator f h) ∙ t .numerator f h
@@ -40,9 +41,12 @@ module _ (bytes : List ℕ) (b r : ℕ) (χ ψ : Assignment) (s : StatesModel by
   same-denominators = sym (s .denominator) ∙ t .denominator
 
 -- ---- what is written for a model
-module _ (b r : ℕ) (χ : Assignment) (fits : Fitting b r χ) (rest : List ℕ) where
+module _ (b r : ℕ) (opens : ℕ → Bool) (χ : Assignment) (fits : Fitting b r χ) (rest : List ℕ) where
+  abbrev flag : ℕ → ℕ
+  flag i = booleanByte (opens i) (χ .booleans i)
+
   abbrev flags : List ℕ
-  flags = tabulate b (λ i. booleanByte (χ .booleans i))
+  flags = tabulate b flag
 
   abbrev content : List ℕ
   content = b ∷ flags ++ (r ∷ toBytes 4 (χ .denominator)) ++ amountBytes (tabulate r (χ .numerators))
@@ -54,36 +58,37 @@ module _ (b r : ℕ) (χ : Assignment) (fits : Fitting b r χ) (rest : List ℕ)
         length-append (b ∷ flags) (r ∷ toBytes 4 (χ .denominator)),
       ) (omega (
         arith,
-        length-tabulate b (λ i. booleanByte (χ .booleans i)),
+        length-tabulate b flag,
         length-toBytes 4 (χ .denominator),
         length-amountBytes (tabulate r (χ .numerators)),
         length-tabulate r (χ .numerators),
       ))
 
-  written-states : StatesModel (encodeModel b r χ ++ rest) b r χ
+  written-states : StatesModel (encodeModel b r opens χ ++ rest) b r opens χ
+  unfolding booleanByte
   written-states =
-      let m = model-back b r χ fits rest 0 in
-      let bytes = encodeModel b r χ ++ rest in
-      let size : limit.modelBytes ≤ length bytes = rw length-append (omega (arith, model-length b r χ fits)) in
-      let s = got-states bytes b r size (fits .booleans) (fits .rationals) (readBack b r χ) _ (m .0) (m .1) in
+      let m = model-back b r opens χ fits rest 0 in
+      let bytes = encodeModel b r opens χ ++ rest in
+      let size : limit.modelBytes ≤ length bytes = rw length-append (omega (arith, model-length b r opens χ fits)) in
+      let s = got-states bytes b r opens size (fits .booleans) (fits .rationals) (readBack b r opens χ) _ (m .0) (m .1) in
       record {
         booleans = s .booleans;
-        boolean = λ i h. s .boolean i h ∙ ap (λ (a : Bool). cond a 1 0) (back-boolean b r χ i h);
+        boolean = λ i h. s .boolean i h ∙ back-boolean b r opens χ i h;
         rationals = s .rationals;
-        denominator = s .denominator ∙ back-denominator b r χ;
-        numerator = λ f h. s .numerator f h ∙ back-numerator b r χ f h;
+        denominator = s .denominator ∙ back-denominator b r opens χ;
+        numerator = λ f h. s .numerator f h ∙ back-numerator b r opens χ f h;
         least = fits .positive;
         most = fits .denominator;
         range = λ f h. rw (← getD-tabulate r (χ .numerators) f (pos 0) h)
             (small-amounts (tabulate r (χ .numerators)) (fits .numerators) .small f);
       }
 
-  pub written-model : ModelAt (encodeModel b r χ ++ rest) b r χ
+  pub written-model : ModelAt (encodeModel b r opens χ ++ rest) b r opens χ
   unfolding encodeModel padded
   written-model =
       let zeros : List ℕ = replicate (limit.modelBytes - length content) 0 in
       record {
-        room = rw (length-append (encodeModel b r χ) rest) (omega (arith, model-length b r χ fits));
+        room = rw (length-append (encodeModel b r opens χ) rest) (omega (arith, model-length b r opens χ fits));
         states = written-states;
         zeros = λ place lo hi.
             let e : place ≡ 6 + b + 4 * r + (place - (6 + b + 4 * r)) = omega arith in
@@ -97,11 +102,11 @@ module _ (b r : ℕ) (χ : Assignment) (fits : Fitting b r χ) (rest : List ℕ)
       }
 
 -- ---- no field stands beyond the 64 bytes
-module _ (bytes : List ℕ) (b r : ℕ) (few : b ≤ limit.booleans) (small : r ≤ limit.rationals) where
+module _ (bytes : List ℕ) (b r : ℕ) (opens : ℕ → Bool) (few : b ≤ limit.booleans) (small : r ≤ limit.rationals) where
   front : (k size : ℕ) → k + size ≤ 64 → fieldAt k size (take 64 bytes) ≡ fieldAt k size bytes
   front k size h = field-part bytes 0 64 k size h ∙ ap (λ (n : ℕ). fieldAt n size bytes) (let e : 0 + k ≡ k = omega arith in e)
 
-  pub front-states : (χ : Assignment) → StatesModel bytes b r χ → StatesModel (take 64 bytes) b r χ
+  pub front-states : (χ : Assignment) → StatesModel bytes b r opens χ → StatesModel (take 64 bytes) b r opens χ
   front-states χ s =
       record {
         booleans = front 0 1 (omega arith) ∙ s .booleans;

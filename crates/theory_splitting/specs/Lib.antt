@@ -14,6 +14,7 @@ pub mod SplitReading
 pub mod SplitReadings
 pub mod SplitProblem
 pub mod Readers
+pub mod Occurs
 pub mod WellRead
 pub mod Lent
 pub mod Named

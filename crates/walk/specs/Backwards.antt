@@ -1,6 +1,6 @@
 -- The walk in machine words, from the last round to the first: where it stands at round t, how it goes on, and how it ends.
 use mathlib.Core.Path.{_≡_, sym, ap, subst, _∙_}
-use mathlib.Core.Bool.{true, false, _||_}
+use mathlib.Core.Bool.{Bool, true, false, _||_}
 use mathlib.Core.List.{List}
 use mathlib.Core.Option.{none, some}
 use Prim.Native.Nat.{ℕ, suc, _≤_}
@@ -70,9 +70,10 @@ module _ {variables : List Variable} (o : Ordered variables) (lines : List Line)
     walking-next n k = record { same = rw goes (sym (k .same)); none = rw goes (k .none); range = k .range }
 
     pub walking-stop : (r : ℕ) → r ≤ limit.rationals → ((f : ℕ) → r ≤ f → Without f lines) → (n : Model)
-        → Assigned false n v mine (assignment m) → (b : ℕ) → written b r (walk variables lines) ≡ none
+        → Assigned false n v mine (assignment m) → (b : ℕ) (opens : ℕ → Bool)
+        → written b r opens (walk variables lines) ≡ none
     unfolding written walk
-    walking-stop r l z n e b =
+    walking-stop r l z n e b opens =
         rw (
           unwritable-end variables lines (o .once) r t (omega (arith, place-below (λ u. u ≡ v) variables t a)) (rw goes large),
           written,
@@ -85,8 +86,8 @@ module _ {variables : List Variable} (o : Ordered variables) (lines : List Line)
             rw (← large-narrow r (assign v mine (assignment m)) l
             (λ f i. subst (λ (w : Walked). w .assignment .numerators f ≡ pos 0) goes (k f i))) e
 
-  pub walking-end : (m : Model) → Walking variables lines 0 m → (r b : ℕ)
-      → written b r (walk variables lines) ≡ some (encodeModel b r (assignment m))
+  pub walking-end : (m : Model) → Walking variables lines 0 m → (r b : ℕ) (opens : ℕ → Bool)
+      → written b r opens (walk variables lines) ≡ some (encodeModel b r opens (assignment m))
   unfolding written walk
-  walking-end m w r b = ap (written b r) (λ k. record { assignment = w .same k; exceeded = w .none k })
+  walking-end m w r b opens = ap (written b r opens) (λ k. record { assignment = w .same k; exceeded = w .none k })
       ∙ rw (range-written m r (w .range), written)

@@ -14,9 +14,9 @@ use Rattle.models.specs.Model.{assignment}
 use Rattle.values.specs.Range.{InRange}
 
 -- the bytes of an assignment that can be written
-abbrev pub bytesOf : ℕ → ℕ → Bool → Model → Option (List ℕ)
-bytesOf b r true m = some (encodeModel b r (assignment m))
-bytesOf b r false m = none
+abbrev pub bytesOf : ℕ → ℕ → (ℕ → Bool) → Bool → Model → Option (List ℕ)
+bytesOf b r opens true m = some (encodeModel b r opens (assignment m))
+bytesOf b r opens false m = none
 
 abbrev pub WrittenInRange : Bool → Model → Type 0
 WrittenInRange true m = InRange m

@@ -7,6 +7,7 @@ use lines::order::Order;
 use models::model::Model;
 use rules_types::limits::Limits;
 ghost use mathlib.Core.Path.{_≡_};
+ghost use mathlib.Core.Bool.{Bool};
 ghost use Prim.Native.Nat.{ℕ, _*_, _≤_};
 ghost use lib.ListN.{length};
 ghost use Rattle.rules_types.specs.Limits.{stepBytes, rationals};
@@ -45,8 +46,8 @@ pub fn walk(proof: &[u8], n: usize, order: Order, r: u8) -> Reached
     requires { ⌜ Ordered (variablesOf order) ⌝ }
     requires { ⌜ r ≤ rationals ⌝ }
     requires { ⌜ Narrow (now proof) n r ⌝ }
-    ensures { λ w. ⌜ ((b : ℕ) → written b r (walk (variablesOf order) (linesIn (now (proof .entry)) n))
-        ≡ bytesOf b r (w .written) (w .model)) ⌝ }
+    ensures { λ w. ⌜ ((b : ℕ) (opens : ℕ → Bool) → written b r opens (walk (variablesOf order) (linesIn (now (proof .entry)) n))
+        ≡ bytesOf b r opens (w .written) (w .model)) ⌝ }
     ensures { λ w. ⌜ WrittenInRange (w .written) (w .model) ⌝ }
 {
     let mut model = walk_booleans(proof, n, order);

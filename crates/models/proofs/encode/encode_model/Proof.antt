@@ -8,6 +8,7 @@ use Rattle.rules_types.specs.Limits as limit
 use Rattle.rules_types.specs.Layout as layout
 use Rattle.rules.specs.Lists.{tabulate}
 use Rattle.rules.specs.Bytes.{toBytes, amountBytes}
+use Rattle.masks.specs.Mask.{outside}
 use Rattle.fields.specs.Field.{stored}
 use Rattle.models.specs.Model.{value, assignment}
 use Rattle.models.specs.Encoded.{encoded-is}
@@ -90,7 +91,7 @@ returns c =
     ∙ (λ x. stored (g .model-numerators .ensures x) numerators (u .put-u32 .ensures x))
     ∙ (λ x. stored (layout.modelNumerators b) numerators (stored (d .model-denominator .ensures x) denominator
     (set (behind-flags m .put-booleans .ensures x) (m .model-rationals .ensures x) r)))
-    ∙ encoded-is b r (assignment (s .args .model)) (s .pre .0) (s .pre .1 .0)
+    ∙ encoded-is b r (outside (s .args .occurring)) (assignment (s .args .model)) (s .pre .0) (s .pre .1 .0)
 
 pub encode-model-spec : {M : Type 1} → statement M
 encode-model-spec =

@@ -1,29 +1,22 @@
 -- `put_booleans` meets its contract. Invariant: the first i bytes are stored. Assumes nothing.
 use mathlib.Core.Path.{_≡_, refl, ap, _∙_}
-use mathlib.Core.Bool.{false}
 use mathlib.Core.List.{List}
 use Prim.Native.Nat.{ℕ, _+_, _-_, _≤_, _<_}
 use native.Mathlib.Omega.{arith}
 use borrow.Author.Needs.{needs}
-use lib.ListN.{length, getD, set, length-set}
-use Rattle.rules_types.specs.Limits as limit
+use lib.ListN.{length, set, length-set}
 use Rattle.rules.specs.Lists.{tabulate}
-use Rattle.rules.specs.Model.{booleanByte}
-use Rattle.masks.specs.Mask.{bits}
 use Rattle.fields.specs.Field.{stored, stored-nothing}
-use Rattle.models.specs.Encoded.{tabulate-stored}
+use Rattle.models.specs.Encoded.{flagByte, tabulate-stored}
 use Rattle.models.proofs.encode.put_booleans.Statement.{statement}
 use Rattle.models.proofs.encode.put_booleans.Tie as tie
 
--- variable i's byte
-abbrev byte : ℕ → ℕ → ℕ
-byte mask i = booleanByte (getD (bits limit.allBooleans mask) i false)
-
 abbrev Inv-loop : tie.InvT-loop
-Inv-loop s₀ b mask count i₀ s i = (i ≤ b) × (length s ≡ length s₀) × (s ≡ stored 1 (tabulate i (byte mask)) s₀)
+Inv-loop s₀ b mask occurring count i₀ s i =
+    (i ≤ b) × (length s ≡ length s₀) × (s ≡ stored 1 (tabulate i (flagByte mask occurring)) s₀)
 
 abbrev μ-loop : tie.MeasureT-loop
-μ-loop s₀ b mask count i₀ s i = count - i
+μ-loop s₀ b mask occurring count i₀ s i = count - i
 
 loop-holds : tie.Need-loop-holds Inv-loop μ-loop
 unfolding tabulate
@@ -49,7 +42,7 @@ loop-again c =
     let l = c .before .before .loop in
     let s = c .before .before .before .before in
     let t = s .args .s .now in
-    let g = byte (s .args .mask) in
+    let g = flagByte (s .args .mask) (s .args .occurring) in
     let k : 1 + l .i < length (l .s) = omega (arith, l .inv .0, l .inv .1, c .before .loop-test .taken, s .pre .0, s .pre .1) in (
       omega (arith, c .before .loop-test .taken),
       length-set (l .s) (1 + l .i) (c .boolean-byte .result) ∙ l .inv .1,
@@ -66,7 +59,7 @@ returns c =
     let l = c .before .loop in
     let s = c .before .before .before in
     let e : l .i ≡ s .args .b = omega (arith, l .inv .0, c .loop-test .left) in
-    l .inv .2 ∙ ap (λ (n : ℕ). stored 1 (tabulate n (byte (s .args .mask))) (s .args .s .now)) e
+    l .inv .2 ∙ ap (λ (n : ℕ). stored 1 (tabulate n (flagByte (s .args .mask) (s .args .occurring))) (s .args .s .now)) e
 
 pub put-booleans-spec : {M : Type 1} → statement M
 put-booleans-spec =

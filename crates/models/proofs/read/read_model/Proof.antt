@@ -1,5 +1,6 @@
 -- `read::read_model` meets its contract: what is known of the fields passed, and a law for each return.
 use mathlib.Core.Path.{_≡_, sym, ap, subst, _∙_}
+use mathlib.Core.Bool.{Bool}
 use Prim.Native.Nat.{ℕ}
 use native.Mathlib.Omega.{arith}
 use borrow.Author.Needs.{needs}
@@ -7,6 +8,7 @@ use borrow.Author.Tests.{not-true, not-false}
 use lib.ListN.{getD}
 use Rattle.rules_types.specs.Layout as layout
 use Rattle.rules.specs.Bytes.{fieldAt}
+use Rattle.masks.specs.Mask.{outside}
 use Rattle.models.specs.Numerators.{ReadNumerators}
 use Rattle.models.specs.Read.{isDenominator, read-refused, Sized, BooleansRead, RationalsAhead, RationalsRead, booleans-differ}
 use Rattle.models.specs.Read.{boolean-bad, rationals-differ, denominator-bad, numerator-bad, model-read}
@@ -33,15 +35,19 @@ abbrev start : tie.Else3 → tie.Start
 start c = entry (behind-booleans (behind-count c))
 
 -- ---- the fields passed
+-- the open variables
+abbrev opens : tie.Start → ℕ → Bool
+opens s = outside (s .args .occurring)
+
 sized : (s : tie.Start) → Sized (s .args .s .now) (s .args .b) (s .args .r)
 sized s = record { long = s .pre .0; booleans = s .pre .1 .0; rationals = s .pre .1 .1 }
 
 booleans-read : (c : tie.After-booleans) → let s = entry c in
-    BooleansRead (s .args .s .now) (s .args .b) (s .args .r) (c .booleans .result)
+    BooleansRead (s .args .s .now) (s .args .b) (s .args .r) (opens s) (c .booleans .result)
 booleans-read c = record { sized = sized (entry c); count = c .before .if1 .left; given = c .booleans .ensures }
 
 ahead : (c : tie.Else3) → let s = start c in
-    RationalsAhead (s .args .s .now) (s .args .b) (s .args .r) (behind-booleans (behind-count c) .booleans .result)
+    RationalsAhead (s .args .s .now) (s .args .b) (s .args .r) (opens s) (behind-booleans (behind-count c) .booleans .result)
 ahead c =
     let m = behind-count c in
     let s = start c in
@@ -62,7 +68,8 @@ tested-is : (c : tie.After-is-denominator) → let s = start (passed-count (c .b
 tested-is c = sym (c .is-denominator .ensures ∙ ap isDenominator (denominator-is (c .before)))
 
 rationals-read : (c : tie.After-numerators) → let e = passed-count (behind-denominator c .before) in let s = start e in
-    RationalsRead (s .args .s .now) (s .args .b) (s .args .r) (behind-booleans (behind-count e) .booleans .result) (c .numerators .result)
+    RationalsRead (s .args .s .now) (s .args .b) (s .args .r) (opens s) (behind-booleans (behind-count e) .booleans .result)
+    (c .numerators .result)
 rationals-read c =
     let d = behind-denominator c in
     let e = passed-count (d .before) in
@@ -84,7 +91,7 @@ refused-requires c κs = search needs
 
 returns : tie.Need-returns
 returns c = let s = c .before .before .before .before in rw (c .refused .ensures)
-    (read-refused (s .args .s .now) (s .args .b) (s .args .r) layout.modelBooleans (booleans-differ (sized s) (c .before .if1 .taken)))
+    (read-refused (s .args .s .now) (s .args .b) (s .args .r) (opens s) layout.modelBooleans (booleans-differ (opens s) (sized s) (c .before .if1 .taken)))
 
 booleans-requires : tie.Need-booleans-requires
 booleans-requires c κs = search needs
@@ -97,7 +104,7 @@ returns-2 c =
     let a = c .before .before .before in
     let s = entry a in
     rw (c .refused2 .ensures)
-    (read-refused (s .args .s .now) (s .args .b) (s .args .r) _ (boolean-bad (booleans-read a) (not-true _ (c .before .if2 .taken))))
+    (read-refused (s .args .s .now) (s .args .b) (s .args .r) (opens s) _ (boolean-bad (booleans-read a) (not-true _ (c .before .if2 .taken))))
 
 model-rationals-requires : tie.Need-model-rationals-requires
 model-rationals-requires c κs = search needs
@@ -114,7 +121,7 @@ returns-3 c =
     let a = behind-booleans m in
     let s = entry a in
     let n = subst (λ (k : ℕ). getD (s .args .s .now) k 0 ≡ s .args .r → ⊥) (m .model-rationals .ensures) (c .before .if3 .taken) in
-    rw (c .refused3 .ensures, m .model-rationals .ensures) (read-refused (s .args .s .now) (s .args .b) (s .args .r) _
+    rw (c .refused3 .ensures, m .model-rationals .ensures) (read-refused (s .args .s .now) (s .args .b) (s .args .r) (opens s) _
     (rationals-differ (booleans-read a) (not-false _ (m .before .if2 .left)) n))
 
 model-denominator-requires : tie.Need-model-denominator-requires
@@ -134,7 +141,7 @@ returns-4 c =
     let d = c .before .before in
     let e = passed-count (d .before) in
     let s = start e in
-    rw (c .refused4 .ensures, d .before .before .model-denominator .ensures) (read-refused (s .args .s .now) (s .args .b) (s .args .r) _
+    rw (c .refused4 .ensures, d .before .before .model-denominator .ensures) (read-refused (s .args .s .now) (s .args .b) (s .args .r) (opens s) _
     (denominator-bad (ahead e) (tested-is d ∙ not-true _ (c .before .if4 .taken))))
 
 model-numerators-requires : tie.Need-model-numerators-requires
@@ -151,10 +158,10 @@ returns-5 c =
     let n = c .before .before .before in
     let s = start (passed-count (behind-denominator n .before)) in
     rw (c .refused5 .ensures)
-    (read-refused (s .args .s .now) (s .args .b) (s .args .r) _ (numerator-bad (rationals-read n) (not-true _ (c .before .if5 .taken))))
+    (read-refused (s .args .s .now) (s .args .b) (s .args .r) (opens s) _ (numerator-bad (rationals-read n) (not-true _ (c .before .if5 .taken))))
 
-cast-t16 : tie.Need-cast-t16
-cast-t16 c =
+cast-t17 : tie.Need-cast-t17
+cast-t17 c =
     let n = c .before .before .before in
     omega (
       arith,
@@ -190,5 +197,5 @@ read-model-spec =
     numerators-requires
     refused-requires-5
     returns-5
-    cast-t16
+    cast-t17
     returns-6)

@@ -4,6 +4,7 @@ use mathlib.Core.Bool.{Bool, true, false}
 use borrow.Author.Tests.{not-true, not-false}
 use Rattle.rules.specs.Values.{walk}
 use Rattle.rules.specs.Model.{written}
+use Rattle.masks.specs.Mask.{outside}
 use Rattle.lines.specs.Order.{variablesOf}
 use Rattle.steps.specs.Lines.{linesIn}
 use Rattle.walk.specs.Reached.{bytesOf, WrittenInRange}
@@ -14,11 +15,14 @@ use Rattle.solving.proofs.conclude.saturated.Tie as tie
 -- what the walk has told, by whether it can be written
 model : (c : tie.After-walk) (t : Bool) → c .walk .result .written ≡ t
     → let s = c .before .before .before .before .before .before in
-    written (s .args .b) (s .args .r) (walk (variablesOf (s .args .run .order)) (linesIn (s .args .proof .now) (s .args .run .end .steps)))
-    ≡ bytesOf (s .args .b) (s .args .r) t (c .walk .result .model)
+    let opens = outside (s .args .occurring) in
+    written (s .args .b) (s .args .r) opens
+    (walk (variablesOf (s .args .run .order)) (linesIn (s .args .proof .now) (s .args .run .end .steps)))
+    ≡ bytesOf (s .args .b) (s .args .r) opens t (c .walk .result .model)
 model c t e =
     let s = c .before .before .before .before .before .before in
-    c .walk .ensures .0 (s .args .b) ∙ ap (λ (t : Bool). bytesOf (s .args .b) (s .args .r) t (c .walk .result .model)) e
+    let opens = outside (s .args .occurring) in
+    c .walk .ensures .0 (s .args .b) opens ∙ ap (λ (t : Bool). bytesOf (s .args .b) (s .args .r) opens t (c .walk .result .model)) e
 
 walk-requires : tie.Need-walk-requires
 walk-requires c κs = search needs

@@ -44,9 +44,12 @@ without-model-requires c κs = let k = c .before .before .before .before .before
 enum-told-4 : tie.Need-enum-told-4
 enum-told-4 c = search needs
 
+occurring-requires : tie.Need-occurring-requires
+occurring-requires c κs = c .before .before .before .before .before .before .before .before .before .before .before .pre .0
+
 saturated-requires : tie.Need-saturated-requires
 saturated-requires c κs =
-    let k = c .before .before .before .before .before .before .before in
+    let k = c .before .before .before .before .before .before .before .before in
     let s = k .before .before .before .before .before .before in
     let e = k .eliminate .ensures .0 in
     let w = formed k in
@@ -102,12 +105,13 @@ same-length-6 c = search needs
 returns-4 : tie.Need-returns-4
 returns-4 c =
     let f = c .before .before .before .before in
-    let t = f .before .before .before in
+    let o = f .before .before .before in
+    let t = o .before in
     let k = t .before .before .before .before .before in
     let order = k .eliminate .ensures .1 ∙ order-is (formed k) (k .eliminate .ensures .0) (t .enum-told4 .given .1) in
     rw (f .saturated .ensures .1)
     (leaves-saturated (formed k) (k .eliminate .ensures .0) (k .before .before .before .before .before .before .args .model .now) _ _
-    (t .enum-told4 .given .1) (rw order at (f .saturated .ensures .0)))
+    (t .enum-told4 .given .1) (rw (order, o .occurring .ensures) at (f .saturated .ensures .0)))
 
 pub decide-spec : {M : Type 1} → statement M
 decide-spec =
@@ -121,6 +125,7 @@ decide-spec =
     enum-told-3
     without-model-requires
     enum-told-4
+    occurring-requires
     saturated-requires
     same-length
     returns

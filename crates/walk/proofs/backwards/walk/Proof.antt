@@ -80,8 +80,8 @@ returns c =
     let e = rw (w, r .rational-round .ensures .0) at (a .assign-rational .ensures) in
     let z = narrow-lines (f .args .proof .now) (f .args .n) (f .args .r) (f .pre .1 .0) (f .pre .1 .1 .1 .1) in
     rw w (
-      λ b. walking-stop (f .pre .1 .1 .0) (linesIn (f .args .proof .now) (f .args .n)) (t i) _ (place i) (i .before .loop .model)
-          (walking i) (f .args .r) (f .pre .1 .1 .1 .0) z (next .model) e b,
+      λ b opens. walking-stop (f .pre .1 .1 .0) (linesIn (f .args .proof .now) (f .args .n)) (t i) _ (place i) (i .before .loop .model)
+          (walking i) (f .args .r) (f .pre .1 .1 .1 .0) z (next .model) e b opens,
       tt,
     )
 
@@ -108,7 +108,7 @@ returns-2 c =
     let s = entry (c .before) in
     let z : l .t ≡ 0 = omega (arith, c .loop-test .left) in
     let w = rw z at (l .inv .1) in
-    (λ b. walking-end (s .pre .1 .1 .0) (linesIn (s .args .proof .now) (s .args .n)) (l .model) w (s .args .r) b, w .range)
+    (λ b opens. walking-end (s .pre .1 .1 .0) (linesIn (s .args .proof .now) (s .args .n)) (l .model) w (s .args .r) b opens, w .range)
 
 pub walk-spec : {M : Type 1} → statement M
 walk-spec =
