@@ -6,11 +6,11 @@ use crate::problem::{constraint, no, yes, Problem, Relation, Term};
 use crate::random::Random;
 
 /// At most sixteen marks, mostly few, at most two figures and five clauses of few terms. Of the
-/// conditions some are constants; one problem in twelve has large coefficients.
+/// conditions some are constants; one problem in five has large coefficients.
 pub fn problem(random: &mut Random) -> Problem {
     let most = [16, 5, 5, 3][random.between(0, 3) as usize];
     let mut problem = Problem::new(random.between(0, most) as u8, random.between(0, 2) as u8);
-    let large = random.once_in(12);
+    let large = random.once_in(5);
     for _ in 0..random.between(0, 5) {
         let terms = clause(random, &problem, large);
         problem.clauses.push(terms);

@@ -3,7 +3,7 @@
 //! out by hand; sheets with every mark and other fields changed; and random questions, read back from
 //! their bytes, of which all choices of the open marks are tried.
 
-use crate::buffers::{judged, read_sheet, solve_filled, Solved, SHEET_LENGTH};
+use crate::buffers::{judged, read_sheet, solve_filled, Solved, LINE_LENGTH, SHEET_LENGTH};
 use crate::examples::{agrees, cannot, refused, unwritten};
 use crate::report::{demand, equal, Group, Outcome, Sums};
 use crate::solver::{Solver, BOTH, PREVIEWS};
@@ -63,144 +63,93 @@ fn problem(booleans: u8, rationals: u8, clauses: Vec<Vec<Term>>) -> Problem {
     }
 }
 
-/// Marks that stand in no clause, in one that tidying drops, and in one that an earlier line covers.
-fn standing() -> Vec<Case> {
-    let x = || at_most(&[1], 5);
-    let y = || at_most(&[0, 1], 5);
-    let fact = problem(3, 1, vec![vec![yes(0), x()], vec![yes(1), no(1)]]);
-    let only = |booleans, clause: Vec<Term>| problem(booleans, 0, vec![clause]);
-    let covered = problem(3, 0, vec![vec![yes(0)], vec![yes(0), yes(1)]]);
-    let weaker = problem(2, 1, vec![vec![x()], vec![no(0), at_most(&[1], 6)]]);
-    let both = problem(3, 0, vec![vec![yes(0), yes(1)], vec![no(0), yes(1)]]);
+/// A question of one clause, without figures.
+fn one(name: &str, clause: Vec<Term>, lines: usize, marks: &[u8]) -> Case {
+    let problem = problem(marks.len() as u8, 0, vec![clause]);
+    case(name, problem, agrees(lines, 0), marks)
+}
+
+/// One clause, in which a mark stands in one sign or in both, once or twice, beside a constant or not.
+fn alone() -> Vec<Case> {
     let constant = |bound| at_most(&[], bound);
-    let dropped = problem(2, 1, vec![vec![yes(0), x(), below(&[], 1)]]);
     vec![
-        case("a or x <= 5; b or not b", fact, agrees(1, 0), &[0, 0, 2]),
-        case(
-            "a or not a",
-            only(2, vec![yes(0), no(0)]),
-            agrees(0, 0),
-            &[0, 2],
-        ),
-        case(
-            "a or not a or b",
-            only(3, vec![yes(0), no(0), yes(1)]),
-            agrees(0, 0),
+        one("not b", vec![no(1)], 1, &[2, 0]),
+        one("a, twice", vec![yes(0), yes(0)], 1, &[1, 2]),
+        one("not a, twice", vec![no(0), no(0)], 1, &[0, 2]),
+        one("a or b", vec![yes(0), yes(1)], 1, &[1, 0, 2]),
+        one("a or not a", vec![yes(0), no(0)], 0, &[0, 2]),
+        one(
+            "b or not b or a",
+            vec![yes(1), no(1), yes(0)],
+            0,
             &[0, 0, 2],
         ),
-        case(
-            "a or 0 <= 0",
-            only(2, vec![yes(0), constant(0)]),
-            agrees(0, 0),
-            &[0, 2],
-        ),
-        case(
-            "not b or 0 <= 0",
-            only(2, vec![no(1), constant(0)]),
-            agrees(0, 0),
-            &[2, 0],
-        ),
-        case("a or x <= 5 or 0 < 1", dropped, agrees(0, 0), &[0, 2]),
-        case("a; a or b", covered, agrees(1, 0), &[1, 0, 2]),
-        case("x <= 5; not a or x <= 6", weaker, agrees(1, 0), &[0, 2]),
-        case("not b", only(2, vec![no(1)]), agrees(1, 0), &[2, 0]),
-        case(
-            "a, twice",
-            only(2, vec![yes(0), yes(0)]),
-            agrees(1, 0),
-            &[1, 2],
-        ),
-        case(
-            "not a, twice",
-            only(2, vec![no(0), no(0)]),
-            agrees(1, 0),
-            &[0, 2],
-        ),
-        case("a or b; not a or b", both, agrees(3, 1), &[0, 1, 2]),
-        case(
-            "a or b",
-            only(3, vec![yes(0), yes(1)]),
-            agrees(1, 0),
-            &[1, 0, 2],
-        ),
-        case(
-            "a or 0 <= -1",
-            only(2, vec![yes(0), constant(-1)]),
-            agrees(1, 0),
-            &[1, 2],
-        ),
-        case(
-            "not b or 0 < 0",
-            only(2, vec![no(1), below(&[], 0)]),
-            agrees(1, 0),
-            &[2, 0],
-        ),
-        case(
-            "x <= 5 and y <= 5, three marks",
-            problem(3, 2, vec![vec![x()], vec![y()]]),
-            agrees(2, 0),
-            &[2, 2, 2],
-        ),
+        one("a or 0 <= 0", vec![yes(0), constant(0)], 0, &[0, 2]),
+        one("not b or 0 <= 0", vec![no(1), constant(0)], 0, &[2, 0]),
+        one("a or 0 <= -1", vec![yes(0), constant(-1)], 1, &[1, 2]),
+        one("not b or 0 < 0", vec![no(1), below(&[], 0)], 1, &[2, 0]),
+        one("a or 0 = 0", vec![yes(0), equals(&[], 0)], 0, &[0, 2]),
+        one("a or 0 = 5", vec![yes(0), equals(&[], 5)], 1, &[1, 2]),
     ]
 }
 
-/// Links beside open marks, clauses that are read as two, and other answers than "agrees".
-fn around() -> Vec<Case> {
-    let (x, y) = (at_most(&[1], 5), at_most(&[0, 1], 5));
-    let two = vec![x.clone(), y.clone()];
-    let linked = problem(3, 2, vec![vec![yes(1), x, y]]);
-    // not x <= 0, so the link is yes and x is 5
-    let apart = vec![at_most(&[1], 0), at_most(&[-1], -5)];
-    let yes_link = problem(2, 1, vec![apart, vec![at_least(&[1], 1)]]);
-    let eight = |count: i32| (0..count).map(|i| at_most(&[1], i)).collect::<Vec<_>>();
-    let sixteen = vec![eight(8), eight(8), eight(3)];
-    let read_twice = problem(2, 1, vec![vec![no(0), equals(&[1], 5)], vec![yes(0)]]);
-    let unwritable = vec![
-        vec![at_most(&[999_999_999], 1)],
-        vec![at_most(&[0, 1_000_000_000], 1)],
-    ];
-    let wide = vec![
-        vec![at_most(&[1_000_000_000, 3], 0)],
-        vec![at_most(&[-999_999_999, 0, 1], 0)],
-    ];
-    let contradiction = problem(2, 0, vec![vec![yes(0)], vec![no(0)]]);
+/// Several clauses, with figures or without: a mark that stands in one that an earlier line covers, or in
+/// one that tidying drops; and clauses that are read as two.
+fn several() -> Vec<Case> {
+    let x = || at_most(&[1], 5);
+    let fact = problem(3, 1, vec![vec![yes(0), x()], vec![yes(1), no(1)]]);
+    let dropped = problem(2, 1, vec![vec![yes(0), x(), below(&[], 1)]]);
+    let covered = problem(3, 0, vec![vec![yes(0)], vec![yes(0), yes(1)]]);
+    let weaker = problem(2, 1, vec![vec![x()], vec![no(0), at_most(&[1], 6)]]);
+    let both = problem(3, 0, vec![vec![yes(0), yes(1)], vec![no(0), yes(1)]]);
+    let figures = problem(3, 2, vec![vec![x()], vec![at_most(&[0, 1], 5)]]);
+    let equality = problem(2, 1, vec![vec![equals(&[1], 5)]]);
+    let beside = problem(2, 1, vec![vec![no(0), equals(&[1], 5)], vec![yes(0)]]);
     vec![
-        case("a link", problem(2, 2, vec![two]), agrees(2, 0), &[2, 2]),
-        case("a link and a mark", linked, agrees(2, 0), &[2, 0, 2]),
-        case("a link that is yes", yes_link, agrees(4, 2), &[2, 2]),
-        case(
-            "16 links and marks",
-            problem(16, 1, sixteen),
-            agrees(19, 0),
-            &[2; 16],
-        ),
-        case("not a or x = 5; a", read_twice, agrees(3, 1), &[1, 2]),
-        case(
-            "x = 5, two marks",
-            problem(2, 1, vec![vec![equals(&[1], 5)]]),
-            agrees(2, 1),
-            &[2, 2],
-        ),
-        case(
-            "a or 0 = 0",
-            problem(2, 0, vec![vec![yes(0), equals(&[], 0)]]),
-            agrees(0, 0),
-            &[0, 2],
-        ),
-        case(
-            "a or 0 = 5",
-            problem(2, 0, vec![vec![yes(0), equals(&[], 5)]]),
-            agrees(1, 0),
-            &[1, 2],
-        ),
+        case("a or x <= 5; b or not b", fact, agrees(1, 0), &[0, 0, 2]),
+        case("a or x <= 5 or 0 < 1", dropped, agrees(0, 0), &[0, 2]),
+        case("a; a or b", covered, agrees(1, 0), &[1, 0, 2]),
+        case("x <= 5; not a or x <= 6", weaker, agrees(1, 0), &[0, 2]),
+        case("a or b; not a or b", both, agrees(3, 1), &[0, 1, 2]),
+        case("x <= 5; y <= 5", figures, agrees(2, 0), &[2, 2, 2]),
+        case("x = 5", equality, agrees(2, 1), &[2, 2]),
+        case("not a or x = 5; a", beside, agrees(3, 1), &[1, 2]),
+    ]
+}
+
+/// Links beside open marks: of a clause without literals and of one with, one that is yes, and sixteen.
+fn links() -> Vec<Case> {
+    let (x, y) = (at_most(&[1], 5), at_most(&[0, 1], 5));
+    let two = problem(2, 2, vec![vec![x.clone(), y.clone()]]);
+    let three = problem(3, 2, vec![vec![yes(1), x, y]]);
+    // x is not at most 0, so the link is yes and x is 5
+    let apart = vec![at_most(&[1], 0), at_most(&[-1], -5)];
+    let chosen = problem(2, 1, vec![apart, vec![at_least(&[1], 1)]]);
+    let uppers = |count: i32| (0..count).map(|i| at_most(&[1], i)).collect();
+    let most = problem(16, 1, vec![uppers(8), uppers(8), uppers(3)]);
+    vec![
+        case("a link", two, agrees(2, 0), &[2, 2]),
+        case("a link and a mark", three, agrees(2, 0), &[2, 0, 2]),
+        case("a link that is yes", chosen, agrees(4, 2), &[2, 2]),
+        case("16 links and marks", most, agrees(19, 0), &[2; 16]),
+    ]
+}
+
+/// Other answers than "agrees", which have no 2.
+fn others() -> Vec<Case> {
+    let contradiction = problem(2, 0, vec![vec![yes(0)], vec![no(0)]]);
+    let empty = problem(2, 0, vec![vec![]]);
+    let unwritable = Problem::new(2, 2)
+        .clause([at_most(&[999_999_999], 1)])
+        .clause([at_most(&[0, 1_000_000_000], 1)]);
+    let wide = Problem::new(2, 3)
+        .clause([at_most(&[1_000_000_000, 3], 0)])
+        .clause([at_most(&[-999_999_999, 0, 1], 0)]);
+    vec![
         without("a; not a", contradiction, cannot(3, 1)),
-        without(
-            "an empty clause",
-            problem(2, 0, vec![vec![]]),
-            cannot(1, 0),
-        ),
-        without("unwritten", problem(2, 2, unwritable), unwritten(2, 0)),
-        without("wide", problem(2, 3, wide), refused(14, 2, 1)),
+        without("an empty clause", empty, cannot(1, 0)),
+        without("unwritten", unwritable, unwritten(2, 0)),
+        without("wide", wide, refused(14, 2, 1)),
     ]
 }
 
@@ -250,18 +199,8 @@ fn places() -> Vec<Case> {
         problem(3, 1, clauses)
     };
     let mut cases = vec![
-        case(
-            "the last of 32",
-            repeated(0, 1),
-            agrees(1, 0),
-            &[1, 0, 2],
-        ),
-        case(
-            "the first of 32",
-            repeated(2, 0),
-            agrees(1, 0),
-            &[1, 2, 0],
-        ),
+        case("the last of 32", repeated(0, 1), agrees(1, 0), &[1, 0, 2]),
+        case("the first of 32", repeated(2, 0), agrees(1, 0), &[1, 2, 0]),
     ];
     for place in [0, 1, 127, 128, 254, 255] {
         let name = format!("clause {place} of 256");
@@ -274,7 +213,8 @@ fn places() -> Vec<Case> {
 }
 
 fn cases() -> impl Iterator<Item = Case> {
-    let cases = standing().into_iter().chain(around());
+    let cases = alone().into_iter().chain(several());
+    let cases = cases.chain(links()).chain(others());
     cases.chain(sixteen()).chain(places())
 }
 
@@ -338,57 +278,42 @@ fn count(tally: &mut Tally, problem: &Problem, checked: Checked) {
     tally[kind] += 1;
 }
 
-fn demand_all(group: &mut Group, tally: &Tally, least: usize) {
+fn demand_all(group: &mut Group, tally: &Tally, least: &Tally) {
     group.case("each answer comes often", || {
-        let often = tally.iter().all(|&count| count >= least);
+        let often = tally.iter().zip(least).all(|(came, least)| came >= least);
         demand(often, &format!("answers came {tally:?} times"))
     });
 }
 
-/// Every mark of the sheets by hand with each of these values, alone and beside another field at fault.
 fn run_changed(sums: &mut Sums) {
     let mut group = Group::new("open marks: each mark changed");
     let mut tally = Tally::default();
     for case in cases().filter(|case| case.marks.is_some()) {
-        group.case(&case.name, || {
-            let question = case.problem.encode();
-            let right = solve_filled(Solver::PROVED, &question);
-            let accepted = check_sheet(&case.problem, &question, right.sheet())?;
-            equal("check", &Checked::Accepted, &accepted)?;
-            for mark in 1..=usize::from(case.problem.booleans) {
-                for value in [0, 1, 2, 3, 255] {
-                    let mut sheet = right.sheet().to_vec();
-                    sheet[mark] = value;
-                    let said = check_sheet(&case.problem, &question, &sheet)?;
-                    count(&mut tally, &case.problem, said);
-                    for (place, byte) in other_fields(&case.problem) {
-                        let mut sheet = sheet.clone();
-                        sheet[place] = byte;
-                        let said = check_sheet(&case.problem, &question, &sheet)?;
-                        let first = said == slip(field(&case.problem, place)) || place > mark;
-                        demand(first, "an earlier field at fault is not named")?;
-                        count(&mut tally, &case.problem, said);
-                    }
-                }
-            }
-            Ok(())
-        });
+        group.case(&case.name, || check_changed(&case.problem, &mut tally));
     }
-    demand_all(&mut group, &tally, 100);
+    demand_all(&mut group, &tally, &[500, 50, 5_000, 1_000, 5_000]);
     group.finish(sums);
 }
 
-fn slip(place: usize) -> Checked {
-    Checked::Refused { number: 17, place }
-}
-
-/// The first byte of the field that has this one.
-fn field(problem: &Problem, place: usize) -> usize {
-    let amounts = 2 + usize::from(problem.booleans);
-    match place.checked_sub(amounts) {
-        Some(behind) => amounts + behind / 4 * 4,
-        None => place,
+/// Every mark of a right sheet with each of these values, alone and beside another field at fault.
+fn check_changed(problem: &Problem, tally: &mut Tally) -> Outcome {
+    let question = problem.encode();
+    let right = solve_filled(Solver::PROVED, &question);
+    let accepted = check_sheet(problem, &question, right.sheet())?;
+    equal("check", &Checked::Accepted, &accepted)?;
+    for mark in 1..=usize::from(problem.booleans) {
+        for value in [0, 1, 2, 3, 255] {
+            let mut sheet = right.sheet().to_vec();
+            sheet[mark] = value;
+            count(tally, problem, check_sheet(problem, &question, &sheet)?);
+            for (place, byte) in other_fields(problem) {
+                let mut sheet = sheet.clone();
+                sheet[place] = byte;
+                count(tally, problem, check_sheet(problem, &question, &sheet)?);
+            }
+        }
     }
+    Ok(())
 }
 
 /// The sheet has 2 exactly at the marks that no literal of the bytes names, it is accepted by both checks,
@@ -434,8 +359,8 @@ fn is(answer: &Answer, wanted: Verdict) -> bool {
 }
 
 /// What a random question showed: "agrees" with open marks alone, with some and others, with others
-/// alone, with a mark that stands in dropped clauses alone; "cannot agree" and "unwritten" with an open
-/// mark.
+/// alone, with a mark that is not open and stands in no line; "cannot agree" and "unwritten" with an
+/// open mark.
 type Shown = [usize; 6];
 const LEAST: Shown = [500, 2_000, 500, 500, 500, 20];
 
@@ -454,7 +379,7 @@ fn run_random(sums: &mut Sums) {
                 demand(large.sheet == small.sheet, "another sheet of the preview")?;
             }
             compare_renumbered(&problem, &large, &other)?;
-            show(&problem, &large.answer, &mut shown);
+            show(&problem, &large, &mut shown);
             Ok(())
         });
     }
@@ -465,14 +390,15 @@ fn run_random(sums: &mut Sums) {
     group.finish(sums);
 }
 
-fn show(problem: &Problem, answer: &Answer, shown: &mut Shown) {
+fn show(problem: &Problem, solved: &Solved, shown: &mut Shown) {
     let (open, all) = (problem.open(), (1 << problem.booleans) - 1);
+    let answer = &solved.answer;
     let agrees = is(answer, Verdict::Agrees);
     let came = [
         agrees && all > 0 && open == all,
         agrees && open > 0 && open < all,
         agrees && all > 0 && open == 0,
-        agrees && loaded_marks(problem) & !open & all != !open & all,
+        agrees && all & !open & !in_lines(solved) > 0,
         open > 0 && is(answer, Verdict::Cannot),
         open > 0 && is(answer, Verdict::Unwritten),
     ];
@@ -481,26 +407,13 @@ fn show(problem: &Problem, answer: &Answer, shown: &mut Shown) {
     }
 }
 
-/// The marks that stand in a clause which is neither a tautology nor always true by a constant.
-fn loaded_marks(problem: &Problem) -> u32 {
-    let constant = |term: &Term| match term {
-        Term::Literal { .. } => false,
-        Term::Constraint { coefficients, .. } => coefficients.iter().all(|&amount| amount == 0),
-    };
-    let mut marks = 0;
-    for clause in &problem.clauses {
-        let literals = |sign: bool| {
-            clause.iter().fold(0, |marks, term| match term {
-                Term::Literal { boolean, negated } if *negated == sign => marks | 1 << boolean,
-                _ => marks,
-            })
-        };
-        let (negative, positive): (u32, u32) = (literals(true), literals(false));
-        if negative & positive == 0 && !clause.iter().any(constant) {
-            marks |= negative | positive;
-        }
-    }
-    marks
+/// The marks and links of all lines of a book.
+fn in_lines(solved: &Solved) -> u32 {
+    let lines = solved.used().chunks_exact(LINE_LENGTH);
+    lines.fold(0, |marks, line| {
+        let word = |place: usize| u32::from_le_bytes(std::array::from_fn(|i| line[place + i]));
+        marks | word(8) | word(12)
+    })
 }
 
 /// The same question among other open marks: those that stand in a clause have other numbers, in the same
@@ -561,7 +474,7 @@ fn run_arbitrary(sums: &mut Sums) {
             Ok(())
         });
     }
-    demand_all(&mut group, &tally, 500);
+    demand_all(&mut group, &tally, &[2_000, 2_000, 1_000, 1_000, 200]);
     group.finish(sums);
 }
 
