@@ -234,11 +234,19 @@ fn run_by_hand(solver: Solver, sums: &mut Sums) {
             let written = &solved.sheet()[..=marks.len()];
             equal("b", &case.problem.booleans, &written[0])?;
             equal("marks", &marks.as_slice(), &&written[1..])?;
-            let checked = solver.check_sheet(&question, solved.sheet());
-            equal("check", &Checked::Accepted, &checked)
+            check_accepted(&question, &solved)
         });
     }
     group.finish(sums);
+}
+
+/// Both checks accept the sheet.
+fn check_accepted(question: &[u8], solved: &Solved) -> Outcome {
+    for solver in BOTH {
+        let checked = solver.check_sheet(question, solved.sheet());
+        equal("check", &Checked::Accepted, &checked)?;
+    }
+    Ok(())
 }
 
 /// Both checks say what the suite's own reading of the sheet does.
@@ -324,11 +332,7 @@ fn check_open(question: &[u8], solved: &Solved) -> Outcome {
     let model = read_sheet(&problem, solved.sheet())
         .map_err(|place| format!("the sheet is bad at byte {place}"))?;
     equal("failing clause", &None, &model.first_failing(&problem)?)?;
-    for solver in BOTH {
-        let checked = solver.check_sheet(question, solved.sheet());
-        equal("check", &Checked::Accepted, &checked)?;
-    }
-    Ok(())
+    check_accepted(question, solved)
 }
 
 /// Every question of the vectors that agrees.
@@ -435,7 +439,6 @@ fn renumbered(random: &mut Random, problem: &Problem) -> Problem {
 /// It is answered alike, and what is on the sheet is the same, but for the open marks.
 fn compare_renumbered(problem: &Problem, solved: &Solved, other: &Problem) -> Outcome {
     let again = solve_filled(Solver::PROVED, &other.encode());
-    // 13 names a place, which does not depend on the marks' numbers
     again.expect(&solved.answer)?;
     if is(&solved.answer, Verdict::Agrees) {
         equal(
@@ -456,7 +459,6 @@ fn decided(problem: &Problem, sheet: &[u8]) -> Vec<u8> {
     marks.chain(sheet[1 + b..end].iter().copied()).collect()
 }
 
-/// Sheets of bytes drawn for their fields, most of which may stand there.
 fn run_arbitrary(sums: &mut Sums) {
     let mut group = Group::new("open marks: arbitrary sheets");
     let mut random = Random::new(SEED);
@@ -478,8 +480,13 @@ fn run_arbitrary(sums: &mut Sums) {
     group.finish(sums);
 }
 
+/// Bytes drawn for their fields, most of which may stand there; one sheet in ten has any bytes behind b.
 fn sheet(random: &mut Random, problem: &Problem) -> Vec<u8> {
     let mut sheet = vec![problem.booleans];
+    if random.once_in(10) {
+        sheet.resize_with(SHEET_LENGTH, || random.word() as u8);
+        return sheet;
+    }
     for mark in 0..problem.booleans {
         let open = problem.open() >> mark & 1 == 1;
         sheet.push(match random.between(0, 19) {
