@@ -73,6 +73,10 @@ extern "C" {
 #define JEMULING_BOOK_BYTES 65536
 #define JEMULING_PREVIEW_BYTES 16384
 #define JEMULING_SHEET_BYTES 64
+/* A mark on a sheet: no, yes, or open, since it stands in no clause. */
+#define JEMULING_NO 0
+#define JEMULING_YES 1
+#define JEMULING_OPEN 2
 
 /*
  * What a call says, by its number. Below 64 it is a refusal, and `value` is

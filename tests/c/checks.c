@@ -1,6 +1,6 @@
 /*
- * Calls the library from C on document 01's examples, on = and at least, and about a preview's sizes: right books and sheets, wrong ones,
- * and solving; what has a limit of lines with either.
+ * Calls the library from C on document 01's examples, on = and at least, on open marks, and about a preview's sizes: right books and
+ * sheets, wrong ones, and solving; what has a limit of lines with either.
  */
 #include <stdio.h>
 #include <string.h>
@@ -42,6 +42,8 @@ static void right_ones(void)
     expect("sheet of example 9", SHEET(example_9_question, example_9_sheet), JEMULING_ACCEPTED, 0);
     expect("sheet of an =", SHEET(equal_question, equal_sheet), JEMULING_ACCEPTED, 0);
     expect("book of both readings of an =", BOOK(at_least_question, at_least_book), JEMULING_ACCEPTED, 0);
+    expect("sheet with an open mark", SHEET(open_question, open_sheet), JEMULING_ACCEPTED, 0);
+    expect("sheet of open marks", SHEET(sixteen_question, sixteen_sheet), JEMULING_ACCEPTED, 0);
 }
 
 static void wrong_ones(void)
@@ -84,6 +86,35 @@ static void wrong_equal_ones(void)
     expect("two = before 16", with[limit].check_book(double_question, sizeof double_question, NULL, 0), JEMULING_DOUBLE, 15);
     expect("two = before 2", jemuling_check_sheet(double_question, sizeof double_question, NULL, 0), JEMULING_DOUBLE, 15);
     expect("two = before 17", SHEET(double_question, example_9_sheet), JEMULING_DOUBLE, 15);
+}
+
+/* A mark in no clause is open, and nothing else; others, in a clause that is always true too, are yes or no. */
+static void wrong_marks(void)
+{
+    static const int values[] = { JEMULING_NO, JEMULING_YES, JEMULING_OPEN, 3, 255 };
+    unsigned char sheet[sizeof open_sheet];
+    for (size_t mark = 0; mark < 3; mark++) {
+        for (size_t i = 0; i < sizeof values / sizeof *values; i++) {
+            int right = mark == 2 ? values[i] == JEMULING_OPEN : values[i] == JEMULING_NO || values[i] == JEMULING_YES;
+            memcpy(sheet, open_sheet, sizeof sheet);
+            sheet[1 + mark] = (unsigned char)values[i];
+            expect("a mark", SHEET(open_question, sheet), right ? JEMULING_ACCEPTED : JEMULING_SLIP, right ? 0 : 1 + mark);
+            sheet[4] = 2;
+            expect("a mark before r", SHEET(open_question, sheet), JEMULING_SLIP, right ? 4 : 1 + mark);
+            sheet[0] = 2;
+            expect("b before a mark", SHEET(open_question, sheet), JEMULING_SLIP, 0);
+        }
+    }
+    memcpy(sheet, open_sheet, sizeof sheet);
+    sheet[9] = 6;
+    expect("an open mark does not help clause 0", SHEET(open_question, sheet), JEMULING_FAILS, 0);
+    for (size_t mark = 0; mark < 16; mark++) {
+        for (int value = JEMULING_NO; value <= JEMULING_YES; value++) {
+            memcpy(sheet, sixteen_sheet, sizeof sheet);
+            sheet[1 + mark] = (unsigned char)value;
+            expect("one of 16 open marks", SHEET(sixteen_question, sheet), JEMULING_SLIP, 1 + mark);
+        }
+    }
 }
 
 /* The call, lent a book of so many bytes. */
@@ -150,6 +181,8 @@ static void solving(void)
     SOLVES("example 9", example_9_question, JEMULING_AGREES, 3, example_9_sheet);
     SOLVES("an =", equal_question, JEMULING_AGREES, 2, equal_sheet);
     SOLVES("an = and at least", at_least_question, JEMULING_CANNOT, 4, at_least_book);
+    SOLVES("an open mark", open_question, JEMULING_AGREES, 1, open_sheet);
+    SOLVES("open marks", sixteen_question, JEMULING_AGREES, 0, sixteen_sheet);
     jemuling_solved said = with[limit].solve(example_1_question, sizeof example_1_question, NULL, 0, NULL, 0);
     expect("no book", ANSWER(said), JEMULING_BOOK, 0);
 }
@@ -250,6 +283,7 @@ int main(void)
         right_ones();
         wrong_ones();
         wrong_equal_ones();
+        wrong_marks();
         handing_back();
         solving();
         refusing();

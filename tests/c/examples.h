@@ -1,6 +1,8 @@
-/* Questions of document 01's examples and of request (i), with the book or the sheet that the second solver writes for each. */
+/* Questions of document 01's examples and of requests (i) and (iv), with the book or the sheet that the second solver writes for each. */
 #ifndef EXAMPLES_H
 #define EXAMPLES_H
+
+#include "jemuling.h"
 
 static const unsigned char example_1_question[] = {
     0, 0, 0, 0,
@@ -179,6 +181,30 @@ static const unsigned char at_least_book[] = {
 static const unsigned char double_question[] = {
     0, 1, 1, 0, 0, 2, 3, 1, 0, 0, 0, 1, 0, 0, 0, 3,
     1, 0, 0, 0, 2, 0, 0, 0,
+};
+
+/* 02's request (iv): a or x <= 5; b or not b; with a mark c that stands in no clause. No marks but open ones: 16, and no clause. */
+static const unsigned char open_question[] = {
+    3, 1, 2, 0, 1, 0, 1, 1, 1, 0, 0, 0, 5, 0, 0, 0,
+    2, 1, 129, 0,
+};
+
+static const unsigned char open_sheet[] = {
+    3, JEMULING_NO, JEMULING_NO, JEMULING_OPEN, 1, 1, 0, 0, 0, 5, 0, 0, 0, 0, 0, 0,
+    0, 0, 0, 0, 0, 0, 0, 0, 0, 0, 0, 0, 0, 0, 0, 0,
+    0, 0, 0, 0, 0, 0, 0, 0, 0, 0, 0, 0, 0, 0, 0, 0,
+    0, 0, 0, 0, 0, 0, 0, 0, 0, 0, 0, 0, 0, 0, 0, 0,
+};
+
+static const unsigned char sixteen_question[] = {
+    16, 0, 0, 0,
+};
+
+static const unsigned char sixteen_sheet[] = {
+    16, 2, 2, 2, 2, 2, 2, 2, 2, 2, 2, 2, 2, 2, 2, 2,
+    2, 0, 1, 0, 0, 0, 0, 0, 0, 0, 0, 0, 0, 0, 0, 0,
+    0, 0, 0, 0, 0, 0, 0, 0, 0, 0, 0, 0, 0, 0, 0, 0,
+    0, 0, 0, 0, 0, 0, 0, 0, 0, 0, 0, 0, 0, 0, 0, 0,
 };
 
 #endif

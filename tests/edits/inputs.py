@@ -1,6 +1,7 @@
 """What the trials run on: the vectors, questions by hand and at random, and books and sheets that are right, damaged or made by hand.
 Every run makes the same ones."""
 
+from itertools import product
 from struct import pack, unpack_from
 
 BOOK, PREVIEW, SHEET, LINE = 65536, 16384, 64, 64
@@ -124,11 +125,12 @@ def by_hand():
     for i in range(3):
         for size in (MOST + 1, -MOST - 1):
             numerators = [size if j == i else j for j in range(3)]
-            yield Input(f"sheet: numerator {i} is {size}", "M", three, b"", sheet([0, 1], 7, numerators))
+            yield Input(f"sheet: numerator {i} is {size}", "M", three, b"", sheet([2, 2], 7, numerators))
     for length in (0, 63, 64, 65):
-        yield Input(f"sheet: {length} bytes", "M", three, b"", (sheet([1, 1], 1, [0, 0, 0]) + bytes(64))[:length])
+        yield Input(f"sheet: {length} bytes", "M", three, b"", (sheet([2, 2], 1, [0, 0, 0]) + bytes(64))[:length])
     yield from weaker()
     yield from stated()
+    yield from open_marks()
     for number, lines in ((64, 3), (65, 3), (66, 3), (14, 3), (65, 1024), (64, 1025), (65, 0)):
         for book, given in ((BOOK, SHEET), (BOOK - 1, SHEET), (BOOK, SHEET - 1), (SHEET, BOOK)):
             yield Input(f"handing back: {number} {lines}, buffers of {book} and {given}", "H", b"", book, given, number, lines)
@@ -209,12 +211,78 @@ def stated():
     yield Input("book: clause 2 behind a clause with =", "B", asked, line(0, 0, 2, 0, 1, 0, 0, [0, -1], -2))
 
 
+def with_open_marks():
+    """Questions of three to sixteen marks, most of which stand in no clause, or in one clause or literal alone; some in clauses that
+    tidying drops or an earlier line covers, or beside links and equalities."""
+    x, true, false = (1, [1], 5), (1, [], 0), (1, [], -1)
+    four = [alone(1, [1], 9 - i) for i in range(4)]
+    yield "no clause", question(3, 1, [])
+    yield "no clause, 16 marks", question(16, 0, [])
+    yield "no mark", question(0, 1, [([], [x])])
+    for b in (3, 16):
+        for mark in sorted({0, 1, b // 2, b - 1}):
+            for sign, literal in (("", mark), ("not ", mark + 128)):
+                name = f"{b} marks, {sign}{mark}"
+                yield f"{name} alone", question(b, 0, [([literal], [])])
+                yield f"{name} twice", question(b, 0, [([literal, literal], [])])
+                yield f"{name} or x <= 5", question(b, 1, [([literal], [x])])
+                yield f"{name} and a true constant", question(b, 0, [([literal], [true])])
+                yield f"{name} and a false constant", question(b, 0, [([literal], [false])])
+                yield f"{name} or x = 5", question(b, 1, [([literal], [(3, [1], 5)])])
+                yield f"{name} or 0 = 0", question(b, 0, [([literal], [(3, [], 0)])])
+                yield f"{name} in the second clause", question(b, 1, [([], [x]), ([literal], [])])
+                yield f"{name} in a second, weaker clause", question(b, 1, [([], [x]), ([literal], [x])])
+                yield f"{name} in the last of five clauses", question(b, 1, four + [([literal], [])])
+                yield f"{name} in the first of five clauses", question(b, 1, [([literal], [])] + four)
+                for place in (0, 1, 2):
+                    literals = [1 if mark == 0 else 0] * 2
+                    literals.insert(place, literal)
+                    yield f"{name}, literal {place} of three", question(b, 0, [(literals, [])])
+                yield f"{name}, the last of 32", question(b, 0, [([1 if mark == 0 else 0] * 31 + [literal], [])])
+            yield f"{b} marks, {mark} or not {mark}", question(b, 0, [([mark, mark + 128], [])])
+            yield f"{b} marks, all but {mark}", question(b, 0, [([i for i in range(b) if i != mark], [])])
+        yield f"{b} marks, all", question(b, 0, [(list(range(b)), [])])
+        yield f"{b} marks, 0; 0 or 1", question(b, 0, [([0], []), ([0, 1], [])])
+        yield f"{b} marks and a link", question(b, 2, [([], [x, (1, [0, 1], 5)])])
+        yield f"{b} marks and a link that is yes", question(b, 1, [([], [(1, [1], 0), (1, [-1], -5)]), ([], [(4, [1], 1)])])
+        yield f"{b} marks and 16 links", question(b, 2, [([], [(1, [1, i], 0) for i in range(n)]) for n in (8, 8, 3)])
+        yield f"{b} marks, cannot agree", question(b, 0, [([1], []), ([129], [])])
+        yield f"{b} marks, unwritten", question(b, 2, [alone(1, [MOST - 1], 1), alone(1, [0, MOST], 1)])
+        yield f"{b} marks, wide", question(b, 3, [alone(1, [MOST, 3], 0), alone(1, [1 - MOST, 0, 1], 0)])
+
+
+def open_marks():
+    """Those questions; and sheets with each byte that a mark may and may not have, alone and beside another field at fault."""
+    for name, asked in with_open_marks():
+        yield solving(f"open marks: {name}", asked)
+    # a or x <= 5; b or not b; not c; d is open: every two marks of 0, 0, 0, 2 by every two bytes
+    asked = question(4, 1, [([0], [(1, [1], 5)]), ([1, 129], []), ([130], [])])
+    for marks in product((0, 1, 2, 3, 255), repeat=4):
+        if sum(mark != right for mark, right in zip(marks, (0, 0, 0, 2))) <= 2:
+            yield Input(f"sheet: open marks, {marks}", "M", asked, b"", sheet(marks, 1, [5]))
+    for marks in ((0, 0, 0, 2), (0, 0, 0, 0), (2, 0, 0, 2)):
+        for place in (0, 5, 9, 10, 13):
+            given = bytearray(sheet(marks, 1, [5]))
+            given[place] = 127
+            yield Input(f"sheet: open marks, {marks}, byte {place} is 127", "M", asked, b"", bytes(given))
+    # marks alone, each byte for all of them, and for one
+    for name, b, clauses in (("no clause", 3, []), ("no clause", 16, []), ("15", 16, [([15], [])]), ("not 0", 16, [([128], [])])):
+        asked = question(b, 0, clauses)
+        for value in (0, 1, 2, 3):
+            yield Input(f"sheet: {b} marks, {name}, all {value}", "M", asked, b"", sheet([value] * b, 1, []))
+            for place in range(b):
+                marks = [value if i == place else 2 for i in range(b)]
+                yield Input(f"sheet: {b} marks, {name}, {value} at {place}", "M", asked, b"", sheet(marks, 1, []))
+
+
 # ---- by the preview's calls
 
 def previews(folder):
-    """The vectors of the preview; and what reads the number of lines, about both numbers."""
+    """The vectors of the preview; questions with open marks; and what reads the number of lines, about both numbers."""
     for given in (*questions_and_books(f"{folder}/preview"), *buffers_and_parts(f"{folder}/preview")):
         yield preview(given)
+    for name, asked in with_open_marks():
+        yield preview(solving(f"open marks: {name}", asked))
     contradiction = question(0, 1, [alone(2, [1], 5), alone(1, [-1], -5)])
     empty = question(0, 0, [([], [])])
     for bound in (PREVIEW, BOOK):
@@ -349,10 +417,10 @@ def sheets(given, right):
 
 
 def damaged(left):
-    """Of short books, and of sheets after "agrees": the first of the vectors, and the first of those with = and >=."""
-    most_books, most_sheets = {False: 30, True: 15}, {False: 40, True: 10}
+    """Of short books, and of sheets after "agrees": the first of the vectors, of those with = and >=, and of those with open marks."""
+    most_books, most_sheets = {"": 30, "(i)": 15, "(iv)": 0}, {"": 40, "(i)": 10, "(iv)": 10}
     for given, number, book, right in left:
-        kind = given.name.startswith("(i) ")
+        kind = next((kind for kind in ("(i)", "(iv)") if given.name.startswith(f"{kind} ")), "")
         if number == 65 and 3 * LINE <= len(book) <= 12 * LINE and most_books[kind]:
             most_books[kind] -= 1
             yield from books(given, book)

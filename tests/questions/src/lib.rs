@@ -4,6 +4,7 @@ pub mod batches;
 pub mod diamonds;
 pub mod largest;
 pub mod marks;
+pub mod open;
 pub mod problem;
 pub mod random;
 pub mod relations;

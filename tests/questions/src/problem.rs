@@ -116,6 +116,36 @@ impl Problem {
         bytes
     }
 
+    /// The problem that these bytes are, if they are a question without fault.
+    pub fn decode(question: &[u8]) -> Problem {
+        let mut bytes = question.iter().copied();
+        let mut byte = move || bytes.next().expect("a question without fault");
+        let mut problem = Problem::new(byte(), byte());
+        let clauses = u16::from_le_bytes([byte(), byte()]);
+        for _ in 0..clauses {
+            let mut terms: Vec<Term> = Vec::new();
+            for _ in 0..byte() {
+                terms.push(match byte() {
+                    mark @ 0..=127 => yes(mark),
+                    negated => no(negated - 128),
+                });
+            }
+            for _ in 0..byte() {
+                let relation = match byte() {
+                    1 => Relation::AtMost,
+                    2 => Relation::Below,
+                    3 => Relation::Equal,
+                    _ => Relation::AtLeast,
+                };
+                let mut amount = || i32::from_le_bytes([byte(), byte(), byte(), byte()]);
+                let row: Vec<i32> = (0..problem.rationals).map(|_| amount()).collect();
+                terms.push(constraint(relation, &row, amount()));
+            }
+            problem.clauses.push(terms);
+        }
+        problem
+    }
+
     fn encode_term(&self, term: &Term, bytes: &mut Vec<u8>) {
         match term {
             Term::Literal { boolean, negated } => bytes.push(boolean + 128 * u8::from(*negated)),
@@ -131,6 +161,16 @@ impl Problem {
                 bytes.extend(bound.to_le_bytes());
             }
         }
+    }
+
+    /// 02's (iv): the open marks, which stand in no clause as written; bit i is mark i.
+    pub fn open(&self) -> u32 {
+        let all = (1 << self.booleans) - 1;
+        let terms = self.clauses.iter().flatten();
+        terms.fold(all, |open, term| match term {
+            Term::Literal { boolean, .. } => open & !(1 << boolean),
+            Term::Constraint { .. } => open,
+        })
     }
 
     /// The first clause that does not hold.

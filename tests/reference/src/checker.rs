@@ -1,9 +1,9 @@
 //! The check of a book and the check of a sheet, each from the question alone: 01's "What each
 //! call says", from "The check tests question faults" on. A sheet is put to the clauses as written,
-//! with the four relations of 02's (i).
+//! with the four relations of 02's (i) and the open marks of (iv).
 
 use crate::elimination::{resolve, Limit, Origin, Step, Variable, STEP_LENGTH};
-use crate::model::MODEL_LENGTH;
+use crate::model::{MODEL_LENGTH, OPEN};
 use crate::normalize::{split, Body, ClausePart};
 use crate::problem::{
     read, Clause, Constraint, Fault, Problem, Relation, MAX_AMOUNT, MAX_RATIONALS,
@@ -95,7 +95,8 @@ fn loaded(clause: u16, part: u16, parts: &[ClausePart]) -> Option<Step> {
     })
 }
 
-/// A choice as a sheet writes it: one denominator for all numerators.
+/// A choice as a sheet writes it: one denominator for all numerators. An open mark is in no clause, so
+/// either value would do; it counts as no.
 struct Model {
     booleans: u32,
     denominator: i128,
@@ -139,9 +140,15 @@ fn read_model(problem: &Problem, sheet: &[u8]) -> Result<Model, Fault> {
         denominator: 0,
         numerators: [0; MAX_RATIONALS],
     };
+    let open = problem.open();
     for i in 0..booleans {
-        slip(sheet[1 + i] <= 1, 1 + i)?;
-        model.booleans |= u32::from(sheet[1 + i]) << i;
+        let mark = sheet[1 + i];
+        if open >> i & 1 == 1 {
+            slip(mark == OPEN, 1 + i)?;
+        } else {
+            slip(mark <= 1, 1 + i)?;
+            model.booleans |= u32::from(mark) << i;
+        }
     }
     let place = 1 + booleans;
     slip(usize::from(sheet[place]) == problem.rationals, place)?;

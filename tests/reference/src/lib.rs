@@ -1,5 +1,5 @@
-//! The second solver: document 01 with 02's requests (i), (iii), (vii) and (viii), written once more,
-//! in plain Rust and from their text alone, to judge the proved one from outside. Every call here
+//! The second solver: document 01 with 02's requests (i), (iii), (iv), (vii) and (viii), written once
+//! more, in plain Rust and from their text alone, to judge the proved one from outside. Every call here
 //! takes any bytes and buffers of any length; one that names no limit of lines takes 1,024.
 
 pub mod big;

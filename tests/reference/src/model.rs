@@ -1,5 +1,6 @@
 //! The model of a saturated proof: the turns are walked backwards, each giving its mark or
-//! figure a value by the value rule. 01's "The sheet", and the order that 02's (vii) has taken.
+//! figure a value by the value rule. 01's "The sheet", the order that 02's (vii) has taken, and the
+//! open marks of (iv).
 
 use crate::big::Big;
 use crate::elimination::{Elimination, Step, Variable};
@@ -9,6 +10,8 @@ use crate::readings::Inequality;
 use std::cmp::Ordering;
 
 pub const MODEL_LENGTH: usize = 64;
+/// An open mark's byte on a sheet; others are 0 or 1.
+pub const OPEN: u8 = 2;
 
 /// 01's choice, as far as the walk has come; variables not yet walked are no and 0.
 struct Assignment {
@@ -31,7 +34,12 @@ pub fn model(problem: &Problem, course: &Elimination) -> Option<[u8; MODEL_LENGT
         .iter()
         .map(|value| written(&numerator_over(value, &denominator)))
         .collect::<Option<Vec<i32>>>()?;
-    let marks = (0..problem.booleans).map(|i| (assignment.booleans >> i & 1) as u8);
+    let open = problem.open();
+    let mark = |i| match open >> i & 1 {
+        1 => OPEN,
+        _ => (assignment.booleans >> i & 1) as u8,
+    };
+    let marks = (0..problem.booleans).map(mark);
 
     let mut bytes = vec![problem.booleans];
     bytes.extend(marks);

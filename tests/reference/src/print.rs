@@ -55,7 +55,7 @@ fn print_book(output: &mut String, lines: &[u8]) {
     }
 }
 
-/// The marks, then each figure's numerator and the sheet's denominator.
+/// The marks, an open one as 2, then each figure's numerator and the sheet's denominator.
 fn print_sheet(output: &mut String, sheet: &[u8]) {
     let booleans = usize::from(sheet[0]);
     let rationals = usize::from(sheet[1 + booleans]);

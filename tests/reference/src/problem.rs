@@ -77,6 +77,17 @@ impl Problem {
             self.clauses.len(),
         ]
     }
+
+    /// 02's (iv): the open marks, which stand in no clause as written, in neither sign; bit i is
+    /// mark i.
+    pub fn open(&self) -> u32 {
+        let clauses = self.clauses.iter();
+        let standing = clauses.fold(0, |standing, Clause { literals, .. }| {
+            standing | literals.positive | literals.negative
+        });
+        let all = (1 << self.booleans) - 1;
+        all & !standing
+    }
 }
 
 /// Reads a question, or names its first fault.

@@ -10,7 +10,7 @@ use crate::solver::Solver;
 use crate::solving::compare_limits;
 use questions::batches::{loose, natural, richer};
 use questions::diamonds::{diamonds, Ways};
-use questions::problem::{Assignment, Problem, Term};
+use questions::problem::{Problem, Term};
 use questions::random::Random;
 use reference::{Answer, Dropping, Order, Rules, Verdict};
 
@@ -132,14 +132,9 @@ fn decide_stated(problem: &Problem) -> Result<bool, String> {
 }
 
 fn satisfies(problem: &Problem, solved: &Solved) -> Outcome {
-    let model = read_sheet(problem.booleans, problem.rationals, solved.sheet())
+    let model = read_sheet(problem, solved.sheet())
         .map_err(|place| format!("the sheet is bad at byte {place}"))?;
-    let assignment = Assignment {
-        booleans: model.booleans,
-        denominator: model.denominator,
-        numerators: &model.numerators,
-    };
-    equal("failing clause", &None, &problem.first_failing(&assignment))
+    equal("failing clause", &None, &model.first_failing(problem)?)
 }
 
 /// Whether a batch agrees by earlier rules, if they decide it.

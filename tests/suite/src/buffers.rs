@@ -1,9 +1,10 @@
 //! A call of solve on lent buffers with known content, and what 01's "What each call says" has
-//! in them afterwards.
+//! in them afterwards; and the choices on a sheet.
 
 use crate::report::{demand, equal, Outcome};
 use crate::solver::Solver;
-use reference::{Answer, Limit, Verdict};
+use questions::problem::{Assignment, Problem};
+use reference::{Answer, Checked, Limit, Verdict};
 
 pub const BOOK_LENGTH: usize = 65_536;
 pub const PREVIEW_LENGTH: usize = 16_384;
@@ -117,36 +118,86 @@ pub fn all(bytes: &[u8], byte: u8) -> bool {
     bytes.iter().all(|&b| b == byte)
 }
 
-/// The choice on a sheet of b marks and r figures.
+/// What is on a sheet: the marks that are yes, the open ones, and the figures.
 pub struct Model {
     pub booleans: u32,
+    pub open: u32,
     pub denominator: i64,
     pub numerators: Vec<i64>,
 }
 
-/// Reads a sheet by 01's "The sheet", or gives the place of its first bad field.
-pub fn read_sheet(booleans: u8, rationals: u8, sheet: &[u8]) -> Result<Model, usize> {
-    let (b, r) = (usize::from(booleans), usize::from(rationals));
+/// Reads a problem's sheet by 01's "The sheet" and 02's (iv), or gives the place of its first bad field.
+pub fn read_sheet(problem: &Problem, sheet: &[u8]) -> Result<Model, usize> {
+    let (b, r) = (
+        usize::from(problem.booleans),
+        usize::from(problem.rationals),
+    );
     let field = |place: usize| {
         let bytes = std::array::from_fn(|i| sheet[place + i]);
         i64::from(i32::from_le_bytes(bytes))
     };
     let size = 1_000_000_000;
+    let open = problem.open();
     let denominator = field(2 + b);
     let numerators: Vec<i64> = (0..r).map(|i| field(6 + b + 4 * i)).collect();
 
-    let mut fields = vec![(0, sheet[0] == booleans)];
-    fields.extend((1..=b).map(|place| (place, sheet[place] < 2)));
-    fields.push((1 + b, sheet[1 + b] == rationals));
+    let mut fields = vec![(0, sheet[0] == problem.booleans)];
+    let allowed = |i: usize| match open >> i & 1 {
+        1 => 2..=2,
+        _ => 0..=1,
+    };
+    fields.extend((0..b).map(|i| (1 + i, allowed(i).contains(&sheet[1 + i]))));
+    fields.push((1 + b, sheet[1 + b] == problem.rationals));
     fields.push((2 + b, (1..=size).contains(&denominator)));
     let fits = |i: usize| (-size..=size).contains(&numerators[i]);
     fields.extend((0..r).map(|i| (6 + b + 4 * i, fits(i))));
     if let Some((place, _)) = fields.iter().find(|(_, good)| !good) {
         return Err(*place);
     }
+    let yes = |i: &usize| sheet[1 + i] == 1;
     Ok(Model {
-        booleans: (0..b).map(|i| u32::from(sheet[1 + i]) << i).sum(),
+        booleans: (0..b).filter(yes).map(|i| 1 << i).sum(),
+        open,
         denominator,
         numerators,
     })
+}
+
+impl Model {
+    /// The problem's first clause that fails; every choice of the open marks must have the same.
+    pub fn first_failing(&self, problem: &Problem) -> Result<Option<usize>, String> {
+        let failing = |chosen| {
+            problem.first_failing(&Assignment {
+                booleans: self.booleans | chosen,
+                denominator: self.denominator,
+                numerators: &self.numerators,
+            })
+        };
+        let expected = failing(0);
+        for chosen in subsets(self.open) {
+            equal("an open mark chosen otherwise", &expected, &failing(chosen))?;
+        }
+        Ok(expected)
+    }
+}
+
+/// What the check of a sheet must say, by the suite's own reading of it.
+pub fn judged(problem: &Problem, sheet: &[u8]) -> Result<Checked, String> {
+    let model = match read_sheet(problem, sheet) {
+        Ok(model) => model,
+        Err(place) => return Ok(Checked::Refused { number: 17, place }),
+    };
+    Ok(match model.first_failing(problem)? {
+        Some(clause) => Checked::Fails(clause),
+        None => Checked::Accepted,
+    })
+}
+
+/// Every set of bits of this one, beginning with the empty one.
+fn subsets(whole: u32) -> impl Iterator<Item = u32> {
+    let next = move |&part: &u32| match part.wrapping_sub(whole) & whole {
+        0 => None,
+        next => Some(next),
+    };
+    std::iter::successors(Some(0), next)
 }

@@ -61,14 +61,9 @@ fn check_problem(solver: Solver, problem: &Problem, tally: &mut Tally) -> Outcom
 }
 
 fn check_agrees(solver: Solver, problem: &Problem, question: &[u8], solved: &Solved) -> Outcome {
-    let model = read_sheet(problem.booleans, problem.rationals, solved.sheet())
+    let model = read_sheet(problem, solved.sheet())
         .map_err(|place| format!("the sheet is bad at byte {place}"))?;
-    let assignment = Assignment {
-        booleans: model.booleans,
-        denominator: model.denominator,
-        numerators: &model.numerators,
-    };
-    equal("failing clause", &None, &problem.first_failing(&assignment))?;
+    equal("failing clause", &None, &model.first_failing(problem)?)?;
     let checked = solver.check_sheet(question, solved.sheet());
     equal("check of the sheet", &Checked::Accepted, &checked)
 }

@@ -1,10 +1,10 @@
 //! Damaged books, sheets and questions: the checks must never panic, never accept a book for a
 //! problem that has a model, and name the line or clause that fails.
 
-use crate::buffers::{read_sheet, solve_filled, Solved, LINE_LENGTH, SHEET_LENGTH};
+use crate::buffers::{judged, solve_filled, Solved, LINE_LENGTH, SHEET_LENGTH};
 use crate::report::{demand, equal, Outcome, Sums};
 use crate::solver::Solver;
-use questions::problem::{Assignment, Problem};
+use questions::problem::Problem;
 use questions::random::Random;
 use reference::{Answer, Checked, Verdict};
 
@@ -159,23 +159,7 @@ fn damaged_sheet(solver: Solver, problem: &Problem, sheet: &[u8]) -> Outcome {
     let question = problem.encode();
     equal("length", &SHEET_LENGTH, &sheet.len())?;
     for_each_change(sheet, |_, damaged| {
-        let expected = judged(problem, damaged);
+        let expected = judged(problem, damaged)?;
         equal("check", &expected, &solver.check_sheet(&question, damaged))
     })
-}
-
-fn judged(problem: &Problem, sheet: &[u8]) -> Checked {
-    let model = match read_sheet(problem.booleans, problem.rationals, sheet) {
-        Ok(model) => model,
-        Err(place) => return Checked::Refused { number: 17, place },
-    };
-    let assignment = Assignment {
-        booleans: model.booleans,
-        denominator: model.denominator,
-        numerators: &model.numerators,
-    };
-    match problem.first_failing(&assignment) {
-        Some(clause) => Checked::Fails(clause),
-        None => Checked::Accepted,
-    }
 }

@@ -21,9 +21,9 @@ struct Example {
     values: Option<Values>,
 }
 
-/// Marks as 0 or 1, figures as numerator and denominator.
+/// Marks as the sheet has them, figures as numerator and denominator.
 struct Values {
-    booleans: &'static [u32],
+    booleans: &'static [u8],
     rationals: &'static [(i64, i64)],
 }
 
@@ -41,6 +41,10 @@ pub fn agrees(lines: usize, pairs: u64) -> Answer {
 
 pub fn cannot(lines: usize, pairs: u64) -> Answer {
     verdict(Verdict::Cannot, lines, pairs)
+}
+
+pub fn unwritten(lines: usize, pairs: u64) -> Answer {
+    verdict(Verdict::Unwritten, lines, pairs)
 }
 
 pub fn refused(number: u8, place: usize, pairs: u64) -> Answer {
@@ -76,7 +80,7 @@ impl Example {
         }
     }
 
-    fn with(mut self, booleans: &'static [u32], rationals: &'static [(i64, i64)]) -> Example {
+    fn with(mut self, booleans: &'static [u8], rationals: &'static [(i64, i64)]) -> Example {
         self.values = Some(Values {
             booleans,
             rationals,
@@ -152,7 +156,6 @@ fn examples_1_to_6() -> Vec<Example> {
 }
 
 fn examples_7_to_12() -> Vec<Example> {
-    let unwritten = verdict(Verdict::Unwritten, 2, 0);
     let figures_12 = &[(39, 1), (61, 1)];
     vec![
         example("example 7", example_7(-4), cannot(5, 2)),
@@ -162,7 +165,7 @@ fn examples_7_to_12() -> Vec<Example> {
         example("example 9", example_9(), agrees(3, 1)).with(&[0], &[(0, 1)]),
         example("example 10", example_10(3), refused(14, 2, 1)),
         example("example 10, y for 3y", example_10(1), agrees(3, 1)),
-        example("example 11", example_11(), unwritten),
+        example("example 11", example_11(), unwritten(2, 0)),
         example("example 12", example_12(24), agrees(81, 40)).with(&[], figures_12),
         example("example 12, i = 25 too", example_12(25), agrees(81, 40)).with(&[], figures_12),
     ]
@@ -281,12 +284,10 @@ fn check_example(solver: Solver, example: &Example) -> Outcome {
 
 /// Compares the sheet's marks and, as exact fractions, its figures.
 fn check_values(problem: &Problem, solved: &Solved, values: &Values) -> Outcome {
-    let model = read_sheet(problem.booleans, problem.rationals, solved.sheet())
+    let model = read_sheet(problem, solved.sheet())
         .map_err(|place| format!("the sheet is bad at byte {place}"))?;
-    let booleans: Vec<u32> = (0..problem.booleans)
-        .map(|i| model.booleans >> i & 1)
-        .collect();
-    equal("marks", &values.booleans.to_vec(), &booleans)?;
+    let booleans = &solved.sheet()[1..=usize::from(problem.booleans)];
+    equal("marks", &values.booleans, &booleans)?;
     equal("figures", &values.rationals.len(), &model.numerators.len())?;
     for (i, &(numerator, denominator)) in values.rationals.iter().enumerate() {
         let crosswise = (
@@ -316,6 +317,11 @@ pub fn run_printed(sums: &mut Sums) {
         .clause([no(1)])
         .clause([at_most(&[0, -2], 3)]);
     let sheet = "agrees 3 0\nmarks 2\n1\n0\nfigures 2\n0 2\n-3 2\n";
+    let open_marks = Problem::new(4, 1)
+        .clause([yes(0), no(0)])
+        .clause([yes(2), below(&[], 0)])
+        .clause([at_most(&[1], 5)]);
+    let sheet_of_open = "agrees 2 0\nmarks 4\n0\n2\n1\n2\nfigures 1\n5 1\n";
     let book_of_equal = "cannot 4 2\nlines 4\n0 0 0 0\n0 0 0 1\n0 0 1 0\n1 0 2 1\n";
     let cases = [
         (
@@ -342,6 +348,7 @@ pub fn run_printed(sums: &mut Sums) {
             book_of_equal,
         ),
         ("two =", two_equal(), "refused 18 15 0\n"),
+        ("open marks", open_marks, sheet_of_open),
     ];
     let mut group = Group::new("printed output");
     for (name, problem, expected) in cases {

@@ -13,6 +13,7 @@ mod earlier;
 mod examples;
 mod integers;
 mod lengths;
+mod open;
 mod preview;
 mod program;
 mod reading;
@@ -44,6 +45,7 @@ fn main() -> ExitCode {
     preview::run(&mut sums);
     weaker::run(&mut sums);
     relations::run(&mut sums);
+    open::run(&mut sums);
     earlier::run(&mut sums);
     batches::run(&mut sums);
     program::run(&mut sums);

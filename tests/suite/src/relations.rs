@@ -103,21 +103,34 @@ fn failing(problem: &Problem, point: i64) -> Option<usize> {
     })
 }
 
-/// The check of the choice's sheet names the clause that fails.
+/// The check of the choice's sheet names the clause that fails; the mark is 2 there if it is open, and
+/// its value is then a slip.
 fn check_choice(question: &[u8], problem: &Problem, point: i64) -> Outcome {
     let (mark, numerators) = choice(point);
-    let mut sheet = vec![1, mark, 2];
-    for amount in [DENOMINATOR].iter().chain(&numerators) {
-        sheet.extend((*amount as i32).to_le_bytes());
-    }
-    sheet.resize(SHEET_LENGTH, 0);
     let expected = match failing(problem, point) {
         Some(clause) => Checked::Fails(clause),
         None => Checked::Accepted,
     };
+    if problem.open() == 0 {
+        return check_written(question, mark, &numerators, expected);
+    }
+    check_written(question, 2, &numerators, expected)?;
+    let slip = Checked::Refused {
+        number: 17,
+        place: 1,
+    };
+    check_written(question, mark, &numerators, slip)
+}
+
+fn check_written(question: &[u8], mark: u8, numerators: &[i64], expected: Checked) -> Outcome {
+    let mut sheet = vec![1, mark, 2];
+    for amount in [DENOMINATOR].iter().chain(numerators) {
+        sheet.extend((*amount as i32).to_le_bytes());
+    }
+    sheet.resize(SHEET_LENGTH, 0);
     for solver in BOTH {
         let checked = solver.check_sheet(question, &sheet);
-        equal(&format!("choice {point}"), &expected, &checked)?;
+        equal(&format!("mark {mark}, {numerators:?}"), &expected, &checked)?;
     }
     Ok(())
 }
