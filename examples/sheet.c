@@ -1,4 +1,4 @@
-/* Entry a is to cover rent of 800, entry b is not to beside it, of entry c nothing is asked: what a posting program reads off the sheet. */
+/* Entry a is to cover rent of 800, at most one of a and b belongs to it, of c nothing is asked: what is booked? */
 #include <stdio.h>
 #include "jemuling.h"
 
