@@ -29,7 +29,8 @@
  * and a bound that is smaller, or equal under a relation at least as strict. A
  * line with nothing in it ends the course: the clauses contradict each other.
  * Without one, a value for each mark and figure is worked out backwards from
- * the lines.
+ * the lines. A mark that stands in no literal of the question as it is written
+ * is open: nothing decides it, and it is neither yes nor no.
  *
  * A question, a book and a sheet are bytes that the caller owns and lends for
  * the time of one call. No call keeps a pointer or any state, allocates,
@@ -112,10 +113,12 @@ enum {
     JEMULING_CLAIM = 16,      /* a book to check has not 64 to 65,536 bytes by 64s, a preview's not 64 to 16,384; its
                                  length */
     JEMULING_SLIP = 17,       /* a sheet to check has another count of marks or figures than the question, a mark not
-                                 0 or 1, a denominator outside 1 to 1,000,000,000, or a numerator beyond
-                                 1,000,000,000 in size; first byte of the first such field */
+                                 2 that stands in no literal of the question, a mark not 0 or 1 that stands in one, a
+                                 denominator outside 1 to 1,000,000,000, or a numerator beyond 1,000,000,000 in size;
+                                 first byte of the first such field */
     /* A verdict; `value` is the count of the book's lines. */
-    JEMULING_AGREES = 64,     /* the marks and figures on the sheet satisfy the question */
+    JEMULING_AGREES = 64,     /* the marks and figures on the sheet satisfy the question, with either value for an
+                                 open mark */
     JEMULING_CANNOT = 65,     /* no marks and figures do; the book's lines show it */
     JEMULING_UNWRITTEN = 66,  /* some do, but a bound or value that was worked out for them, their common
                                  denominator, or a numerator over it is too large for a sheet */
@@ -151,9 +154,13 @@ typedef struct {
  * marks and figures after JEMULING_AGREES and 0 otherwise. Bytes beyond 65,536
  * and 64 keep their content always.
  *
- * The sheet: the count b of marks, b bytes of 0 or 1, the count r of figures,
- * four bytes denominator, r numerators of four bytes (signed, little-endian),
- * zeros. Figure i is numerator i by the denominator.
+ * The sheet: the count b of marks, b bytes of JEMULING_NO, JEMULING_YES or
+ * JEMULING_OPEN, the count r of figures, four bytes denominator, r numerators
+ * of four bytes (signed, little-endian), zeros. Figure i is numerator i by the
+ * denominator. JEMULING_OPEN stands exactly at the marks that are in no literal
+ * of the question as it is written: nothing decided them, the question is
+ * satisfied with either value, and a caller must not take them for a no. A mark
+ * whose clauses are all left out, by tidying or as covered, is not open: no.
  *
  * A line of the book: byte 0 is how it came (0 from a clause, 1 by eliminating
  * a figure, 2 a mark) and byte 1 that figure's or mark's number; two bytes
@@ -193,7 +200,11 @@ jemuling_told jemuling_preview_check_book(const uint8_t *question, size_t questi
 
 /*
  * Checks that the marks and figures on a sheet satisfy a question, each clause
- * as it is written. Bytes after the last numerator are not read. Writes
+ * as it is written. JEMULING_OPEN must stand at the marks that are in no
+ * literal of the question, and JEMULING_NO or JEMULING_YES at the others, so a
+ * sheet from before open marks, with 0 or 1 there, is a slip. Whoever wrote the
+ * sheet, after JEMULING_ACCEPTED the question is satisfied with either value
+ * for each open mark. Bytes after the last numerator are not read. Writes
  * nothing. Says a fault of the question, 3 to 13 or 18, else JEMULING_SHEET,
  * else JEMULING_SLIP, else JEMULING_ACCEPTED or JEMULING_FAILS.
  */

@@ -89,3 +89,11 @@ pub struct Question {
     pub figures: usize,
     pub clauses: Vec<Clause>,
 }
+
+impl Question {
+    /// Whether a mark stands in no literal as written, so that nothing decides it.
+    pub fn is_open(&self, mark: usize) -> bool {
+        let mut literals = self.clauses.iter().flat_map(|clause| &clause.literals);
+        literals.all(|literal| literal.mark != mark)
+    }
+}

@@ -17,8 +17,9 @@ pub fn explain_sheet(question: &Question, sheet: &[u8], names: &Names) -> Result
     };
     let mut text = String::new();
     count(&mut reader, question.marks, "marks")?;
-    for name in &names.marks {
-        text += &format!("mark {name}: {}\n", yes_or_no(&mut reader)?);
+    for (number, name) in names.marks.iter().enumerate() {
+        let value = mark(&mut reader, question.is_open(number))?;
+        text += &format!("mark {name}: {value}\n");
     }
     count(&mut reader, question.figures, "figures")?;
     let denominator = denominator(&mut reader)?;
@@ -39,13 +40,18 @@ fn count(reader: &mut Reader, expected: usize, what: &str) -> Result<(), String>
     Err(fault(place, &message))
 }
 
-fn yes_or_no(reader: &mut Reader) -> Result<&'static str, String> {
+/// A mark's byte in words: 2 exactly if it is open.
+fn mark(reader: &mut Reader, open: bool) -> Result<&'static str, String> {
     let place = reader.at;
-    match reader.take()? {
-        [0] => Ok("no"),
-        [1] => Ok("yes"),
-        [other] => Err(fault(place, &format!("expected 0 or 1, found {other}"))),
-    }
+    let [byte] = reader.take()?;
+    let expected = match (byte, open) {
+        (0, false) => return Ok("no"),
+        (1, false) => return Ok("yes"),
+        (2, true) => return Ok("open: decided by nothing"),
+        (_, false) => "0 or 1",
+        (_, true) => "2, as the mark stands in no clause",
+    };
+    Err(fault(place, &format!("expected {expected}, found {byte}")))
 }
 
 fn denominator(reader: &mut Reader) -> Result<i32, String> {

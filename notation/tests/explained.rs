@@ -31,6 +31,71 @@ fn sheets() {
     assert_eq!(sheet("example_12"), "figure x: 39\nfigure y: 61\n");
 }
 
+/// A sheet written by hand, in words.
+fn by_hand(text: &str, start: &[u8]) -> Result<String, String> {
+    let Text { names, question } = notation::parse(text).unwrap();
+    let mut sheet = start.to_vec();
+    sheet.resize(64, 0);
+    explain_sheet(&question, &sheet, &names)
+}
+
+#[test]
+fn open_marks() {
+    let text = "marks a b c\nfigures x\na or x <= 5\nb or not b";
+    let words = "mark a: no\nmark b: no\nmark c: open: decided by nothing\nfigure x: 5\n";
+    let start = [3, 0, 0, 2, 1, 1, 0, 0, 0, 5];
+    assert_eq!(by_hand(text, &start).as_deref(), Ok(words));
+    let open = "mark a: open: decided by nothing\nmark b: open: decided by nothing\n";
+    assert_eq!(by_hand("marks a b", &[2, 2, 2, 0, 1]).as_deref(), Ok(open));
+}
+
+/// In a clause that is always true, covered by an earlier one, or with nothing else that can hold;
+/// negated alone; written twice; in the last of the clauses.
+#[test]
+fn marks_in_a_clause_are_not_open() {
+    let clauses = [
+        "a or not a",
+        "0 <= 0 or a",
+        "0 <= 0 or not a",
+        "x <= 5 or a",
+        "not a",
+        "not a or not a",
+        "x = 5 or 0 <= -1 or not a",
+        "x <= 6\nb\nb or a",
+    ];
+    for clause in clauses {
+        let text = format!("marks a b\nfigures x\nx <= 5\nb\n{clause}");
+        let sheet = |mark| by_hand(&text, &[2, mark, 1, 1, 1, 0, 0, 0, 5]);
+        let words = |mark| format!("mark a: {mark}\nmark b: yes\nfigure x: 5\n");
+        assert_eq!(sheet(0), Ok(words("no")), "{clause}");
+        assert_eq!(sheet(1), Ok(words("yes")), "{clause}");
+        let slip = "byte 1: expected 0 or 1, found 2".to_string();
+        assert_eq!(sheet(2), Err(slip), "{clause}");
+    }
+}
+
+#[test]
+fn every_byte_of_a_mark() {
+    let sheet = |first, second| by_hand("marks a b\na", &[2, first, second, 0, 1]);
+    for byte in 0..=255 {
+        let decided = match byte {
+            0 => Ok("mark a: no\nmark b: open: decided by nothing\n".to_string()),
+            1 => Ok("mark a: yes\nmark b: open: decided by nothing\n".to_string()),
+            _ => Err(format!("byte 1: expected 0 or 1, found {byte}")),
+        };
+        assert_eq!(sheet(byte, 2), decided);
+        let open = match byte {
+            2 => Ok("mark a: yes\nmark b: open: decided by nothing\n".to_string()),
+            _ => Err(format!(
+                "byte 2: expected 2, as the mark stands in no clause, found {byte}"
+            )),
+        };
+        assert_eq!(sheet(1, byte), open);
+    }
+    let first = "byte 1: expected 0 or 1, found 2".to_string();
+    assert_eq!(sheet(2, 1), Err(first));
+}
+
 #[test]
 fn sheets_are_in_lowest_terms() {
     let question = decode(&[0, 2, 0, 0]).unwrap();
@@ -38,6 +103,17 @@ fn sheets_are_in_lowest_terms() {
     sheet.resize(64, 0);
     let words = explain_sheet(&question, &sheet, &Names::numbered(&question));
     assert_eq!(words.unwrap(), "figure x0: -2/3\nfigure x1: 2\n");
+}
+
+#[test]
+fn the_open_mark() {
+    let words = "\
+mark a_rent: yes
+mark b_rent: no
+mark c_rent: open: decided by nothing
+figure rent_a: 800
+";
+    assert_eq!(sheet("open"), words);
 }
 
 #[test]

@@ -76,6 +76,31 @@ fn explains() {
     );
 }
 
+/// A sheet of the example with an open mark, whose byte is this one.
+fn open_sheet(byte: u8) -> String {
+    let mut sheet = vec![3, 1, 0, byte, 1, 1, 0, 0, 0, 32, 3];
+    sheet.resize(64, 0);
+    file(&format!("open_{byte}.sheet"), &sheet)
+}
+
+#[test]
+fn explains_an_open_mark() {
+    let numbered = "mark m0: yes\nmark m1: no\nmark m2: open: decided by nothing\nfigure x0: 800\n";
+    let sheet = open_sheet(2);
+    assert_eq!(printed(&["sheet", "open.question", &sheet]), numbered);
+    let named = printed(&["sheet", "open.question", &sheet, "open.txt"]);
+    assert!(
+        named.contains("\nmark c_rent: open: decided by nothing\n"),
+        "{named}"
+    );
+    for byte in [0, 1, 3] {
+        let sheet = open_sheet(byte);
+        let slip = "expected 2, as the mark stands in no clause";
+        let said = format!("{sheet}: byte 3: {slip}, found {byte}");
+        assert_eq!(refused(&["sheet", "open.question", &sheet]), (1, said));
+    }
+}
+
 #[test]
 fn says_what_is_wrong() {
     let wrong = file("wrong.txt", b"figures x\n\nx + z <= 1\n");

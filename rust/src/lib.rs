@@ -12,6 +12,13 @@ pub const PREVIEW_BYTES: usize = 16_384;
 /// The bytes of a sheet.
 pub const SHEET_BYTES: usize = 64;
 
+/// A mark on a sheet that is no.
+pub const NO: u8 = 0;
+/// A mark on a sheet that is yes.
+pub const YES: u8 = 1;
+/// A mark on a sheet that stands in no clause: decided by nothing, it is neither yes nor no.
+pub const OPEN: u8 = 2;
+
 /// A refusal by its number, 1 to 18, and its place; the header says what each number means.
 #[derive(Clone, Copy, Debug, PartialEq, Eq)]
 pub struct Refusal {
@@ -141,7 +148,9 @@ const ACCEPTED: u64 = 67;
 const FAILS: u64 = 68;
 const OF_SHEET: u64 = 70;
 
-/// Solves a question. The buffers are lent for the call, and hold afterwards what the header says.
+/// Solves a question. The buffers are lent for the call, and hold afterwards what the header says:
+/// after "agrees" the sheet has [`NO`], [`YES`] or [`OPEN`] for each mark, [`OPEN`] exactly for those
+/// in no literal of the question as it is written, which is satisfied with either value.
 pub fn solve(question: &[u8], book: &mut [u8], sheet: &mut [u8]) -> Solved {
     solve_by(jemuling_solve, question, book, sheet)
 }
@@ -151,7 +160,9 @@ pub fn check_book(question: &[u8], book: &[u8]) -> Checked {
     check_by(jemuling_check_book, question, book)
 }
 
-/// Checks that the marks and figures on a sheet satisfy a question.
+/// Checks that the marks and figures on a sheet satisfy a question, with either value for each open
+/// mark. [`OPEN`] must stand exactly at the marks in no literal of the question as it is written, and
+/// [`NO`] or [`YES`] at the others; anything else is refused, 17.
 pub fn check_sheet(question: &[u8], sheet: &[u8]) -> Checked {
     check_by(jemuling_check_sheet, question, sheet)
 }

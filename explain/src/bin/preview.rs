@@ -40,8 +40,8 @@ fn answer(Solved { answer, pairs }: Solved) -> String {
     }
 }
 
-/// The count of marks and each of them, the count of figures and of each its numerator and the
-/// sheet's denominator.
+/// The count of marks and the byte of each, 2 if it is open, the count of figures and of each its
+/// numerator and the sheet's denominator.
 fn shares(sheet: &[u8]) -> Vec<String> {
     let (marks, rest) = sheet[1..].split_at(usize::from(sheet[0]));
     let figures = usize::from(rest[0]);
