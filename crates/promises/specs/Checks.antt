@@ -3,6 +3,7 @@ use mathlib.Core.Path.{_≡_}
 use mathlib.Core.Logic.{_↔_}
 use mathlib.Core.List.{List}
 use Prim.Native.Nat.{ℕ, _≤_, _<_}
+use lib.Dec.{T}
 use lib.ListN.{length}
 use Rattle.rules_types.specs.declared.answers.Refusal.{Refusal}
 use Rattle.rules_types.specs.declared.answers.Refusal.the-variants.{ShortModel, ProofLength, BadModel}
@@ -17,9 +18,10 @@ use Rattle.rules.specs.Model.{isOpen}
 use Rattle.rules.specs.Calls.{faulty, sound, read, proofChecked, modelChecked}
 use Rattle.theory_bytes.specs.Bytes.{AllBytes}
 use Rattle.theory_layout.specs.Offsets.{StatesModel, FirstBadField}
+use Rattle.theory_splitting.specs.Occurs.{open-exactly}
 use Rattle.theory_checks.specs.ProofChecked.{proof-checked-refutes}
 use Rattle.promises.specs.Decided.{NoAssignment}
-use Rattle.promises.specs.Words.{WholeLines, Refutes, WritesAssignment}
+use Rattle.promises.specs.Words.{WholeLines, Refutes, InNoClause, WritesAssignment}
 use Rattle.promises.specs.Checked.{model-exactly, model-short-refused, model-field-refused, proof-refused, model-refused}
 use Rattle.promises.specs.Failing.{ClauseFails, LineFails, model-fails}
 use Rattle.promises.specs.Whole.{accepted-lines, failing-line, refused-length}
@@ -42,6 +44,9 @@ pub record ChecksProof (terms : Terms) (input proof : List ℕ) (says : Checked)
 pub record ChecksModel (terms : Terms) (input bytes : List ℕ) (says : Checked) : Type 0 where
   pub faultyInput : (f : Refusal) (place : ℕ) → read input ≡ faulty f place → says ≡ Refused f place
   pub short : (p : Problem) → read input ≡ sound p → length bytes < limit.modelBytes → says ≡ Refused ShortModel 0
+  -- 02, (iv): which Boolean variables are open
+  pub opens : (p : Problem) → read input ≡ sound p → (i : ℕ)
+      → (let posed = inEdition (terms .edition) p in T (isOpen posed i) ↔ InNoClause posed i)
   pub field : (p : Problem) → read input ≡ sound p → limit.modelBytes ≤ length bytes → (place : ℕ) → (says ≡ Refused BadModel place)
       ↔ (let posed = inEdition (terms .edition) p in FirstBadField bytes (posed .booleans) (posed .rationals) (isOpen posed) place)
   -- "a sheet exactly if every clause holds": the assignment on it satisfies Q; 02, (iv), "with either value" where it has a 2
@@ -68,6 +73,7 @@ checks-model terms input bytes =
     record {
       faultyInput = λ f place e. model-refused input f place e terms bytes;
       short = λ p e. model-short-refused terms input p e bytes;
+      opens = λ p e. open-exactly (inEdition (terms .edition) p);
       field = λ p e. model-field-refused terms input p e bytes;
       accepted = λ p e. model-exactly terms input p e bytes;
       fails = λ p e. model-fails terms input p e bytes;

@@ -22,7 +22,7 @@ loop-holds c = record { end = refl; same = refl }
 -- the clause at hand ends in the slice
 inside : (c : tie.In-loop Inv-loop μ-loop) → let s = c .before .before .before in
     clauseEnd (s .args .input .now) (s .args .sizes .rationals) (c .before .loop .at) ≤ length (s .args .input .now)
-inside c = gathering-within (c .before .before .before .pre) (c .before .loop .inv) (c .loop-test .taken)
+inside c = gathering-within (c .before .before .before .pre) (c .before .loop .inv) (omega (arith, c .loop-test .taken))
 
 -- so its first byte and its literals are there
 first-byte : (c : tie.In-loop Inv-loop μ-loop) → c .before .loop .at + 1 < length (c .before .before .before .args .input .now)
@@ -54,7 +54,8 @@ unfolding clauseAt
 loop-again c =
     let t = c .before .before .before in
     rw (c .next .ensures)
-    (gathering-next (t .before .before .before .pre) (t .before .loop .inv) (t .loop-test .taken) _ (c .before .with-variables .ensures))
+    (gathering-next (t .before .before .before .pre) (t .before .loop .inv) (omega (arith, t .loop-test .taken)) _
+    (c .before .with-variables .ensures))
 
 returns : tie.Need-returns Inv-loop μ-loop
 returns c = gathering-done (c .before .before .before .pre) (c .before .loop .inv) (c .loop-test .left)
