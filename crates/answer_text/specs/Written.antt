@@ -19,7 +19,8 @@ use Rattle.theory_bytes.specs.Bytes.{length-toBytes, length-padded}
 use Rattle.theory_bytes.specs.Amounts.{length-amountBytes}
 use Rattle.printing.specs.Texts.{Printable}
 
-written-is : (b r : ℕ) (opens : ℕ → Bool) (w : Walked) (bytes : List ℕ) → written b r opens w ≡ some bytes → bytes ≡ encodeModel b r opens (w .assignment)
+written-is : (b r : ℕ) (opens : ℕ → Bool) (w : Walked) (bytes : List ℕ) → written b r opens w ≡ some bytes
+    → bytes ≡ encodeModel b r opens (w .assignment)
 unfolding written
 written-is b r opens w bytes e = by (w .exceeded || tooLarge r (w .assignment)) refl
   where

@@ -46,7 +46,8 @@ pub record ReadModel (s : List ℕ) (b r : ℕ) (opens : ℕ → Bool) (back : M
   pub numerators : Amounts (back .model .numerators)
   pub denominator : (1 ≤ back .model .denominator) × (back .model .denominator ≤ limit.amount)
 
-pub read-refused : (s : List ℕ) (b r : ℕ) (opens : ℕ → Bool) (place : ℕ) → model b r opens s 0 ≡ fault refusal.BadModel place → ReadModel s b r opens (refused place)
+pub read-refused : (s : List ℕ) (b r : ℕ) (opens : ℕ → Bool) (place : ℕ) → model b r opens s 0 ≡ fault refusal.BadModel place
+    → ReadModel s b r opens (refused place)
 unfolding reading refused
 read-refused s b r opens place e = record { same = e; numerators = zeros-amounts limit.rationals; denominator = (omega arith, omega arith) }
 
@@ -105,7 +106,8 @@ module _ {s : List ℕ} {b r : ℕ} where
   denominator-there : Sized s b r → layout.modelDenominator b + 4 ≤ length s
   denominator-there h = omega (arith, h .long, h .booleans)
 
-  pub booleans-differ : (opens : ℕ → Bool) → Sized s b r → (getD s layout.modelBooleans 0 ≡ b → ⊥) → model b r opens s 0 ≡ fault refusal.BadModel layout.modelBooleans
+  pub booleans-differ : (opens : ℕ → Bool) → Sized s b r → (getD s layout.modelBooleans 0 ≡ b → ⊥)
+      → model b r opens s 0 ≡ fault refusal.BadModel layout.modelBooleans
   unfolding model
   booleans-differ opens h n = stops s 1 (eqb b) refusal.BadModel layout.modelBooleans _ (omega (arith, h .long))
       (rw (fieldAt-1 layout.modelBooleans s (omega (arith, h .long))) (ne-eqb b (getD s layout.modelBooleans 0) (λ e. n (sym e))))
@@ -137,7 +139,8 @@ module _ {s : List ℕ} {b r : ℕ} where
         (rw (fieldAt-1 (layout.modelRationals b) s l) (ne-eqb r (getD s (layout.modelRationals b) 0) (λ e. n (sym e))))
 
     denominator-on : RationalsAhead s b r opens flags
-        → model b r opens s 0 ≡ denominatorOn r (bytesAt s b layout.modelFlags) (drop (layout.modelDenominator b) s) (layout.modelDenominator b)
+        → model b r opens s 0
+        ≡ denominatorOn r (bytesAt s b layout.modelFlags) (drop (layout.modelDenominator b) s) (layout.modelDenominator b)
     unfolding rationalsOn
     denominator-on h =
         let l = r-there (h .booleans .sized) in

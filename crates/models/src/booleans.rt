@@ -1,4 +1,4 @@
-// "b bytes of 0 or 1" as a set, and 02, (iv)'s 2 of the open ones.
+// "b bytes of 0 or 1" as a set; 02, (iv): 2 of an open variable, one that is not in the mask `occurring`.
 use masks::member;
 use masks::with;
 ghost use mathlib.Core.Path.{_≡_};
@@ -36,7 +36,7 @@ fn joined(mask: u32, i: usize, byte: u8) -> u32
     mask
 }
 
-// So many bytes; variables that are not occurring are open.
+// So many bytes.
 pub fn booleans(s: &[u8], from: usize, count: u8, occurring: u32) -> Flags
     requires { ⌜ from + count ≤ length (now s) ⌝ }
     requires { ⌜ count ≤ booleans ⌝ }

@@ -1,5 +1,5 @@
-// The 64 bytes of a model: "b; b bytes of 0 or 1; r; four bytes denominator; r numerators of four bytes; zeros"; variables that are not
-// occurring are open.
+// The 64 bytes of a model: "b; b bytes of 0 or 1; r; four bytes denominator; r numerators of four bytes; zeros"; 02, (iv): 2 of an open
+// variable, one that is not in the mask `occurring`.
 use crate::model::Model;
 use fields::put_amount;
 use fields::put_bytes;
@@ -90,7 +90,8 @@ pub fn write_model(buffer: &mut [u8], b: u8, r: u8, occurring: u32, model: Model
     requires { ⌜ b ≤ booleans ⌝ }
     requires { ⌜ r ≤ rationals ⌝ }
     requires { ⌜ Amounts (model .numerators) ⌝ }
-    ensures { λ _. ⌜ now (buffer .exit) ≡ encodeModel b r (outside occurring) (assignment model) ++ drop modelBytes (now (buffer .entry)) ⌝ }
+    ensures { λ _. ⌜ now (buffer .exit)
+        ≡ encodeModel b r (outside occurring) (assignment model) ++ drop modelBytes (now (buffer .entry)) ⌝ }
 {
     let bytes = encode_model(b, r, occurring, model);
     put_bytes(buffer, 0, &bytes);

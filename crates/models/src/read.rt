@@ -44,7 +44,7 @@ fn is_denominator(n: u64) -> bool
     1 <= n && n <= Limits::AMOUNT
 }
 
-// Of a problem with b Boolean and r rational variables; those that are not occurring are open.
+// Of a problem with b Boolean and r rational variables, of which those not in `occurring` are open.
 pub fn read_model(s: &[u8], b: u8, r: u8, occurring: u32) -> ModelRead
     requires { ⌜ modelBytes ≤ length (now s) ⌝ }
     requires { ⌜ b ≤ booleans ⌝ }

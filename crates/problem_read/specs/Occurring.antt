@@ -57,12 +57,12 @@ module _ (i : ℕ) where
 
   variables-has : (ls : List Literal) (s : Booleans) → All (λ l. l .boolean < length s) ls
       → getD (withVariables ls s) i false ≡ any (λ l. eqb (l .boolean) i) ls || getD s i false
-  unfolding withVariables any
+  unfolding withVariables including any
   variables-has [] s h = refl
   variables-has (l ∷ ls) s h =
       let k = l .boolean in
       let rest = any (λ l. eqb (l .boolean) i) ls in
-      variables-has ls (including k s) (all-map _ _ ls (λ l n. rw (length-variables (record { boolean = k; negated = false } ∷ []) s) n) (h .1))
+      variables-has ls (including k s) (all-map _ _ ls (λ l n. rw (length-set s k true) n) (h .1))
       ∙ ap (λ (b : Bool). rest || b) (including-has k s (h .0)) ∙ swapped rest (eqb k i) (getD s i false)
 
   clauses-has : (b r : ℕ) (cs : List Clause) (s : Booleans) → b ≤ length s → All (WellFormedClause b r) cs

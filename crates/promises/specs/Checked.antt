@@ -1,5 +1,5 @@
 -- The check accepts a proof exactly if its lines follow and the last is empty, and a model exactly if every clause holds.
-use mathlib.Core.Path.{_≡_, refl, _∙_}
+use mathlib.Core.Path.{_≡_, refl, sym, _∙_}
 use mathlib.Core.Bool.{Bool, true, false, _&&_}
 use mathlib.Core.Logic.{_↔_, ⊎-elim}
 use mathlib.Core.List.{List, [], _∷_}
@@ -16,6 +16,7 @@ use Rattle.rules_types.specs.declared.answers.Checked.the-variants.{Accepted, F
 use Rattle.rules_types.specs.declared.limits.Limits.{Limits}
 use Rattle.rules_types.specs.declared.terms.Terms.{Terms}
 use Rattle.rules_types.specs.Limits as limit
+use Rattle.rules.specs.Lists.{all}
 use Rattle.rules.specs.Problem.{Clause, Problem, inEdition, Read, fault, got}
 use Rattle.rules.specs.Meaning.{Assignment, clauseHolds, Satisfies}
 use Rattle.rules.specs.Elimination.{loadableOf}
@@ -24,7 +25,8 @@ use Rattle.rules.specs.Checker.{followedLines, checkProof, checkClauses}
 use Rattle.rules.specs.Calls.{faulty, sound, read, wholeSteps, proofChecked, modelChecked}
 use Rattle.theory_lists.specs.Tests.{split, is-true, is-false, clash}
 use Rattle.theory_checks.specs.ProofChecked.{refused-not, same-problem}
-use Rattle.theory_checks.specs.ModelChecked.{CheckedModel, model-checked-satisfies, satisfying-model-checked}
+use Rattle.theory_checks.specs.ModelChecked.{accepted-clauses, CheckedModel, model-checked-satisfies, model-checks}
+use Rattle.theory_checks.specs.ModelChecked.{satisfying-model-checked}
 use Rattle.theory_splitting.specs.WellFormed.{WellFormed}
 use Rattle.theory_splitting.specs.WellRead.{posed-well-formed}
 use Rattle.theory_bytes.specs.Bytes.{AllBytes}
@@ -33,8 +35,8 @@ use Rattle.theory_layout.specs.Models.{refused-exactly}
 use Rattle.theory_checks.specs.EndsEmpty.{end-accepted}
 use Rattle.theory_checks.specs.LinesFollow.{follow-exactly}
 use Rattle.theory_checks.specs.Writable.{parts-writable}
-use Rattle.promises.specs.Words.{Refutes, WritesAssignment}
-use Rattle.promises.specs.Opens.{open-marks}
+use Rattle.promises.specs.Words.{Refutes, WritesAssignment, OpenVariables}
+use Rattle.promises.specs.Opens.{open-variables}
 
 accepted-exactly : (p : Problem) → WellFormed p → (bytes : List ℕ) → AllBytes bytes → length bytes / limit.stepBytes ≤ limit.mostSteps
     → checkProof p bytes ≡ Accepted
@@ -94,14 +96,11 @@ module _ (terms : Terms) (input : List ℕ) (q : Problem) (e : read input ≡ so
 
   read-assignment : (bytes : List ℕ) (c : CheckedModel terms input bytes) → c .problem ≡ q → WritesAssignment p bytes
   read-assignment bytes c same =
-      let stated : StatesModel bytes (p .booleans) (p .rationals) (isOpen p) (c .assignment) = rw same at (c .states) in
-      let satisfies : Satisfies (c .assignment) p = rw same at (c .satisfies) in
       record {
         size = c .size;
         assignment = c .assignment;
-        stated = stated;
-        satisfies = satisfies;
-        opens = open-marks p (posed-well-formed (terms .edition) input q e) (c .assignment) bytes stated satisfies;
+        stated = rw same at (c .states);
+        satisfies = rw same at (c .satisfies);
       }
 
   pub model-exactly : (bytes : List ℕ) → modelChecked terms input bytes ≡ Accepted ↔ WritesAssignment p bytes
@@ -110,6 +109,17 @@ module _ (terms : Terms) (input : List ℕ) (q : Problem) (e : read input ≡ so
         read-assignment bytes c (same-problem (read input) (c .problem) q (c .reads) e),
     λ h. satisfying-model-checked terms input bytes q e (h .size) (h .assignment) (h .stated) (h .satisfies),
   )
+
+  -- 02, (iv): an accepted model has 2 exactly at open variables, and satisfies with either value
+  pub accepted-opens : (bytes : List ℕ) → modelChecked terms input bytes ≡ Accepted → (χ : Assignment)
+      → StatesModel bytes (p .booleans) (p .rationals) (isOpen p) χ → OpenVariables p bytes χ
+  accepted-opens bytes a χ s =
+      let c = model-checked-satisfies terms input bytes a in
+      let h = satisfied (accepted-clauses χ 0 (p .clauses) .0 (sym (model-checks terms input bytes q e (c .size) χ s) ∙ a)) in
+      open-variables p (posed-well-formed (terms .edition) input q e) χ bytes s h
+    where
+      satisfied : T (all (clauseHolds χ) (p .clauses)) → Satisfies χ p
+      satisfied h = record { denominator = s .least; clauses = h }
 
   -- what a check refuses itself: a proof by its length; a model too short, else by the first field that is refused
   pub proof-length-refused : (bytes : List ℕ) → wholeSteps limits (length bytes) ≡ false

@@ -21,8 +21,9 @@ use Rattle.theory_layout.specs.Offsets.{StatesModel, FirstBadField}
 use Rattle.theory_splitting.specs.Occurs.{open-exactly}
 use Rattle.theory_checks.specs.ProofChecked.{proof-checked-refutes}
 use Rattle.promises.specs.Decided.{NoAssignment}
-use Rattle.promises.specs.Words.{WholeLines, Refutes, InNoClause, WritesAssignment}
-use Rattle.promises.specs.Checked.{model-exactly, model-short-refused, model-field-refused, proof-refused, model-refused}
+use Rattle.promises.specs.Words.{WholeLines, Refutes, InNoClause, OpenVariables, WritesAssignment}
+use Rattle.promises.specs.Checked.{model-exactly, accepted-opens, model-short-refused, model-field-refused, proof-refused}
+use Rattle.promises.specs.Checked.{model-refused}
 use Rattle.promises.specs.Failing.{ClauseFails, LineFails, model-fails}
 use Rattle.promises.specs.Whole.{accepted-lines, failing-line, refused-length}
 
@@ -44,12 +45,15 @@ pub record ChecksProof (terms : Terms) (input proof : List ℕ) (says : Checked)
 pub record ChecksModel (terms : Terms) (input bytes : List ℕ) (says : Checked) : Type 0 where
   pub faultyInput : (f : Refusal) (place : ℕ) → read input ≡ faulty f place → says ≡ Refused f place
   pub short : (p : Problem) → read input ≡ sound p → length bytes < limit.modelBytes → says ≡ Refused ShortModel 0
-  -- 02, (iv): which Boolean variables are open
+  -- 02, (iv): which Boolean variables are open; "An accepted sheet with a 2 satisfies the question with either value."
   pub opens : (p : Problem) → read input ≡ sound p → (i : ℕ)
       → (let posed = inEdition (terms .edition) p in T (isOpen posed i) ↔ InNoClause posed i)
+  pub either : (p : Problem) → read input ≡ sound p → says ≡ Accepted → (χ : Assignment)
+      → (let posed = inEdition (terms .edition) p in
+      StatesModel bytes (posed .booleans) (posed .rationals) (isOpen posed) χ → OpenVariables posed bytes χ)
   pub field : (p : Problem) → read input ≡ sound p → limit.modelBytes ≤ length bytes → (place : ℕ) → (says ≡ Refused BadModel place)
       ↔ (let posed = inEdition (terms .edition) p in FirstBadField bytes (posed .booleans) (posed .rationals) (isOpen posed) place)
-  -- "a sheet exactly if every clause holds": the assignment on it satisfies Q; 02, (iv), "with either value" where it has a 2
+  -- "a sheet exactly if every clause holds": the assignment on it satisfies Q
   pub accepted : (p : Problem) → read input ≡ sound p → (says ≡ Accepted) ↔ WritesAssignment (inEdition (terms .edition) p) bytes
   -- "the first clause that fails"
   pub fails : (p : Problem) → read input ≡ sound p → (χ : Assignment) → limit.modelBytes ≤ length bytes
@@ -74,6 +78,7 @@ checks-model terms input bytes =
       faultyInput = λ f place e. model-refused input f place e terms bytes;
       short = λ p e. model-short-refused terms input p e bytes;
       opens = λ p e. open-exactly (inEdition (terms .edition) p);
+      either = λ p e. accepted-opens terms input p e bytes;
       field = λ p e. model-field-refused terms input p e bytes;
       accepted = λ p e. model-exactly terms input p e bytes;
       fails = λ p e. model-fails terms input p e bytes;

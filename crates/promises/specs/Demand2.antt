@@ -33,6 +33,7 @@ use Rattle.theory_saturation.specs.Taken.{problem-ordered}
 use Rattle.theory_saturation.specs.Drops.{Subsumes, drops-exactly, covered-exactly}
 use Rattle.theory_bytes.specs.Bytes.{AllBytes}
 use Rattle.theory_bytes.specs.Relations.{relation-bytes}
+use Rattle.theory_layout.specs.Offsets.{StatesModel}
 use Rattle.theory_splitting.specs.EveryPart.{EveryPart, every-part}
 use Rattle.theory_resolution.specs.Result.{IsResolvent, resolve-is}
 use Rattle.theory_splitting.specs.WellFormed.{WellFormedClause, splitsIn}
@@ -52,10 +53,10 @@ use Rattle.theory_elimination.specs.Costs.{Costs, costs}
 use Rattle.theory_elimination.specs.InOrder.{InOrder, round-in-order}
 use Rattle.theory_elimination.specs.Exactly.{Exactly}
 use Rattle.theory_elimination.specs.Loaded.{AllLoaded}
-use Rattle.promises.specs.Words.{WholeLines, Refutes, InNoClause, WritesAssignment}
+use Rattle.promises.specs.Words.{WholeLines, Refutes, InNoClause, OpenVariables, WritesAssignment}
 use Rattle.theory_elimination.specs.OfProblem.{elimination-lines, elimination-undropped, elimination-distinct, elimination-is}
 use Rattle.theory_elimination.specs.OfProblem.{elimination-only, elimination-parts, elimination-normalized}
-use Rattle.promises.specs.Checked.{model-exactly}
+use Rattle.promises.specs.Checked.{model-exactly, accepted-opens}
 use Rattle.promises.specs.Whole.{accepted-lines}
 use Rattle.promises.specs.Handing.{hands}
 use Rattle.promises.specs.HandedBack.{HandedBack, handed-after}
@@ -111,6 +112,9 @@ pub record Demand2 (edition : ℕ) (input : List ℕ) (p : Problem) : Type 0 whe
       ↔ ((k : ℕ) × WholeLines limits (length bytes) k × Refutes (loadableOf p) k bytes)
   pub model : (limits : Limits) (bytes : List ℕ) → modelChecked (record { limits = limits; edition = edition }) input bytes ≡ Accepted
       ↔ WritesAssignment p bytes
+  -- (iv): "An accepted sheet with a 2 satisfies the question with either value."
+  pub either : (limits : Limits) (bytes : List ℕ) → modelChecked (record { limits = limits; edition = edition }) input bytes ≡ Accepted
+      → (χ : Assignment) → StatesModel bytes (p .booleans) (p .rationals) (isOpen p) χ → OpenVariables p bytes χ
 
 pub demand2 : (edition : ℕ) (input : List ℕ) (q : Problem) → read input ≡ sound q → Demand2 edition input (inEdition edition q)
 demand2 edition input q e = let p = inEdition edition q in record {
@@ -141,6 +145,7 @@ demand2 edition input q e = let p = inEdition edition q in record {
   opens = open-exactly p;
   proof = λ limits few bytes b. accepted-lines (record { limits = limits; edition = edition }) input q e bytes b few;
   model = λ limits. model-exactly (record { limits = limits; edition = edition }) input q e;
+  either = λ limits. accepted-opens (record { limits = limits; edition = edition }) input q e;
 }
 
 -- "so every non-empty part our solver hands back.": with its own answer, and what it left in the buffers

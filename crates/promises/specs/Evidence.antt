@@ -34,7 +34,7 @@ use Rattle.promises.specs.Decided.{running-satisfies}
 use Rattle.promises.specs.Words.{OurModel, Comes}
 use Rattle.promises.specs.Outcomes.{finished, walkModel, concluded-running, answerOf, finished-unsatisfiable, walk-is, model-is}
 use Rattle.promises.specs.Outcomes.{unstopped-fits}
-use Rattle.promises.specs.Opens.{open-marks}
+use Rattle.promises.specs.Opens.{open-variables}
 use Rattle.promises.specs.Reported.{left, reported-lines, proof-holds}
 
 -- ---- the model
@@ -58,7 +58,7 @@ module _ (limits : Limits) (p : Problem) (w : WellFormed p) where
         beyond = drop-at bytes old limit.modelBytes
             (rw (k .is) (model-length (p .booleans) (p .rationals) (isOpen p) (walked .assignment) (k .fits)));
         satisfies = rw same s;
-        opens = rw (same, k .is) (open-marks p w (walked .assignment) _ (m .states) s);
+        opens = rw (same, k .is) (open-variables p w (walked .assignment) _ (m .states) s);
       }
 
   pub our-model : (proof model : List ℕ) → Comes Satisfiable (answerOf (concluded p (elimination (limited limits) p)))

@@ -1,5 +1,5 @@
 -- 02, (iv): where a model has a 2, and that either value does there.
-use mathlib.Core.Path.{_≡_, refl, sym, _∙_}
+use mathlib.Core.Path.{_≡_, sym, _∙_}
 use mathlib.Core.Logic.{_↔_}
 use mathlib.Core.Bool.{Bool, true, false, cond}
 use mathlib.Core.List.{List}
@@ -12,29 +12,25 @@ use Rattle.rules.specs.Meaning.{Assignment, Satisfies}
 use Rattle.rules.specs.Model.{isOpen}
 use Rattle.theory_layout.specs.Offsets.{StatesModel}
 use Rattle.theory_splitting.specs.WellFormed.{WellFormed}
-use Rattle.theory_splitting.specs.Occurs.{open-exactly, literals-closed}
+use Rattle.theory_splitting.specs.Occurs.{open-exactly, closed-stands, literals-closed}
 use Rattle.theory_checks.specs.Agreement.{Agree, checks-agree}
 use Rattle.theory_checks.specs.ModelChecked.{accepted-clauses}
-use Rattle.promises.specs.Words.{InNoClause, choosing, OpenMarks}
+use Rattle.promises.specs.Words.{InNoClause, DiffersThere, OpenVariables}
 
 module _ (p : Problem) (w : WellFormed p) (χ : Assignment) where
-  chosen-agrees : (choice : ℕ → Bool) → Agree (p .booleans) (p .rationals) (isOpen p) χ (choosing p choice χ)
-  unfolding choosing
-  chosen-agrees choice = record {
-    booleans = λ i h o. rw (o, cond);
-    numerators = λ f h. refl;
-    denominator = refl;
+  agrees : (ξ : Assignment) → DiffersThere p χ ξ → Agree (p .booleans) (p .rationals) (isOpen p) χ ξ
+  agrees ξ d = record {
+    booleans = λ i h o. sym (d .booleans i (closed-stands p i o));
+    numerators = λ f h. sym (d .numerators f h);
+    denominator = sym (d .denominator);
   }
 
-  either-satisfies : Satisfies χ p → (choice : ℕ → Bool) → Satisfies (choosing p choice χ) p
-  unfolding choosing
-  either-satisfies s choice =
-      let same = checks-agree (p .booleans) (p .rationals) (isOpen p) χ (choosing p choice χ) (chosen-agrees choice) 0 (p .clauses)
-      (w .clauses) (literals-closed p) in
+  either-satisfies : Satisfies χ p → (ξ : Assignment) → DiffersThere p χ ξ → Satisfies ξ p
+  either-satisfies s ξ d =
+      let same = checks-agree (p .booleans) (p .rationals) (isOpen p) χ ξ (agrees ξ d) 0 (p .clauses) (w .clauses) (literals-closed p) in
       record {
-        denominator = s .denominator;
-        clauses = accepted-clauses (choosing p choice χ) 0 (p .clauses) .0
-            (sym same ∙ accepted-clauses χ 0 (p .clauses) .1 (s .clauses));
+        denominator = rw (d .denominator) (s .denominator);
+        clauses = accepted-clauses ξ 0 (p .clauses) .0 (sym same ∙ accepted-clauses χ 0 (p .clauses) .1 (s .clauses));
       }
 
   module _ (bytes : List ℕ) (s : StatesModel bytes (p .booleans) (p .rationals) (isOpen p) χ) where
@@ -49,5 +45,5 @@ module _ (p : Problem) (w : WellFormed p) (χ : Assignment) where
         by false true e = (λ f. omega arith, λ t. absurd t)
         by false false e = (λ f. omega arith, λ t. absurd t)
 
-    pub open-marks : Satisfies χ p → OpenMarks p bytes χ
-    open-marks t = record { two = two-exactly; either = either-satisfies t }
+    pub open-variables : Satisfies χ p → OpenVariables p bytes χ
+    open-variables t = record { two = two-exactly; either = either-satisfies t }

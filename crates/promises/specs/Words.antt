@@ -1,7 +1,6 @@
 -- The words of the demands, for their statements.
 use mathlib.Core.Path.{_≡_}
 use mathlib.Core.Logic.{_↔_, _⊎_}
-use mathlib.Core.Bool.{Bool, cond}
 use mathlib.Core.List.{List, [], _∷_, map}
 use mathlib.Core.Option.{Option, none, some}
 use Prim.Native.Nat.{ℕ, _+_, _*_, _≤_, _<_}
@@ -82,19 +81,16 @@ pub record HoldsLines (limits : Limits) (p : Problem) (proof lentProof : List �
 abbrev pub InNoClause : Problem → ℕ → Type 0
 InNoClause p i = Stands i (p .clauses) → ⊥
 
--- an assignment with other values of the open Boolean variables
-unfoldable pub choosing : Problem → (ℕ → Bool) → Assignment → Assignment
-choosing p choice χ =
-    record {
-      booleans = λ i. cond (isOpen p i) (choice i) (χ .booleans i);
-      numerators = χ .numerators;
-      denominator = χ .denominator;
-    }
+-- another assignment, which differs at those alone
+pub record DiffersThere (p : Problem) (χ ξ : Assignment) : Type 0 where
+  pub booleans : (i : ℕ) → Stands i (p .clauses) → ξ .booleans i ≡ χ .booleans i
+  pub numerators : (f : ℕ) → f < p .rationals → ξ .numerators f ≡ χ .numerators f
+  pub denominator : ξ .denominator ≡ χ .denominator
 
--- "2 exactly there"; "satisfies the question with either value": of each open one, in every combination
-pub record OpenMarks (p : Problem) (bytes : List ℕ) (χ : Assignment) : Type 0 where
+-- "2 exactly there"; "satisfies the question with either value": of each of them, in every combination
+pub record OpenVariables (p : Problem) (bytes : List ℕ) (χ : Assignment) : Type 0 where
   pub two : (i : ℕ) → i < p .booleans → (fieldAt (1 + i) 1 bytes ≡ 2) ↔ InNoClause p i
-  pub either : (choice : ℕ → Bool) → Satisfies (choosing p choice χ) p
+  pub either : (ξ : Assignment) → DiffersThere p χ ξ → Satisfies ξ p
 
 -- "ours is that sheet, and the choice on it satisfies Q": `ours` is what solving leaves, `lentModel` what the lent model held before
 pub record OurModel (p : Problem) (ours : Solving) (lentModel : List ℕ) : Type 0 where
@@ -102,7 +98,7 @@ pub record OurModel (p : Problem) (ours : Solving) (lentModel : List ℕ) : Type
   pub written : ModelAt (ours .model) (p .booleans) (p .rationals) (isOpen p) (walkOf p .assignment)
   pub beyond : drop limit.modelBytes (ours .model) ≡ drop limit.modelBytes lentModel
   pub satisfies : Satisfies (walkOf p .assignment) p
-  pub opens : OpenMarks p (ours .model) (walkOf p .assignment)
+  pub opens : OpenVariables p (ours .model) (walkOf p .assignment)
 
 -- "every clause holds": bytes enough for a model, and the assignment that they state satisfies Q
 pub record WritesAssignment (p : Problem) (bytes : List ℕ) : Type 0 where
@@ -110,7 +106,6 @@ pub record WritesAssignment (p : Problem) (bytes : List ℕ) : Type 0 where
   pub assignment : Assignment
   pub stated : StatesModel bytes (p .booleans) (p .rationals) (isOpen p) assignment
   pub satisfies : Satisfies assignment p
-  pub opens : OpenMarks p bytes assignment
 
 -- "64 to 65,536 by 64s": bytes of k whole lines, no more than the limit
 pub record WholeLines (limits : Limits) (bytes k : ℕ) : Type 0 where

@@ -53,8 +53,9 @@ unfolding any all filter concat same tabulate put gcdWithin gcd gcdAll lcm sum s
     overflows limited unlimited placed asTight drops covered select pairUp sideOf roundPairs partSteps loadable loadableOf add load tried
     tryAll without count costOf cost cheapest pick rounds eliminate chosenRounds otherRounds chosenRun elimination orderOf reduce quotient
     less midpoint plus beyond tighter value boundOf boundsOf gather tightest rationalValue withoutBoolean booleanValue withRational
-    withBoolean assign exceeds start walkFrom walk occurs isOpen booleanByte isBooleanByte encodeModel tooLarge written model pairable derived variableNamed
-    resolventNamed lineAmong statedLine followed followedLines endsEmpty withEmptyEnd checkProof checkClauses withinSplits read noModel
+    withBoolean assign exceeds start walkFrom walk occurs isOpen booleanByte isBooleanByte encodeModel tooLarge written model pairable
+    derived variableNamed resolventNamed lineAmong statedLine followed followedLines endsEmpty withEmptyEnd checkProof checkClauses
+    withinSplits read noModel
     concluded outcome lent said proofAfter modelAfter solve wholeSteps proofChecked modelChecked evidence evidenceBytes ascii digitsWithin
     decimal signedDecimal printLine printStep printProof printModel printRefusal printed stepsOf pairsOf needs listed triedResolvents
     roundResolvents resolvents refusalNumber verdictNumber answerNumber answerValue checkedNumber checkedValue evidenceNumber

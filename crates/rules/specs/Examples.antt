@@ -1,5 +1,5 @@
 -- Document 01's starred examples 1 to 10, each variant; example 12 and questions that tell readings of requests (vii), (viii), in
--- Equalities (i) and in OpenMarks (iv) apart; computed from the problem's bytes.
+-- Equalities (i) and in OpenVariables (iv) apart; computed from the problem's bytes.
 use mathlib.Core.Path.{_≡_, refl}
 use mathlib.Core.List.{List, [], _∷_, _++_, map}
 use Prim.Native.Nat.{ℕ, _+_, _*_}
@@ -14,7 +14,7 @@ use Rattle.rules.specs.Print.{ascii, printed}
 use Rattle.rules.specs.Write.{atMost, below, clauseOf, alone, problemOf}
 use Rattle.rules.specs.Compute.{definitions, Example, bare, satisfiable, unsatisfiable, shown}
 use Rattle.rules.specs.Equalities.{equalities}
-use Rattle.rules.specs.OpenMarks.{openMarks}
+use Rattle.rules.specs.OpenVariables.{openVariables}
 
 -- 1. Bytes 0 0 0 0: agrees, 0, 0.
 abbrev one : Example
@@ -336,7 +336,7 @@ table =
     ∷ allKinds ∷ named
     ∷ subsets ∷ eachSign ∷ bareLines ∷ smaller ∷ asStrict ∷ asNormalized ∷ partsToo ∷ splitVariables
     ∷ byResolvents ∷ pairsCount ∷ overflowFirst
-    ∷ twelve 24 ∷ twelve 25 ∷ (equalities ++ openMarks)
+    ∷ twelve 24 ∷ twelve 25 ∷ (equalities ++ openVariables)
 
 -- the tabled result
 pub starred : map (λ e. shown (e .input)) table ≡ map (λ e. e .shows) table

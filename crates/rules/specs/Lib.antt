@@ -20,6 +20,6 @@ pub mod Write
 pub mod Written
 pub mod Compute
 pub mod Equalities
-pub mod OpenMarks
+pub mod OpenVariables
 pub mod Examples
 pub mod Traps

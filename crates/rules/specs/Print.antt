@@ -47,7 +47,8 @@ printStep s = let h = header (s .origin) in printLine (decimal (h .how)) (map de
 unfoldable pub printProof : List Step → List ℕ
 printProof steps = printLine (ascii "lines") (decimal (length steps) ∷ []) ++ concat (map printStep steps)
 
--- "after each count one line for each mark, 0 or 1, or for each figure, numerator and the sheet's denominator"
+-- "after each count one line for each mark, 0 or 1, or for each figure, numerator and the sheet's denominator"; 02, (iv): an open mark's
+-- byte, 2, "prints as 2"
 unfoldable pub printModel : List ℕ → List ℕ
 printModel bytes =
     let b = fieldAt layout.modelBooleans 1 bytes in

@@ -77,12 +77,12 @@ pub seven-handed-back : evidence limit.standard (verdictNumber Unsatisfiable) 5 
 unfolding definitions
 seven-handed-back = refl
 
--- ---- "agrees", with a Boolean variable and a rational variable: a; x < 5; -x < -4
+-- ---- "agrees", with two Boolean variables, of which one is open, and a rational variable: a; x < 5; -x < -4
 abbrev half : List ℕ
-half = problemOf 1 1 (clauseOf (0 ∷ []) [] ∷ alone (below (pos 1 ∷ []) (pos 5)) ∷ alone (below (negsuc 0 ∷ []) (negsuc 3)) ∷ [])
+half = problemOf 2 1 (clauseOf (0 ∷ []) [] ∷ alone (below (pos 1 ∷ []) (pos 5)) ∷ alone (below (negsuc 0 ∷ []) (negsuc 3)) ∷ [])
 
 abbrev halfModel : List ℕ
-halfModel = (1 ∷ 1 ∷ 1 ∷ 2 ∷ 0 ∷ 0 ∷ 0 ∷ 9 ∷ 0 ∷ 0 ∷ 0 ∷ []) ++ zeros 53
+halfModel = (2 ∷ 1 ∷ 2 ∷ 1 ∷ 2 ∷ 0 ∷ 0 ∷ 0 ∷ 9 ∷ 0 ∷ 0 ∷ 0 ∷ []) ++ zeros 52
 
 pub half-solved : solve standard half lentProof lentModel
     ≡ record {

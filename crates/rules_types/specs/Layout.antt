@@ -56,7 +56,7 @@ stepBound = 48
 abbrev pub stepZeros : ℕ
 stepZeros = 52
 
--- of a model: "b; b bytes of 0 or 1; r; four bytes denominator; r numerators of four bytes"
+-- of a model: "b; b bytes of 0 or 1", or 2 (02, (iv)); "r; four bytes denominator; r numerators of four bytes"
 abbrev pub modelBooleans : ℕ
 modelBooleans = 0
 

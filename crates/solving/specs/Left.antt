@@ -146,7 +146,8 @@ module _ {limits : Limits} {p : Problem} (w : WellFormed p) {before after : List
         → Leaves limits (concluded p state) before model (zeroed (c .steps) (limits .steps) after) filled s
     leaves-saturated filled s h = by (written (p .booleans) (p .rationals) (isOpen p) (walk (orderOf p) (linesIn after (c .steps)))) refl
       where
-        concludes : (o : Option (List ℕ)) → written (p .booleans) (p .rationals) (isOpen p) (walk (orderOf p) (linesIn after (c .steps))) ≡ o
+        concludes : (o : Option (List ℕ))
+            → written (p .booleans) (p .rationals) (isOpen p) (walk (orderOf p) (linesIn after (c .steps))) ≡ o
             → concluded p state ≡ finished p state o
         concludes o f =
             concludes-at Running h o (sym (ap (λ ls. written (p .booleans) (p .rationals) (isOpen p) (walk (orderOf p) ls)) (e .lines)) ∙ f)

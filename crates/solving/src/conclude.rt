@@ -64,7 +64,7 @@ pub fn without_model(
     decided(v, c)
 }
 
-// "Without an empty line, turns are walked backwards." Variables that are not occurring are open.
+// "Without an empty line, turns are walked backwards." Boolean variables not in `occurring` are open.
 pub fn saturated(
     b: u8,
     r: u8,
@@ -82,7 +82,8 @@ pub fn saturated(
     requires { ⌜ ReadyLines (now proof) (run .end .steps) ⌝ }
     requires { ⌜ Narrow (now proof) (run .end .steps) r ⌝ }
     requires { ⌜ Ordered (variablesOf (run .order)) ⌝ }
-    ensures { λ s. ⌜ Written b r (outside occurring) (variablesOf (run .order)) (run .end) (now (proof .entry)) (now (model .entry)) (now (model .exit)) s ⌝ }
+    ensures { λ s. ⌜ Written b r (outside occurring) (variablesOf (run .order)) (run .end) (now (proof .entry)) (now (model .entry))
+        (now (model .exit)) s ⌝ }
     ensures { λ _. ⌜ now (proof .exit) ≡ zeroed (run .end .steps) (limits .steps) (now (proof .entry)) ⌝ }
 {
     let c = run.end;

@@ -126,7 +126,8 @@ module _ (b r : ℕ) (opens : ℕ → Bool) (χ : Assignment) where
     model-length = length-padded limit.modelBytes content content-length
 
     pub model-back : (rest : List ℕ)
-        → Reads (model b r opens) (encodeModel b r opens χ ++ rest) (readBack b r opens χ) (replicate (limit.modelBytes - length content) 0 ++ rest)
+        → Reads (model b r opens) (encodeModel b r opens χ ++ rest) (readBack b r opens χ)
+        (replicate (limit.modelBytes - length content) 0 ++ rest)
     unfolding encodeModel padded
     model-back rest =
         let tail : List ℕ = replicate (limit.modelBytes - length content) 0 in

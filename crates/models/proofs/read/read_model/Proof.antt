@@ -6,12 +6,15 @@ use native.Mathlib.Omega.{arith}
 use borrow.Author.Needs.{needs}
 use borrow.Author.Tests.{not-true, not-false}
 use lib.ListN.{getD}
+use Rattle.rules_types.specs.declared.answers.Refusal.the-variants as refusal
 use Rattle.rules_types.specs.Layout as layout
 use Rattle.rules.specs.Bytes.{fieldAt}
+use Rattle.rules.specs.Problem.{fault}
+use Rattle.rules.specs.Model.{model}
 use Rattle.masks.specs.Mask.{outside}
 use Rattle.models.specs.Numerators.{ReadNumerators}
-use Rattle.models.specs.Read.{isDenominator, read-refused, Sized, BooleansRead, RationalsAhead, RationalsRead, booleans-differ}
-use Rattle.models.specs.Read.{boolean-bad, rationals-differ, denominator-bad, numerator-bad, model-read}
+use Rattle.models.specs.Read.{isDenominator, refused, ReadModel, read-refused, Sized, BooleansRead, RationalsAhead, RationalsRead}
+use Rattle.models.specs.Read.{booleans-differ, boolean-bad, rationals-differ, denominator-bad, numerator-bad, model-read}
 use Rattle.models.proofs.read.read_model.Statement.{statement}
 use Rattle.models.proofs.read.read_model.Tie as tie
 
@@ -41,6 +44,10 @@ opens s = outside (s .args .occurring)
 
 sized : (s : tie.Start) → Sized (s .args .s .now) (s .args .b) (s .args .r)
 sized s = record { long = s .pre .0; booleans = s .pre .1 .0; rationals = s .pre .1 .1 }
+
+refused-at : (s : tie.Start) (place : ℕ) → model (s .args .b) (s .args .r) (opens s) (s .args .s .now) 0 ≡ fault refusal.BadModel place
+    → ReadModel (s .args .s .now) (s .args .b) (s .args .r) (opens s) (refused place)
+refused-at s = read-refused (s .args .s .now) (s .args .b) (s .args .r) (opens s)
 
 booleans-read : (c : tie.After-booleans) → let s = entry c in
     BooleansRead (s .args .s .now) (s .args .b) (s .args .r) (opens s) (c .booleans .result)
@@ -91,7 +98,7 @@ refused-requires c κs = search needs
 
 returns : tie.Need-returns
 returns c = let s = c .before .before .before .before in rw (c .refused .ensures)
-    (read-refused (s .args .s .now) (s .args .b) (s .args .r) (opens s) layout.modelBooleans (booleans-differ (opens s) (sized s) (c .before .if1 .taken)))
+    (refused-at s layout.modelBooleans (booleans-differ (opens s) (sized s) (c .before .if1 .taken)))
 
 booleans-requires : tie.Need-booleans-requires
 booleans-requires c κs = search needs
@@ -104,7 +111,7 @@ returns-2 c =
     let a = c .before .before .before in
     let s = entry a in
     rw (c .refused2 .ensures)
-    (read-refused (s .args .s .now) (s .args .b) (s .args .r) (opens s) _ (boolean-bad (booleans-read a) (not-true _ (c .before .if2 .taken))))
+    (refused-at s _ (boolean-bad (booleans-read a) (not-true _ (c .before .if2 .taken))))
 
 model-rationals-requires : tie.Need-model-rationals-requires
 model-rationals-requires c κs = search needs
@@ -121,7 +128,7 @@ returns-3 c =
     let a = behind-booleans m in
     let s = entry a in
     let n = subst (λ (k : ℕ). getD (s .args .s .now) k 0 ≡ s .args .r → ⊥) (m .model-rationals .ensures) (c .before .if3 .taken) in
-    rw (c .refused3 .ensures, m .model-rationals .ensures) (read-refused (s .args .s .now) (s .args .b) (s .args .r) (opens s) _
+    rw (c .refused3 .ensures, m .model-rationals .ensures) (refused-at s _
     (rationals-differ (booleans-read a) (not-false _ (m .before .if2 .left)) n))
 
 model-denominator-requires : tie.Need-model-denominator-requires
@@ -141,7 +148,7 @@ returns-4 c =
     let d = c .before .before in
     let e = passed-count (d .before) in
     let s = start e in
-    rw (c .refused4 .ensures, d .before .before .model-denominator .ensures) (read-refused (s .args .s .now) (s .args .b) (s .args .r) (opens s) _
+    rw (c .refused4 .ensures, d .before .before .model-denominator .ensures) (refused-at s _
     (denominator-bad (ahead e) (tested-is d ∙ not-true _ (c .before .if4 .taken))))
 
 model-numerators-requires : tie.Need-model-numerators-requires
@@ -158,7 +165,7 @@ returns-5 c =
     let n = c .before .before .before in
     let s = start (passed-count (behind-denominator n .before)) in
     rw (c .refused5 .ensures)
-    (read-refused (s .args .s .now) (s .args .b) (s .args .r) (opens s) _ (numerator-bad (rationals-read n) (not-true _ (c .before .if5 .taken))))
+    (refused-at s _ (numerator-bad (rationals-read n) (not-true _ (c .before .if5 .taken))))
 
 cast-t17 : tie.Need-cast-t17
 cast-t17 c =

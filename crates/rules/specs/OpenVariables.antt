@@ -17,8 +17,8 @@ use Rattle.rules.specs.Write.{atMost, equals, clauseOf, alone, problemOf
 use Rattle.rules.specs.Compute.{definitions, Example, satisfiable, unsatisfiable}
 
 -- a or x ≤ 5; b or not b. The clause of b is dropped, yet b stands in it; c stands in none
-abbrev third : Example
-third = record {
+abbrev besideTautology : Example
+besideTautology = record {
   input = problemOf 3 1 (clauseOf (0 ∷ []) (atMost (pos 1 ∷ []) (pos 5) ∷ []) ∷ clauseOf (1 ∷ 129 ∷ []) [] ∷ []);
   shows = satisfiable 1 0 (loaded 0 0 ∷ []) (0 ∷ 0 ∷ 2 ∷ []) (pos 5 ∷ []) 1;
 }
@@ -51,19 +51,21 @@ besideSplits = record {
   shows = satisfiable 2 1 (loaded 0 0 ∷ loaded 0 1 ∷ []) (2 ∷ 2 ∷ []) (pos 0 ∷ []) 1;
 }
 
--- a or x = 1, in whose second reading a stands again; the last of sixteen in the last clause; none in any clause
+-- a or x = 1: a stands in both readings
 abbrev readTwice : Example
 readTwice = record {
   input = problemOf 2 1 (clauseOf (0 ∷ []) (equals (pos 1 ∷ []) (pos 1) ∷ []) ∷ []);
   shows = satisfiable 2 1 (loaded 0 0 ∷ loaded 0 1 ∷ []) (0 ∷ 2 ∷ []) (pos 1 ∷ []) 1;
 }
 
+-- the last of sixteen, in the last clause
 abbrev lastOfSixteen : Example
 lastOfSixteen = record {
   input = problemOf 16 1 (alone (atMost (pos 1 ∷ []) (pos 0)) ∷ clauseOf (15 ∷ []) [] ∷ []);
   shows = satisfiable 2 0 (loaded 0 0 ∷ loaded 1 0 ∷ []) (replicate 15 2 ++ (1 ∷ [])) (pos 0 ∷ []) 1;
 }
 
+-- sixteen, and no clause
 abbrev allSixteen : Example
 allSixteen = record { input = problemOf 16 0 []; shows = satisfiable 0 0 [] (replicate 16 2) [] 1 }
 
@@ -71,20 +73,21 @@ allSixteen = record { input = problemOf 16 0 []; shows = satisfiable 0 0 [] (rep
 abbrev withoutModel : Example
 withoutModel = record { input = problemOf 2 0 (clauseOf [] [] ∷ []); shows = unsatisfiable 1 0 (loaded 0 0 ∷ []) }
 
-abbrev pub openMarks : List Example
-openMarks =
-    third ∷ besideConstant ∷ coveredClause ∷ negatedOnly ∷ besideSplits ∷ readTwice ∷ lastOfSixteen ∷ allSixteen ∷ withoutModel ∷ []
+abbrev pub openVariables : List Example
+openVariables =
+    besideTautology ∷ besideConstant ∷ coveredClause ∷ negatedOnly ∷ besideSplits ∷ readTwice ∷ lastOfSixteen ∷ allSixteen
+    ∷ withoutModel ∷ []
 
 -- "and prints as 2"
-pub third-printed : printed standard (third .input) ≡ ascii "agrees 1 0\nmarks 3\n0\n0\n2\nfigures 1\n5 1\n"
+pub tautology-printed : printed standard (besideTautology .input) ≡ ascii "agrees 1 0\nmarks 3\n0\n0\n2\nfigures 1\n5 1\n"
 unfolding definitions
-third-printed = refl
+tautology-printed = refl
 
 -- ---- the check of a model
 -- its bytes with x = 6, so that a decides
 abbrev answered : List ℕ → ℕ → Checked
 answered booleans r =
-    modelChecked standard (third .input) (padded 64 (3 ∷ booleans ++ (r ∷ toBytes 4 1) ++ toBytes 4 6))
+    modelChecked standard (besideTautology .input) (padded 64 (3 ∷ booleans ++ (r ∷ toBytes 4 1) ++ toBytes 4 6))
 
 -- c's byte is 2, and the first clause decides
 pub open-accepted : map (λ a. answered (a ∷ 0 ∷ 2 ∷ []) 1) (0 ∷ 1 ∷ []) ≡ Fails 0 ∷ Accepted ∷ []
