@@ -112,8 +112,8 @@ enum {
     JEMULING_SHEET = 2,       /* a sheet has under 64 bytes; 0 */
     JEMULING_CLAIM = 16,      /* a book to check has not 64 to 65,536 bytes by 64s, a preview's not 64 to 16,384; its
                                  length */
-    JEMULING_SLIP = 17,       /* a sheet to check has another count of marks or figures than the question, a mark not
-                                 2 that stands in no literal of the question, a mark not 0 or 1 that stands in one, a
+    JEMULING_SLIP = 17,       /* a sheet to check has another count of marks or figures than the question, a mark in no
+                                 literal of the question that is not 2, a mark in one that is not 0 or 1, a
                                  denominator outside 1 to 1,000,000,000, or a numerator beyond 1,000,000,000 in size;
                                  first byte of the first such field */
     /* A verdict; `value` is the count of the book's lines. */
@@ -160,7 +160,8 @@ typedef struct {
  * denominator. JEMULING_OPEN stands exactly at the marks that are in no literal
  * of the question as it is written: nothing decided them, the question is
  * satisfied with either value, and a caller must not take them for a no. A mark
- * whose clauses are all left out, by tidying or as covered, is not open: no.
+ * whose clauses are all left out, by tidying or as covered, is not open; its
+ * byte is JEMULING_NO.
  *
  * A line of the book: byte 0 is how it came (0 from a clause, 1 by eliminating
  * a figure, 2 a mark) and byte 1 that figure's or mark's number; two bytes
