@@ -15,17 +15,17 @@ use Rattle.theory_splitting.specs.WellFormed.{WellFormed}
 use Rattle.theory_splitting.specs.Occurs.{open-exactly, closed-stands, literals-closed}
 use Rattle.theory_checks.specs.Agreement.{Agree, checks-agree}
 use Rattle.theory_checks.specs.ModelChecked.{accepted-clauses}
-use Rattle.promises.specs.Words.{InNoClause, DiffersThere, OpenVariables}
+use Rattle.promises.specs.Words.{InNoClause, DiffersAtOpen, OpenVariables}
 
 module _ (p : Problem) (w : WellFormed p) (χ : Assignment) where
-  agrees : (ξ : Assignment) → DiffersThere p χ ξ → Agree (p .booleans) (p .rationals) (isOpen p) χ ξ
+  agrees : (ξ : Assignment) → DiffersAtOpen p χ ξ → Agree (p .booleans) (p .rationals) (isOpen p) χ ξ
   agrees ξ d = record {
     booleans = λ i h o. sym (d .booleans i (closed-stands p i o));
     numerators = λ f h. sym (d .numerators f h);
     denominator = sym (d .denominator);
   }
 
-  either-satisfies : Satisfies χ p → (ξ : Assignment) → DiffersThere p χ ξ → Satisfies ξ p
+  either-satisfies : Satisfies χ p → (ξ : Assignment) → DiffersAtOpen p χ ξ → Satisfies ξ p
   either-satisfies s ξ d =
       let same = checks-agree (p .booleans) (p .rationals) (isOpen p) χ ξ (agrees ξ d) 0 (p .clauses) (w .clauses) (literals-closed p) in
       record {

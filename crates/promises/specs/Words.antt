@@ -81,8 +81,8 @@ pub record HoldsLines (limits : Limits) (p : Problem) (proof lentProof : List �
 abbrev pub InNoClause : Problem → ℕ → Type 0
 InNoClause p i = Stands i (p .clauses) → ⊥
 
--- another assignment, which differs at those alone
-pub record DiffersThere (p : Problem) (χ ξ : Assignment) : Type 0 where
+-- another assignment, which differs at such variables alone
+pub record DiffersAtOpen (p : Problem) (χ ξ : Assignment) : Type 0 where
   pub booleans : (i : ℕ) → Stands i (p .clauses) → ξ .booleans i ≡ χ .booleans i
   pub numerators : (f : ℕ) → f < p .rationals → ξ .numerators f ≡ χ .numerators f
   pub denominator : ξ .denominator ≡ χ .denominator
@@ -90,7 +90,7 @@ pub record DiffersThere (p : Problem) (χ ξ : Assignment) : Type 0 where
 -- "2 exactly there"; "satisfies the question with either value": of each of them, in every combination
 pub record OpenVariables (p : Problem) (bytes : List ℕ) (χ : Assignment) : Type 0 where
   pub two : (i : ℕ) → i < p .booleans → (fieldAt (1 + i) 1 bytes ≡ 2) ↔ InNoClause p i
-  pub either : (ξ : Assignment) → DiffersThere p χ ξ → Satisfies ξ p
+  pub either : (ξ : Assignment) → DiffersAtOpen p χ ξ → Satisfies ξ p
 
 -- "ours is that sheet, and the choice on it satisfies Q": `ours` is what solving leaves, `lentModel` what the lent model held before
 pub record OurModel (p : Problem) (ours : Solving) (lentModel : List ℕ) : Type 0 where
