@@ -1,15 +1,15 @@
 -- 02, (iv): which Boolean variables stand in a clause, as it is written, and which are open.
 use mathlib.Core.Path.{_≡_, refl}
 use mathlib.Core.Logic.{_↔_, inl, inr, ⊎-elim}
-use mathlib.Core.Bool.{Bool, true, false, not}
+use mathlib.Core.Bool.{not, false}
 use mathlib.Core.List.{List, [], _∷_}
 use Prim.Native.Nat.{ℕ}
-use native.Mathlib.Omega.{arith}
+use borrow.Author.Tests.{not-false}
 use lib.Dec.{T, eqb, eqb→eq, eqb-refl}
 use Rattle.rules.specs.Lists.{any}
 use Rattle.rules.specs.Problem.{Literal, Clause, Problem}
 use Rattle.rules.specs.Model.{occurs, isOpen}
-use Rattle.theory_lists.specs.Tests.{split, is-false, clash}
+use Rattle.theory_lists.specs.Tests.{split, of-true, is-false, clash}
 use Rattle.theory_lists.specs.All.{All, Any, all-map, any-map, any-yes, yes-any}
 
 -- a literal of a clause has the variable
@@ -37,11 +37,7 @@ open-exactly p i =
 
 pub closed-stands : (p : Problem) (i : ℕ) → isOpen p i ≡ false → Stands i (p .clauses)
 unfolding isOpen
-closed-stands p i e = occurs-exactly i (p .clauses) .0 (by (occurs i (p .clauses)) e)
-  where
-    by : (b : Bool) → not b ≡ false → T b
-    by true e = tt
-    by false e = absurd (let z : _≡_ {A = ℕ} 0 1 = cc in omega arith)
+closed-stands p i e = let stands = occurs i (p .clauses) in occurs-exactly i (p .clauses) .0 (of-true stands (not-false stands e))
 
 -- ---- every literal's variable stands in its clause, so it is not open
 its-own : (ls : List Literal) → All (λ l. Any (λ k. k .boolean ≡ l .boolean) ls) ls
