@@ -17,6 +17,7 @@ pub mod Memory
 pub mod Left
 pub mod Denominator
 pub mod Total
+pub mod Editions
 pub mod Demand1
 pub mod Demand3
 pub mod HandedBack
