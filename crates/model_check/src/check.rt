@@ -33,7 +33,8 @@ fn check_posed(input: &[u8], sizes: Sizes, model: Model, edition: Edition) -> Ch
     let written = check_clauses(input, FIRST_CLAUSE, r, n, model);
     match written {
         Checked::Accepted => check_added(n, added(edition, r), model),
-        _ => written,
+        Checked::Fails(k) => Checked::Fails(k),
+        Checked::Refused(f, place) => Checked::Refused(f, place),
     }
 }
 

@@ -10,11 +10,15 @@ use step_check::compare::compared;
 use step_check::compare::unstated;
 use steps::access::origin_at;
 use steps::origin::Origin;
+ghost use Prim.Native.Nat.{_≤_};
+ghost use Rattle.rules_types.specs.Limits.{rationals};
 ghost use Rattle.rules.specs.Elimination.{loadableOf};
 ghost use Rattle.rules.specs.Checker.{lineAmong};
-ghost use Rattle.problem_read.specs.Parsed.{problemAt};
+ghost use Rattle.problem_read.specs.Parsed.{posedAt};
+ghost use Rattle.step_check.specs.Named.{clause};
 ghost use Rattle.step_check.specs.Stated.{States};
 ghost use Rattle.proof_check.specs.Index.{Known};
+ghost use Rattle.proof_check.specs.Loaded.{addedStated};
 
 // Of the clauses that the edition adds, which have one part each: clause n states that rational variable 0 is at least 0.
 fn loaded_behind(sizes: Sizes, edition: Edition, bytes: [u8; Limits::STEP_BYTES]) -> Stated
@@ -26,7 +30,10 @@ fn loaded_behind(sizes: Sizes, edition: Edition, bytes: [u8; Limits::STEP_BYTES]
     let clause = origin.first;
     let number = origin.second;
     let f = clause - sizes.clauses;
-    if added(edition, sizes.rationals) as u64 <= f || number != 0 {
+    if added(edition, sizes.rationals) as u64 <= f {
+        return unstated();
+    }
+    if number != 0 {
         return unstated();
     }
     let s = Stated {

@@ -163,6 +163,12 @@ unfolding added
 length-added First r = omega arith
 length-added Second r = omega (arith, length-tabulate r nonNegative)
 
+-- the first so many of them
+pub added-tabulated : (e : Edition) (r : ℕ) → added e r ≡ tabulate (length (added e r)) nonNegative
+unfolding added tabulate
+added-tabulated First r = refl
+added-tabulated Second r = ap (λ (n : ℕ). tabulate n nonNegative) (sym (length-tabulate r nonNegative))
+
 pub posed-formed : (p : Problem) → p .booleans ≤ limit.booleans → p .rationals ≤ limit.rationals → length (p .clauses) ≤ limit.clauses
     → All (WellFormedClause (p .booleans) (p .rationals)) (p .clauses) → splitsIn (p .clauses) ≤ limit.splits
     → (e : Edition) → WellFormed (inEdition e p)
