@@ -7,6 +7,7 @@ use mathlib.Core.List.{List, [], _∷_, _++_}
 use mathlib.Core.Option.{some}
 use Prim.Native.Nat.{ℕ, suc, _+_, _-_, _/_, _≤_, _<_}
 use native.Mathlib.Omega.{arith}
+use borrow.Author.Tests.{ne-eqb}
 use lib.IntN.{pos}
 use lib.Signed.{leZ}
 use lib.Dec.{T, ltb, nltb→le}
@@ -20,9 +21,11 @@ use Rattle.rules_types.specs.declared.answers.Checked.the-variants.{Accepted, R
 use Rattle.rules_types.specs.declared.limits.Limits.{Limits}
 use Rattle.rules_types.specs.declared.terms.Edition.{Edition}
 use Rattle.rules_types.specs.declared.terms.Edition.the-variants.{First, Second}
+use Rattle.rules_types.specs.declared.terms.Named.the-variants.{Known, Unknown}
 use Rattle.rules_types.specs.declared.terms.Terms.{Terms}
 use Rattle.rules_types.specs.Limits as limit
 use Rattle.rules_types.specs.Answers.{refusalNumber}
+use Rattle.rules_types.specs.Terms.{editionNamed}
 use Rattle.rules.specs.Lists.{all, tabulate}
 use Rattle.rules.specs.Problem.{Clause, Problem, nonNegative, added, inEdition, Read, fault, got}
 use Rattle.rules.specs.Meaning.{Assignment, clauseHolds, Satisfies}
@@ -31,7 +34,8 @@ use Rattle.rules.specs.Steps.{Step}
 use Rattle.rules.specs.Elimination.{loadableOf}
 use Rattle.rules.specs.Model.{isOpen, model}
 use Rattle.rules.specs.Checker.{followedLines, checkProof}
-use Rattle.rules.specs.Calls.{Reading, faulty, sound, read, wholeSteps, solve, proofChecked, modelChecked}
+use Rattle.rules.specs.Calls.{Reading, faulty, sound, read, wholeSteps, said, solve, proofChecked, modelChecked}
+use Rattle.rules.specs.Calls.{solveIn, proofCheckedIn, modelCheckedIn}
 use Rattle.theory_lists.specs.Tests.{split, is-true, is-false}
 use Rattle.theory_lists.specs.All.{All, all-append, append-all, all-yes, yes-all, any-left}
 use Rattle.theory_lists.specs.Places.{element-left, element-right, element-all}
@@ -50,6 +54,7 @@ use Rattle.theory_reading.specs.Theorems.{names-first}
 use Rattle.promises.specs.Words.{Comes, IsRefused, LimitMet, Refutes, WritesAssignment}
 use Rattle.promises.specs.Checked.{proof-exactly, model-exactly, never-refused, proof-refused, model-refused}
 use Rattle.promises.specs.Total.{BeforeCourse, total}
+use Rattle.promises.specs.Demand1.{untouched}
 
 -- ---- what the second edition is, of a problem as it was read
 -- "a share below zero is no share"
@@ -89,16 +94,16 @@ module _ (p : Problem) where
     unfolding added
     satisfies χ = (
       λ s. let a = append-all Holds (p .clauses) more (all-yes (clauseHolds χ) (p .clauses ++ more) (s .clauses)) in (
-            record { denominator = s .denominator; clauses = yes-all (clauseHolds χ) (p .clauses) (a .0) },
-            λ f h. subst T (holds-added χ f (omega arith))
-                (element-all Holds more f (nonNegative f) (element-tabulate (p .rationals) nonNegative f h) (a .1)),
-          ),
+        record { denominator = s .denominator; clauses = yes-all (clauseHolds χ) (p .clauses) (a .0) },
+        λ f h. subst T (holds-added χ f (omega arith))
+            (element-all Holds more f (nonNegative f) (element-tabulate (p .rationals) nonNegative f h) (a .1)),
+      ),
       λ h. record {
-            denominator = h .0 .denominator;
-            clauses = yes-all (clauseHolds χ) (p .clauses ++ more)
-                (all-append Holds (p .clauses) more (all-yes (clauseHolds χ) (p .clauses) (h .0 .clauses))
-                (all-tabulate Holds (p .rationals) nonNegative (λ f l. subst T (sym (holds-added χ f (omega arith))) (h .1 f l))));
-          },
+        denominator = h .0 .denominator;
+        clauses = yes-all (clauseHolds χ) (p .clauses ++ more)
+            (all-append Holds (p .clauses) more (all-yes (clauseHolds χ) (p .clauses) (h .0 .clauses))
+            (all-tabulate Holds (p .rationals) nonNegative (λ f l. subst T (sym (holds-added χ f (omega arith))) (h .1 f l))));
+      },
     )
       where
         Holds : Clause → Type 0
@@ -268,3 +273,49 @@ module _ (terms : Terms) (input : List ℕ) (are : AllBytes input) where
           fault-not input are at (e ∙ ap (λ (g : Refusal). faulty g at) is)
       by (sound q) e = ⊎-elim (λ t. other refusal.ShortModel 0 (omega arith) (rw (e, modelChecked, is-true short t) at a))
           (λ t. read-by q e t (reading q) refl) (split short)
+
+-- ---- calls that name an edition by its number
+-- "any other edition"
+abbrev pub Other : ℕ → Type 0
+Other n = (n ≡ 1 → ⊥) × (n ≡ 2 → ⊥)
+
+pub named-first : (n : ℕ) → n ≡ 1 → editionNamed n ≡ Known First
+unfolding editionNamed
+named-first n e = ap editionNamed e
+
+pub named-second : (n : ℕ) → n ≡ 2 → editionNamed n ≡ Known Second
+unfolding editionNamed
+named-second n e = ap editionNamed e
+
+pub named-other : (n : ℕ) → Other n → editionNamed n ≡ Unknown
+unfolding editionNamed
+named-other n h = rw (ne-eqb n 1 (h .0), ne-eqb n 2 (h .1))
+
+module _ (limits : Limits) (n : ℕ) (input : List ℕ) where
+  module _ (proof model : List ℕ) where
+    pub solve-known : (e : Edition) → editionNamed n ≡ Known e
+        → solveIn limits n input proof model ≡ solve (on limits e) input proof model
+    unfolding solveIn
+    solve-known e h = rw (h, solveIn)
+
+    -- nothing is altered, and there are no pairs to report
+    pub solve-unknown : editionNamed n ≡ Unknown → solveIn limits n input proof model ≡ untouched refusal.Edition 0 proof model
+    unfolding solveIn said
+    solve-unknown h = rw (h, solveIn)
+
+  module _ (bytes : List ℕ) where
+    pub proof-known : (e : Edition) → editionNamed n ≡ Known e → proofCheckedIn limits n input bytes ≡ proofChecked (on limits e) input bytes
+    unfolding proofCheckedIn
+    proof-known e h = rw (h, proofCheckedIn)
+
+    pub proof-unknown : editionNamed n ≡ Unknown → proofCheckedIn limits n input bytes ≡ Refused refusal.Edition 0
+    unfolding proofCheckedIn
+    proof-unknown h = rw (h, proofCheckedIn)
+
+    pub model-known : (e : Edition) → editionNamed n ≡ Known e → modelCheckedIn limits n input bytes ≡ modelChecked (on limits e) input bytes
+    unfolding modelCheckedIn
+    model-known e h = rw (h, modelCheckedIn)
+
+    pub model-unknown : editionNamed n ≡ Unknown → modelCheckedIn limits n input bytes ≡ Refused refusal.Edition 0
+    unfolding modelCheckedIn
+    model-unknown h = rw (h, modelCheckedIn)

@@ -17,8 +17,8 @@ pub mod Memory
 pub mod Left
 pub mod Denominator
 pub mod Total
-pub mod Editions
 pub mod Demand1
+pub mod Editions
 pub mod Demand3
 pub mod HandedBack
 pub mod Demand2

@@ -124,8 +124,14 @@ module _ (edition : Edition) {q : List ℕ} {sizes : Sizes} (read : Readable q s
   unfolding loadableOf
   among-clauses =
       among-named bytes 0 (clause bytes) (sizes .booleans) (allClauses q sizes ++ more)
-      (omega (arith, many, length-append (allClauses q sizes) more, length-added edition (sizes .rationals), read .parsed .clauses,
-      read .parsed .rationals))
+      (omega (
+        arith,
+        many,
+        length-append (allClauses q sizes) more,
+        length-added edition (sizes .rationals),
+        read .parsed .clauses,
+        read .parsed .rationals,
+      ))
       (few-append (allClauses q sizes) more (few-parts q (sizes .rationals) (sizes .clauses) layout.firstClause 0 (ahead-start read))
       (few-added edition (sizes .rationals) (read .parsed .rationals))) (omega arith)
 

@@ -89,6 +89,7 @@ sum-unit x f h =
 
     others : (f : ℕ) → f < limit.rationals → T (all isZero (set (unit (pos 1) f) f (pos 0)))
     others = each-rational (λ f. T (all isZero (set (unit (pos 1) f) f (pos 0)))) tt tt tt tt tt tt tt tt
+
 pub holds-added : (χ : Assignment) (f : ℕ) → f < limit.rationals → clauseHolds χ (nonNegative f) ≡ leZ (pos 0) (χ .numerators f)
 unfolding clauseHolds comparisonHolds compared nonNegative any
 holds-added χ f h =
