@@ -45,8 +45,8 @@
  * the call of the same name without it is edition 1. Handing back names none:
  * it reads no question. To satisfy a question is to satisfy every clause of the
  * call's edition. A book that is accepted in edition 1 is accepted in edition
- * 2, and a sheet that is accepted in edition 2 is accepted in edition 1; neither
- * holds the other way round.
+ * 2, and a sheet that is accepted in edition 2 is accepted in edition 1.
+ * Neither holds the other way round.
  *
  * A question, a book and a sheet are bytes that the caller owns and lends for
  * the time of one call. No call keeps a pointer or any state, allocates,
