@@ -1,2 +1,3 @@
 pub mod HandedBack
 pub mod Previewed
+pub mod Editions

@@ -1,5 +1,5 @@
--- What joins solving with fewer lines and with more: `jemuling_preview_solve` and `jemuling_solve` on one problem, by the numbers that
--- they returned and the buffers that they left.
+-- What joins solving with fewer lines and with more: `jemuling_preview_solve` and `jemuling_solve` on one problem, or
+-- `jemuling_preview_solve_in` and `jemuling_solve_in` in one edition, by the numbers that they returned and the buffers that they left.
 use mathlib.Core.Path.{_≡_, refl, sym, ap, _∙_}
 use mathlib.Core.Logic.{_↔_}
 use mathlib.Core.List.{List}
@@ -11,15 +11,16 @@ use Rattle.rules_types.specs.declared.answers.Refusal.the-variants.{OutOfSteps}
 use Rattle.rules_types.specs.declared.answers.Verdict.{Verdict}
 use Rattle.rules_types.specs.declared.answers.Answer.the-variants.{Refused}
 use Rattle.rules_types.specs.declared.limits.Limits.{Limits}
+use Rattle.rules_types.specs.declared.terms.Edition.{Edition}
 use Rattle.rules_types.specs.declared.terms.Terms.{Terms}
 use Rattle.rules_types.specs.Limits as limit
-use Rattle.rules_types.specs.Terms.{standard, preview}
 use Rattle.rules_types.specs.Answers.{refusalNumber, verdictNumber, answerNumber}
 use Rattle.rules.specs.Problem.{Problem}
 use Rattle.rules.specs.Calls.{Reading, faulty, sound, read, Solving, solve}
 use Rattle.promises.specs.Words.{Comes, FullSize}
 use Rattle.promises.specs.Numbers.{verdict-exactly, refusal-exactly}
 use Rattle.promises.specs.Demand1.{untouched, demand1}
+use Rattle.promises.specs.Editions.{on}
 use Rattle.promises.specs.Preview.{AsLarger, not-both, as-larger}
 use Rattle.jemuling.specs.declared.told.SolvedTold.{SolvedTold}
 use Rattle.jemuling.specs.Told.{solvedTold}
@@ -72,29 +73,29 @@ of-faulty lesser input f place e proof model largeProof largeModel =
     }
 
 -- the two calls, on bytes of every kind: "With full-size buffers"
-pub previewed : (input lentProof lentModel : List ℕ) (told : SolvedTold) (proof model : List ℕ)
-    → FullSize (preview .limits) lentProof lentModel → Solves preview input lentProof lentModel told proof model
-    → (lentLarge lentSheet : List ℕ) (large : SolvedTold) (largeProof largeModel : List ℕ) → FullSize (standard .limits) lentLarge lentSheet
-    → Solves standard input lentLarge lentSheet large largeProof largeModel
-    → Previewed (preview .limits) input told proof model large largeProof largeModel
-previewed input lentProof lentModel told proof model full ours lentLarge lentSheet large largeProof largeModel largeFull theirs =
+pub previewed : (edition : Edition) (input lentProof lentModel : List ℕ) (told : SolvedTold) (proof model : List ℕ)
+    → FullSize limit.preview lentProof lentModel → Solves (on limit.preview edition) input lentProof lentModel told proof model
+    → (lentLarge lentSheet : List ℕ) (large : SolvedTold) (largeProof largeModel : List ℕ) → FullSize limit.standard lentLarge lentSheet
+    → Solves (on limit.standard edition) input lentLarge lentSheet large largeProof largeModel
+    → Previewed limit.preview input told proof model large largeProof largeModel
+previewed edition input lentProof lentModel told proof model full ours lentLarge lentSheet large largeProof largeModel largeFull theirs =
     rw (ours .tells, ours .leavesProof, ours .leavesModel, theirs .tells, theirs .leavesProof, theirs .leavesModel) (by (read input) refl)
   where
     small : Solving
-    small = solve preview input lentProof lentModel
+    small = solve (on limit.preview edition) input lentProof lentModel
 
     big : Solving
-    big = solve standard input lentLarge lentSheet
+    big = solve (on limit.standard edition) input lentLarge lentSheet
 
     by : (r : Reading) → read input ≡ r
-        → Previewed (preview .limits) input (solvedTold (small .solved)) (small .proof) (small .model) (solvedTold (big .solved))
+        → Previewed limit.preview input (solvedTold (small .solved)) (small .proof) (small .model) (solvedTold (big .solved))
         (big .proof) (big .model)
     by (sound p) e =
-        of-sound (preview .limits) input small big
-        (as-larger (preview .limits) (standard .limits) (omega arith) 1 input p e lentProof lentModel lentLarge lentSheet full largeFull)
+        of-sound limit.preview input small big
+        (as-larger limit.preview limit.standard (omega arith) edition input p e lentProof lentModel lentLarge lentSheet full largeFull)
     by (faulty f place) e =
         rw (
-          demand1 preview input lentProof lentModel .faultyInput full f place e,
-          demand1 standard input lentLarge lentSheet .faultyInput largeFull f place e,
+          demand1 (on limit.preview edition) input lentProof lentModel .faultyInput full f place e,
+          demand1 (on limit.standard edition) input lentLarge lentSheet .faultyInput largeFull f place e,
         )
-        (of-faulty (preview .limits) input f place e lentProof lentModel lentLarge lentSheet)
+        (of-faulty limit.preview input f place e lentProof lentModel lentLarge lentSheet)

@@ -9,6 +9,7 @@ use native.Mathlib.Omega.{arith}
 use lib.IntN.{pos, negsuc}
 use lib.ListN.{length, replicate}
 use Rattle.rules_types.specs.declared.limits.Limits.{Limits}
+use Rattle.rules_types.specs.declared.terms.Edition.the-variants.{First}
 use Rattle.rules_types.specs.declared.terms.Terms.{Terms}
 use Rattle.rules_types.specs.Limits as limit
 use Rattle.rules.specs.Problem.{Problem, inEdition}
@@ -28,7 +29,7 @@ abbrev ofSteps : ℕ → Limits
 ofSteps n = record { steps = n }
 
 abbrev termsOf : ℕ → Terms
-termsOf n = record { limits = ofSteps n; edition = 1 }
+termsOf n = record { limits = ofSteps n; edition = First }
 
 abbrev lentProof : ℕ → List ℕ
 lentProof n = replicate (limit.proofBytes (ofSteps n)) 7
@@ -38,7 +39,7 @@ lentModel = replicate limit.modelBytes 7
 
 module _ (n : ℕ) (input : List ℕ) where
   abbrev Delivers : Type 0
-  Delivers = Demand3 (termsOf n) input (inEdition 1 (problemFrom input)) (lentProof n) lentModel
+  Delivers = Demand3 (termsOf n) input (inEdition First (problemFrom input)) (lentProof n) lentModel
       (solve (termsOf n) input (lentProof n) lentModel)
 
   delivers : n ≤ limit.mostSteps → read input ≡ sound (problemFrom input) → FullSize (ofSteps n) (lentProof n) lentModel → Delivers
