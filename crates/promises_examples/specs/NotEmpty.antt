@@ -9,7 +9,7 @@ use native.Mathlib.Omega.{arith}
 use lib.IntN.{pos, negsuc}
 use lib.ListN.{length, replicate}
 use Rattle.rules_types.specs.declared.limits.Limits.{Limits}
-use Rattle.rules_types.specs.declared.terms.Edition.the-variants.{First}
+use Rattle.rules_types.specs.declared.terms.Edition.the-variants.{First, Second}
 use Rattle.rules_types.specs.declared.terms.Terms.{Terms}
 use Rattle.rules_types.specs.Limits as limit
 use Rattle.rules.specs.Problem.{Problem, inEdition}
@@ -61,6 +61,20 @@ seven-fits = record { steps = (let e : needs (problemFrom seven) ≡ 5 = refl in
 pub seven-refuted : NoAssignment (problemFrom seven)
 unfolding definitions
 seven-refuted = delivers 5 seven (omega arith) refl full-five .unsatisfiable seven-fits .0 refl
+
+-- ---- x ≤ -1 fits in 3 lines in the second edition, and in it no assignment satisfies it
+abbrev negative : List ℕ
+negative = problemOf 0 1 (alone (atMost (pos 1 ∷ []) (negsuc 0)) ∷ [])
+
+pub negative-fits : Fits (ofSteps 5) (inEdition Second (problemFrom negative))
+unfolding definitions
+negative-fits = record { steps = (let e : needs (inEdition Second (problemFrom negative)) ≡ 3 = refl in omega (arith, e)); amounts = tt }
+
+pub negative-refuted : NoAssignment (inEdition Second (problemFrom negative))
+unfolding definitions
+negative-refuted =
+    demand3 (record { limits = ofSteps 5; edition = Second }) (omega arith) negative (problemFrom negative) refl (lentProof 5) lentModel
+    full-five .unsatisfiable negative-fits .0 refl
 
 -- ---- example 5 fits, and the value rule gives a model
 abbrev five : List ℕ
