@@ -91,7 +91,7 @@ fn compare(rules: Rules, question: &[u8]) -> Result<[bool; 4], String> {
     let now = proved::solve(question, &mut our_book, &mut our_sheet);
     let then = reference::solve_under(rules, question, &mut book, &mut sheet);
     let part = reference::hand_back(&then, &book, &sheet);
-    check_part(question, &then, part)?;
+    check_part(Solver::PROVED, question, &then, part)?;
     let (now, then) = (satisfiable(&now), satisfiable(&then));
     let both = now.is_some() && then.is_some();
     if both {

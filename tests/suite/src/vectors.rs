@@ -11,12 +11,24 @@ use std::path::Path;
 /// The fewest cases that a file has.
 const FEWEST: usize = 20;
 
+/// The files of books and of sheets to check, all but those in edition 2.
+pub const BOOKS: [&str; 4] = [
+    "check_book.txt",
+    "base_books.txt",
+    "cheapest_books.txt",
+    "preview/check_book.txt",
+];
+pub const SHEETS: [&str; 1] = ["check_sheet.txt"];
+
 /// The fields of one line.
 type Fields<'a> = [&'a str];
 
 /// Runs all files: the preview those of its own folder, and the others' questions and books, of which it
 /// says what the stored answer comes to.
 pub fn run(solver: Solver, sums: &mut Sums) {
+    if solver.is_in_2() {
+        return;
+    }
     if solver.is_preview() {
         run_file(solver, "preview/solve.txt", solve_case, sums);
         run_file(solver, "preview/check_book.txt", book_case, sums);

@@ -1,0 +1,493 @@
+//! 02's (v), shares that are never negative: questions with their answers in both editions, worked out by
+//! hand; what the answers of the two have to do with each other, and with those of the question with
+//! the clauses of edition 2 written out; books and sheets in both; and every other edition, which is
+//! refused before anything else.
+
+use crate::buffers::{judged, solve_filled, solve_in, Solved};
+use crate::buffers::{BOOK_LENGTH, LINE_LENGTH, PREVIEW_LENGTH, SHEET_LENGTH};
+use crate::edition_cases::{cases, largest, Case};
+use crate::examples::{cannot, refused};
+use crate::preview::full;
+use crate::report::{demand, equal, Group, Outcome, Sums};
+use crate::solver::{naming, Solver, BOTH, BOTH_IN_2, PREVIEWS_IN_2};
+use crate::solving::compare_limits_by;
+use questions::editions;
+use questions::problem::{at_most, equal as equals, Problem};
+use questions::random::Random;
+use reference::{Answer, Checked, Limit, Verdict, FIRST_EDITION, SECOND_EDITION};
+
+const SEED: u64 = 14;
+const CASES: usize = 30_000;
+const SHEETS: usize = 30_000;
+const LIMITS: [Limit; 2] = [Limit::STANDARD, Limit::PREVIEW];
+
+/// Editions that there are none of, among them some that are 1 or 2 in fewer bytes, or less a sign.
+const OTHERS: [u64; 16] = [
+    0,
+    3,
+    4,
+    19,
+    255,
+    256,
+    256 + 1,
+    256 + 2,
+    65_536 + 1,
+    65_536 + 2,
+    (1 << 32) + 1,
+    (1 << 32) + 2,
+    1 << 63,
+    (1 << 63) + 2,
+    u64::MAX - 1,
+    u64::MAX,
+];
+
+pub fn run(sums: &mut Sums) {
+    for solver in BOTH_IN_2.into_iter().chain(PREVIEWS_IN_2) {
+        run_by_hand(solver, sums);
+        run_largest(solver, sums);
+    }
+    run_others(sums);
+    run_random(sums);
+    run_sheets(sums);
+}
+
+/// The same answer, and the same bytes left.
+fn same(what: &str, expected: &Solved, got: &Solved) -> Outcome {
+    equal(what, &expected.answer, &got.answer)?;
+    let bytes = expected.book == got.book && expected.sheet == got.sheet;
+    demand(bytes, &format!("{what}: other bytes"))
+}
+
+/// What the proved code says of a question in both editions, with the limit of lines that the fill
+/// picks. By the call that names edition 1 it says what it does by the one that names none, and in
+/// edition 2 what it says of the question with the edition's clauses written out, where such a question
+/// is not too large; a fault is the same in both. What can agree in edition 2 can in edition 1.
+pub fn check_question(question: &[u8], fill: u8) -> Result<[Solved; 2], String> {
+    let proved = Solver::proved(LIMITS[usize::from(fill % 2)]);
+    let solve = |solver, question: &[u8]| {
+        let (book, sheet) = (vec![fill; BOOK_LENGTH + 16], vec![fill; SHEET_LENGTH + 16]);
+        solve_in(solver, question, book, sheet)
+    };
+    let none = solve(proved, question);
+    let in_1 = solve(proved.naming(FIRST_EDITION), question);
+    let in_2 = solve(proved.naming(SECOND_EDITION), question);
+    same("edition 1 by its number", &none, &in_1)?;
+    match reference::read(question) {
+        Err(_) => same("a fault in edition 2", &none, &in_2)?,
+        Ok(_) => {
+            let written = Problem::decode(question).with_shares().encode();
+            if reference::read(&written).is_ok() {
+                let written = solve(proved, &written);
+                same("the clauses written out", &written, &in_2)?;
+            }
+        }
+    }
+    let [first, second] = [&in_1, &in_2].map(|solved| satisfiable(&solved.answer));
+    demand(
+        first != Some(false) || second != Some(true),
+        "it cannot agree in edition 1, and can in edition 2",
+    )?;
+    Ok([in_1, in_2])
+}
+
+/// What a verdict says of the question; a refusal says nothing.
+fn satisfiable(answer: &Answer) -> Option<bool> {
+    match answer {
+        Answer::Verdict { verdict, .. } => Some(*verdict != Verdict::Cannot),
+        Answer::Refused { .. } => None,
+    }
+}
+
+fn run_by_hand(solver: Solver, sums: &mut Sums) {
+    let mut group = solver.group("editions: by hand");
+    let first = solver.naming(FIRST_EDITION);
+    for case in cases() {
+        group.case(case.name, || {
+            let question = case.problem.encode();
+            let in_1 = solve_filled(first, &question);
+            in_1.expect(&case.in_1)?;
+            in_1.check_buffers()?;
+            let in_2 = solve_filled(solver, &question);
+            in_2.expect(&case.in_2)?;
+            in_2.check_buffers()?;
+            check_loaded(&case, &in_2)?;
+            check_figures(&case, &in_2)?;
+            check_parts(solver, &question, &in_1, &in_2)
+        });
+    }
+    group.finish(sums);
+}
+
+/// The lines that the edition's clauses gave, by their figures.
+fn check_loaded(case: &Case, solved: &Solved) -> Outcome {
+    let n = case.problem.clauses.len();
+    let lines = solved.used().chunks_exact(LINE_LENGTH);
+    let clause = |line: &[u8]| usize::from(u16::from_le_bytes([line[2], line[3]]));
+    let own = lines.filter(|line| line[0] == 0 && clause(line) >= n);
+    let own = own.map(|line| (clause(line) - n, line.to_vec()));
+    let expected = case.loaded.iter().map(|&figure| {
+        let mut line = vec![0; LINE_LENGTH];
+        line[2..4].copy_from_slice(&((n + figure) as u16).to_le_bytes());
+        line[6] = 1;
+        line[16 + 4 * figure..20 + 4 * figure].fill(0xff);
+        (figure, line)
+    });
+    let (own, expected): (Vec<_>, Vec<_>) = (own.collect(), expected.collect());
+    equal("lines of the edition's clauses", &expected, &own)
+}
+
+/// The figures on the sheet, which are whole ones.
+fn check_figures(case: &Case, solved: &Solved) -> Outcome {
+    let figures = match &case.figures {
+        Some(figures) => figures,
+        None => return Ok(()),
+    };
+    let b = usize::from(case.problem.booleans);
+    let amounts = solved.sheet()[2 + b..].chunks_exact(4);
+    let amounts = amounts.map(|field| i32::from_le_bytes(std::array::from_fn(|i| field[i])));
+    let written: Vec<i32> = amounts.take(1 + figures.len()).collect();
+    equal("denominator", &1, &written[0])?;
+    equal("figures", &figures.as_slice(), &&written[1..])
+}
+
+/// A book is accepted in its edition; that of edition 1 in 2, too, and that of edition 2 in 1 if it loads
+/// no clause of the edition's. A sheet is accepted in its edition; that of edition 2 in 1, too, and that
+/// of edition 1 in 2 if no figure is below 0.
+fn check_parts(solver: Solver, question: &[u8], in_1: &Solved, in_2: &Solved) -> Outcome {
+    let first = solver.naming(FIRST_EDITION);
+    let problem = Problem::decode(question);
+    for solved in [in_1, in_2] {
+        match solved.answer {
+            Answer::Verdict {
+                verdict: Verdict::Cannot,
+                ..
+            } => {
+                let n = problem.clauses.len();
+                let mut lines = solved.used().chunks_exact(LINE_LENGTH);
+                let own = |line: &[u8]| {
+                    line[0] == 0 && usize::from(u16::from_le_bytes([line[2], line[3]])) >= n
+                };
+                let expected = match lines.position(own) {
+                    Some(line) => Checked::Fails(line),
+                    None => Checked::Accepted,
+                };
+                let said = first.check_book(question, solved.used());
+                equal("book in edition 1", &expected, &said)?;
+                let said = solver.check_book(question, solved.used());
+                equal("book in edition 2", &Checked::Accepted, &said)?;
+            }
+            Answer::Verdict {
+                verdict: Verdict::Agrees,
+                ..
+            } => {
+                let said = first.check_sheet(question, solved.sheet());
+                equal("sheet in edition 1", &Checked::Accepted, &said)?;
+                let expected = judged(&solver.stated(&problem), solved.sheet())?;
+                let said = solver.check_sheet(question, solved.sheet());
+                equal("sheet in edition 2", &expected, &said)?;
+            }
+            _ => (),
+        }
+    }
+    Ok(())
+}
+
+/// 256 clauses and eight figures: the edition's last clause is 263.
+fn run_largest(solver: Solver, sums: &mut Sums) {
+    let mut group = solver.group("editions: the largest question");
+    let question = largest().encode();
+    let first = solver.naming(FIRST_EDITION);
+    group.case("solved", || {
+        let solved = solve_filled(solver, &question);
+        solved.check_buffers()?;
+        if solver.is_preview() {
+            return solved.expect(&full(0));
+        }
+        solved.expect(&cannot(266, 257))?;
+        // behind the 256 clauses, the eight of the edition; then x_1 ≤ 0 and the end
+        let line = |number: usize| &solved.used()[64 * number..][..6];
+        equal("line 263", &&[0, 0, 7, 1, 0, 0][..], &line(263))?;
+        equal("the end", &&[1, 7, 255, 0, 7, 1][..], &line(265))?;
+        let accepted = solver.check_book(&question, solved.used());
+        equal("check", &Checked::Accepted, &accepted)?;
+        let failing = first.check_book(&question, solved.used());
+        equal("check in edition 1", &Checked::Fails(256), &failing)
+    });
+    for clause in [255, 256, 262, 263, 264, 271, 519, 1_287, 65_535] {
+        for part in [0, 1, 2, 256] {
+            group.case(&format!("a book with clause {clause}, part {part}"), || {
+                let book = book_of(clause, part);
+                let expected = match (clause, part) {
+                    (263, 0) => Checked::Accepted,
+                    _ => Checked::Fails(1),
+                };
+                equal("check", &expected, &solver.check_book(&question, &book))?;
+                let failing = first.check_book(&question, &book);
+                equal("check in edition 1", &Checked::Fails(1), &failing)
+            });
+        }
+    }
+    for figure in 0..8 {
+        group.case(&format!("a sheet with figure {figure} below 0"), || {
+            // x_1 is 0 or below, x_7 is -1, as clauses 0 to 255 have it
+            let sheet = sheet_below(figure);
+            let failing = Checked::Fails(256 + figure);
+            equal("check", &failing, &solver.check_sheet(&question, &sheet))?;
+            let accepted = first.check_sheet(&question, &sheet);
+            equal("check in edition 1", &Checked::Accepted, &accepted)
+        });
+    }
+    group.finish(sums);
+}
+
+/// x_7 ≤ -1, -x_7 ≤ 0 as this part of this clause, and the end that follows from both.
+fn book_of(clause: u16, part: u16) -> Vec<u8> {
+    let mut book = vec![0; 3 * LINE_LENGTH];
+    book[2] = 255;
+    book[6] = 1;
+    book[44] = 1;
+    book[48..52].fill(0xff);
+    let lower = &mut book[LINE_LENGTH..];
+    lower[2..4].copy_from_slice(&clause.to_le_bytes());
+    lower[4..6].copy_from_slice(&part.to_le_bytes());
+    lower[6] = 1;
+    lower[44..48].fill(0xff);
+    book[2 * LINE_LENGTH..][..6].copy_from_slice(&[1, 7, 0, 0, 1, 0]);
+    book
+}
+
+/// -1/3 for this figure, -1 for the last, and 0 or 16/3 for the others.
+fn sheet_below(figure: usize) -> Vec<u8> {
+    let numerators = (0..8).map(|i| match i {
+        7 => -3,
+        _ if i == figure => -1,
+        // x_0 + k x_1 ≤ 0
+        0 | 1 => 0,
+        _ => 16,
+    });
+    let mut sheet = vec![0, 8];
+    sheet.extend(3_i32.to_le_bytes());
+    sheet.extend(numerators.flat_map(|numerator: i32| numerator.to_le_bytes()));
+    sheet.resize(SHEET_LENGTH, 0);
+    sheet
+}
+
+/// Whatever question and buffers are lent, another edition is refused, and no byte is altered.
+fn run_others(sums: &mut Sums) {
+    let mut group = Group::new("editions: others");
+    let twice = Problem::new(0, 0).clause([equals(&[], 0), equals(&[], 0)]);
+    let questions = [
+        ("no byte", vec![]),
+        ("17 marks", vec![17]),
+        ("no clause", vec![0, 0, 0, 0]),
+        (
+            "x <= -1",
+            Problem::new(0, 1).clause([at_most(&[1], -1)]).encode(),
+        ),
+        ("an empty clause", Problem::new(0, 0).clause([]).encode()),
+        ("two =", twice.encode()),
+        ("32,769 bytes", vec![0; 32_769]),
+        ("the largest", largest().encode()),
+    ];
+    for edition in OTHERS {
+        for (name, question) in &questions {
+            group.case(&format!("{edition}, {name}"), || {
+                LIMITS
+                    .into_iter()
+                    .flat_map(|limit| naming(edition, limit))
+                    .try_for_each(|solver| check_other(solver, question))
+            });
+        }
+    }
+    group.finish(sums);
+}
+
+fn check_other(solver: Solver, question: &[u8]) -> Outcome {
+    let checked = Checked::Refused {
+        number: 19,
+        place: 0,
+    };
+    for book in [0, 1, 63, 64, 16_383, 16_384, 65_535, 65_536, 65_537] {
+        for sheet in [0, 63, 64, 65] {
+            let (mut book, mut sheet) = (vec![0xab; book], vec![0xcd; sheet]);
+            let answer = solver.solve(question, &mut book, &mut sheet);
+            equal("solving", &refused(19, 0, 0), &answer)?;
+            let kept =
+                book.iter().all(|&byte| byte == 0xab) && sheet.iter().all(|&byte| byte == 0xcd);
+            demand(kept, "a byte altered")?;
+            let said = solver.check_sheet(question, &sheet);
+            equal("check of a sheet", &checked, &said)?;
+        }
+        let said = solver.check_book(question, &vec![0; book]);
+        equal("check of a book", &checked, &said)?;
+    }
+    Ok(())
+}
+
+/// What a random question showed: agrees in both, with the same figures and with others; agrees in edition
+/// 1 and cannot in 2; cannot in both; unwritten in edition 2; wide in it; a clause of the edition not
+/// loaded; one loaded; one a parent.
+type Shown = [usize; 9];
+const LEAST: Shown = [2_000, 2_000, 1_000, 2_000, 20, 50, 2_000, 2_000, 2_000];
+
+/// Both solvers answer alike in both editions, with both limits of lines.
+fn run_random(sums: &mut Sums) {
+    let mut group = Group::new("editions: random questions");
+    let mut random = Random::new(SEED);
+    let mut shown = Shown::default();
+    for number in 0..CASES {
+        let problem = editions::problem(&mut random);
+        group.case(&format!("number {number}"), || {
+            let question = problem.encode();
+            let (in_2, _) = compare_limits_by(BOTH_IN_2, &question, number as u8)?;
+            let (in_1, _) = compare_limits_by(BOTH, &question, number as u8)?;
+            check_question(&question, number as u8)?;
+            show(&problem, &in_1, &in_2, &mut shown);
+            Ok(())
+        });
+    }
+    group.case("each comes often", || {
+        let often = shown.iter().zip(LEAST).all(|(&came, least)| came >= least);
+        demand(often, &format!("they came {shown:?} times"))
+    });
+    group.finish(sums);
+}
+
+fn show(problem: &Problem, in_1: &Solved, in_2: &Solved, shown: &mut Shown) {
+    let is = |solved: &Solved, wanted| matches!(solved.answer, Answer::Verdict { verdict, .. } if verdict == wanted);
+    let both = |wanted| is(in_1, wanted) && is(in_2, wanted);
+    let n = problem.clauses.len();
+    let lines: Vec<&[u8]> = in_2.used().chunks_exact(LINE_LENGTH).collect();
+    let number =
+        |line: &[u8], place: usize| usize::from(u16::from_le_bytes([line[place], line[place + 1]]));
+    let own = |line: &&[u8]| line[0] == 0 && number(line, 2) >= n;
+    let loaded = lines.iter().filter(|line| own(line)).count();
+    let of_own =
+        |line: &&&[u8]| line[0] > 0 && [2, 4].iter().any(|&place| own(&lines[number(line, place)]));
+    let came = [
+        both(Verdict::Agrees) && in_1.sheet == in_2.sheet,
+        both(Verdict::Agrees) && in_1.sheet != in_2.sheet,
+        is(in_1, Verdict::Agrees) && is(in_2, Verdict::Cannot),
+        both(Verdict::Cannot),
+        is(in_2, Verdict::Unwritten),
+        matches!(in_2.answer, Answer::Refused { number: 14, .. }),
+        is(in_2, Verdict::Agrees) && loaded < usize::from(problem.rationals),
+        loaded > 0,
+        lines.iter().any(|line| of_own(&line)),
+    ];
+    for (count, came) in shown.iter_mut().zip(came) {
+        *count += usize::from(came);
+    }
+}
+
+/// What the checks of a book say in both editions, which is the same of both solvers and, of a book that
+/// is not too long for it, of the preview. Accepted in edition 1, it is accepted in 2; a refusal is the
+/// same; and edition 2 names no earlier line.
+pub fn books_in_both(question: &[u8], book: &[u8]) -> Result<[Checked; 2], String> {
+    let in_1 = check_book_by(BOTH, question, book)?;
+    let in_2 = check_book_by(BOTH_IN_2, question, book)?;
+    let proved = Solver::PROVED.naming(FIRST_EDITION);
+    let named = proved.check_book(question, book);
+    equal("edition 1 by its number", &in_1, &named)?;
+    let said = [in_1, in_2];
+    let follows = match said {
+        [Checked::Accepted, in_2] => in_2 == Checked::Accepted,
+        [Checked::Fails(line), Checked::Fails(later)] => line <= later,
+        [Checked::Fails(_), in_2] => in_2 == Checked::Accepted,
+        [refused, in_2] => refused == in_2,
+    };
+    demand(follows, &format!("the editions say {said:?}"))?;
+    Ok(said)
+}
+
+/// What these two say, and the proved code's preview.
+fn check_book_by(solvers: [Solver; 2], question: &[u8], book: &[u8]) -> Result<Checked, String> {
+    let [second, proved] = solvers;
+    let said = second.check_book(question, book);
+    equal("check", &said, &proved.check_book(question, book))?;
+    let expected = match said {
+        Checked::Accepted | Checked::Fails(_) if book.len() > PREVIEW_LENGTH => Checked::Refused {
+            number: 16,
+            place: book.len(),
+        },
+        said => said,
+    };
+    let preview = proved.within(Limit::PREVIEW);
+    let preview = preview.check_book(question, book);
+    equal("check by the preview", &expected, &preview)?;
+    Ok(said)
+}
+
+/// The same of a sheet: accepted in edition 2, it is accepted in 1; a refusal or a clause of the question
+/// that fails is the same; and where edition 2 alone names a clause, it is one of its own.
+pub fn sheets_in_both(question: &[u8], sheet: &[u8]) -> Result<[Checked; 2], String> {
+    let check = |[second, proved]: [Solver; 2]| {
+        let said = second.check_sheet(question, sheet);
+        equal("check", &said, &proved.check_sheet(question, sheet))?;
+        Ok::<Checked, String>(said)
+    };
+    let said = [check(BOTH)?, check(BOTH_IN_2)?];
+    let proved = Solver::PROVED.naming(FIRST_EDITION);
+    let named = proved.check_sheet(question, sheet);
+    equal("edition 1 by its number", &said[0], &named)?;
+    let follows = match (said, reference::read(question)) {
+        ([Checked::Accepted, Checked::Fails(clause)], Ok(problem)) => {
+            let [_, r, n] = problem.counts();
+            (n..n + r).contains(&clause)
+        }
+        ([in_1, in_2], _) => in_1 == in_2,
+    };
+    demand(follows, &format!("the editions say {said:?}"))?;
+    Ok(said)
+}
+
+/// Sheets of random figures about 0, by the suite's own arithmetic. How often came: accepted in both,
+/// in edition 1 alone, and a clause of the question that fails.
+fn run_sheets(sums: &mut Sums) {
+    let mut group = Group::new("editions: arbitrary sheets");
+    let mut random = Random::new(SEED);
+    let mut came = [0; 3];
+    for number in 0..SHEETS {
+        let problem = editions::problem(&mut random);
+        let sheet = sheet(&mut random, &problem);
+        let question = problem.encode();
+        if reference::read(&question).is_err() {
+            continue;
+        }
+        group.case(&format!("number {number}"), || {
+            let said = sheets_in_both(&question, &sheet)?;
+            equal("in edition 1", &judged(&problem, &sheet)?, &said[0])?;
+            let stated = problem.with_shares();
+            equal("in edition 2", &judged(&stated, &sheet)?, &said[1])?;
+            came[match said {
+                [_, Checked::Accepted] => 0,
+                [Checked::Accepted, _] => 1,
+                _ => 2,
+            }] += 1;
+            Ok(())
+        });
+    }
+    group.case("each comes often", || {
+        let often = came.iter().all(|&count| count >= 1_000);
+        demand(often, &format!("they came {came:?} times"))
+    });
+    group.finish(sums);
+}
+
+fn sheet(random: &mut Random, problem: &Problem) -> Vec<u8> {
+    let mut sheet = vec![problem.booleans];
+    for mark in 0..problem.booleans {
+        sheet.push(match problem.open() >> mark & 1 {
+            1 => 2,
+            _ => random.between(0, 1) as u8,
+        });
+    }
+    sheet.push(problem.rationals);
+    sheet.extend((random.between(1, 3) as i32).to_le_bytes());
+    let least = [-6, -1, 0][random.between(0, 2) as usize];
+    for _ in 0..problem.rationals {
+        sheet.extend((random.between(least, 6) as i32).to_le_bytes());
+    }
+    sheet.resize(SHEET_LENGTH, 0);
+    sheet
+}
