@@ -6,12 +6,13 @@
 use crate::buffers::{judged, solve_filled, solve_in, Solved};
 use crate::buffers::{BOOK_LENGTH, LINE_LENGTH, PREVIEW_LENGTH, SHEET_LENGTH};
 use crate::edition_cases::{cases, largest, Case};
-use crate::examples::{cannot, refused};
+use crate::examples::{agrees, cannot, refused};
 use crate::preview::full;
 use crate::report::{demand, equal, Group, Outcome, Sums};
 use crate::solver::{naming, Solver, BOTH, BOTH_IN_2, PREVIEWS_IN_2};
 use crate::solving::compare_limits_by;
 use questions::editions;
+use questions::largest::uppers;
 use questions::problem::{at_most, equal as equals, Problem};
 use questions::random::Random;
 use reference::{Answer, Checked, Limit, Verdict, FIRST_EDITION, SECOND_EDITION};
@@ -192,7 +193,7 @@ fn check_parts(solver: Solver, question: &[u8], in_1: &Solved, in_2: &Solved) ->
     Ok(())
 }
 
-/// 256 clauses and eight figures: the edition's last clause is 263.
+/// 256 clauses and eight figures: the edition's last clause is 263. And courses that end about line 256.
 fn run_largest(solver: Solver, sums: &mut Sums) {
     let mut group = solver.group("editions: the largest question");
     let question = largest().encode();
@@ -213,6 +214,20 @@ fn run_largest(solver: Solver, sums: &mut Sums) {
         let failing = first.check_book(&question, solved.used());
         equal("check in edition 1", &Checked::Fails(256), &failing)
     });
+    // each is a line, with -x ≤ 0, -y ≤ 0 and their result y ≤ 0
+    for count in 252..=256 {
+        group.case(&format!("{count} uppers"), || {
+            let lines = count as usize + 3;
+            let expected = match (solver.is_preview(), lines) {
+                (true, 257) => full(1),
+                (true, 258..) => full(0),
+                _ => agrees(lines, count as u64 + 1),
+            };
+            let solved = solve_filled(solver, &uppers(count).encode());
+            solved.expect(&expected)?;
+            solved.check_buffers()
+        });
+    }
     for clause in [255, 256, 262, 263, 264, 271, 519, 1_287, 65_535] {
         for part in [0, 1, 2, 256] {
             group.case(&format!("a book with clause {clause}, part {part}"), || {

@@ -306,13 +306,16 @@ fn solve_largest(sums: &mut Sums) {
         group.case(&format!("{more:?} more"), || {
             let (large, small) = compare_limits(&largest::run(more).encode(), 1)?;
             large.expect(&expected)?;
-            small.expect(&preview::full(pairs))
+            small.expect(&preview::full(pairs))?;
+            compare_limits_by(BOTH_IN_2, &largest::run(more).encode(), 1).map(|_| ())
         });
     }
     group.case("the most lines loaded", solve_loaded);
     for kind in [Kind::Dropped, Kind::Struck, Kind::Equal, Kind::Doubled] {
         group.case(&format!("as long as it may be, {kind:?}"), || {
-            compare(&largest::question(32_768, kind), 1).map(|_| ())
+            let question = largest::question(32_768, kind);
+            compare(&question, 1)?;
+            compare_limits_by(BOTH_IN_2, &question, 1).map(|_| ())
         });
     }
     group.finish(sums);
