@@ -304,7 +304,7 @@ def open_marks():
 
 # ---- by the calls that name an edition
 
-EDITIONS = (0, 1, 2, 3, 19, 255, 256, 257, 258, 2**16 + 1, 2**16 + 2, 2**32 + 1, 2**32 + 2, 2**63, 2**63 + 1, 2**63 + 2, 2**64 - 2, 2**64 - 1)
+EDITIONS = (0, 1, 2, 3, 19, 255, 256, *(2**bits + edition for bits in (8, 16, 32, 63) for edition in (1, 2)), 2**63, 2**64 - 2, 2**64 - 1)
 
 
 def of_shares():
