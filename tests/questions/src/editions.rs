@@ -13,6 +13,28 @@ impl Problem {
         problem.clauses.extend(shares);
         problem
     }
+
+    /// The same without the clauses that state as much of one figure, by ≤.
+    pub fn without_shares(&self) -> Problem {
+        let mut problem = self.clone();
+        problem.clauses.retain(|clause| !is_share(clause));
+        problem
+    }
+}
+
+/// Whether a clause is -x ≤ 0, of any figure.
+fn is_share(clause: &[Term]) -> bool {
+    match clause {
+        [Term::Constraint {
+            relation: Relation::AtMost,
+            coefficients,
+            bound: 0,
+        }] => {
+            let mut there = coefficients.iter().filter(|&&amount| amount != 0);
+            there.next() == Some(&-1) && there.next().is_none()
+        }
+        _ => false,
+    }
 }
 
 /// The coefficients of this figure alone.
