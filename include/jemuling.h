@@ -32,6 +32,22 @@
  * the lines. A mark that stands in no literal of the question as it is written
  * is open: nothing decides it, and it is neither yes nor no.
  *
+ * Edition 1 is the question as it is written. Edition 2 adds that no figure is
+ * negative: after clause n - 1, clauses n to n + r - 1 state that figure 0, 1
+ * and so on is at least 0. They stand in no byte of the question and load like
+ * its clauses, behind them, each as one piece without a link (coefficient -1,
+ * at most 0); where an earlier line covers one, it is left out. So a clause's
+ * number, in a line of the book and from the check of a sheet, goes up to 255
+ * in edition 1 and to 263 in edition 2. The question's faults and its open
+ * marks are those of the question as it is written, in either edition.
+ *
+ * A call whose name ends in _in names an edition, and tests it before all else;
+ * the call of the same name without it is edition 1. Handing back names none:
+ * it reads no question. To satisfy a question is to satisfy every clause of the
+ * call's edition. A book that is accepted in edition 1 is accepted in edition
+ * 2, and a sheet that is accepted in edition 2 is accepted in edition 1.
+ * Neither holds the other way round.
+ *
  * A question, a book and a sheet are bytes that the caller owns and lends for
  * the time of one call. No call keeps a pointer or any state, allocates,
  * prints or stops the process; every call ends, for bytes of every kind and
@@ -40,13 +56,13 @@
  * NULL where its length is 0. Buffers of one call must not overlap.
  *
  * A book has 1,024 lines of 64 bytes; a preview's has 256, and calls of its
- * own: jemuling_preview_solve, jemuling_preview_check_book and
- * jemuling_preview_hand_back, which differ from the others in that number
+ * own: jemuling_preview_solve, jemuling_preview_check_book, both with _in too,
+ * and jemuling_preview_hand_back, which differ from the others in that number
  * alone. Of a longer buffer a preview writes the first 16,384 bytes, and keeps
  * the rest. A verdict of the preview, or JEMULING_WIDE, is also what
- * jemuling_solve says of the question, with the same lines, pairs, sheet and
- * lines of the book; where 256 lines are not enough, the preview says
- * JEMULING_FULL, and its caller may turn to jemuling_solve.
+ * jemuling_solve says of the question in the same edition, with the same lines,
+ * pairs, sheet and lines of the book; where 256 lines are not enough, the
+ * preview says JEMULING_FULL, and its caller may turn to jemuling_solve.
  *
  * Beside what it is lent, a call takes stack and no other memory. Beyond its
  * caller's, in bytes as measured on x86-64, solving takes at most 1,664, the
@@ -78,12 +94,17 @@ extern "C" {
 #define JEMULING_NO 0
 #define JEMULING_YES 1
 #define JEMULING_OPEN 2
+/* An edition: the question as it is written, or with no figure below 0 besides. */
+#define JEMULING_FIRST_EDITION 1
+#define JEMULING_SECOND_EDITION 2
 
 /*
  * What a call says, by its number. Below 64 it is a refusal, and `value` is
  * the place that the comment names; from 64 on the call has answered.
  */
 enum {
+    /* A call that names an edition, before all else: no byte is altered, there are no pairs. */
+    JEMULING_EDITION = 19,    /* an edition other than 1 and 2; 0 */
     /*
      * The question is at fault: 3 first; then 4 to 11 and 18, the first that
      * is met as the fields are read one by one, 18 right after 10; then 12,
@@ -125,7 +146,8 @@ enum {
     /* What a check found. */
     JEMULING_ACCEPTED = 67,   /* the book is a refutation, or the sheet satisfies every clause; 0 */
     JEMULING_FAILS = 68,      /* the first line that does not follow (the count of lines if only an empty last line
-                                 is missing), or the first clause that does not hold */
+                                 is missing), or the first clause that does not hold, n + i if figure i is below 0 in
+                                 edition 2 */
     /* What is handed back. */
     JEMULING_OF_BOOK = 69,    /* the first `value` bytes of the book */
     JEMULING_OF_SHEET = 70    /* the first `value` bytes of the sheet */
@@ -186,6 +208,18 @@ jemuling_solved jemuling_preview_solve(const uint8_t *question, size_t question_
                                        uint8_t *sheet, size_t sheet_length);
 
 /*
+ * Both in the edition named: JEMULING_EDITION first, before JEMULING_BOOK, and
+ * then no byte is altered; else as above, with the edition's clauses. With
+ * JEMULING_FIRST_EDITION they say and write what the calls above do.
+ */
+jemuling_solved jemuling_solve_in(uint64_t edition, const uint8_t *question, size_t question_length,
+                                  uint8_t *book, size_t book_length,
+                                  uint8_t *sheet, size_t sheet_length);
+jemuling_solved jemuling_preview_solve_in(uint64_t edition, const uint8_t *question, size_t question_length,
+                                          uint8_t *book, size_t book_length,
+                                          uint8_t *sheet, size_t sheet_length);
+
+/*
  * Checks that a book refutes a question: every line is a piece of a clause or
  * the result of two earlier lines, and the last is empty. Whoever wrote the
  * book, after JEMULING_ACCEPTED no marks and figures satisfy the question.
@@ -200,6 +234,18 @@ jemuling_told jemuling_preview_check_book(const uint8_t *question, size_t questi
                                           const uint8_t *book, size_t book_length);
 
 /*
+ * Both in the edition named: JEMULING_EDITION first, before the faults of the
+ * question; else as above, where a line may be a piece of one of the edition's
+ * clauses, n to n + r - 1, too. After JEMULING_ACCEPTED no marks and figures
+ * satisfy the question in that edition: in the second, none without a figure
+ * below 0.
+ */
+jemuling_told jemuling_check_book_in(uint64_t edition, const uint8_t *question, size_t question_length,
+                                     const uint8_t *book, size_t book_length);
+jemuling_told jemuling_preview_check_book_in(uint64_t edition, const uint8_t *question, size_t question_length,
+                                             const uint8_t *book, size_t book_length);
+
+/*
  * Checks that the marks and figures on a sheet satisfy a question, each clause
  * as it is written. JEMULING_OPEN must stand at the marks that are in no
  * literal of the question, and JEMULING_NO or JEMULING_YES at the others, so a
@@ -211,6 +257,15 @@ jemuling_told jemuling_preview_check_book(const uint8_t *question, size_t questi
  */
 jemuling_told jemuling_check_sheet(const uint8_t *question, size_t question_length,
                                    const uint8_t *sheet, size_t sheet_length);
+
+/*
+ * The same in the edition named: JEMULING_EDITION first, before the faults of
+ * the question; else as above, with the edition's clauses behind the written
+ * ones: in the second, JEMULING_FAILS with n + i where every written clause
+ * holds and figure i is the first below 0.
+ */
+jemuling_told jemuling_check_sheet_in(uint64_t edition, const uint8_t *question, size_t question_length,
+                                      const uint8_t *sheet, size_t sheet_length);
 
 /*
  * Which part of book or sheet a verdict gives its caller: the sheet's 64 bytes

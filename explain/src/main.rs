@@ -1,17 +1,16 @@
-//! Solves a question and prints in words what the solver did: `explain [--preview] FILE [NAMES]`,
-//! with the option as a preview. A file that ends in `.txt` is read as notation, any other as the
-//! bytes of a question.
+//! Solves a question and prints in words what the solver did:
+//! `explain [--preview] [--edition N] FILE [NAMES]`, by the options as a preview and in an edition, 1
+//! without. A file that ends in `.txt` is read as notation, any other as the bytes of a question.
 
-mod calls;
 mod words;
 
-use calls::{Calls, PREVIEW, STANDARD};
+use explain::{options, Calls};
 use notation::{encode, names_for, question_bytes, text, Failure, Names};
 use std::io::Write;
 use std::process::ExitCode;
 
-const USAGE: &str = "usage: explain [--preview] FILE.txt (notation) | \
-                     explain [--preview] FILE [NAMES.txt] (the bytes of a question)";
+const USAGE: &str = "usage: explain [--preview] [--edition N] FILE.txt (notation) | \
+                     explain [--preview] [--edition N] FILE [NAMES.txt] (the bytes of a question)";
 
 fn main() -> ExitCode {
     let arguments = match notation::words(std::env::args_os()) {
@@ -19,14 +18,16 @@ fn main() -> ExitCode {
         Err(failure) => return fail(failure.status(), &failure.to_string()),
     };
     let words: Vec<&str> = arguments.iter().map(String::as_str).collect();
-    let (calls, files) = match words[..] {
-        ["--preview", ref files @ ..] => (PREVIEW, files),
-        ref files => (STANDARD, files),
+    let (calls, edition, files) = match options(&words) {
+        Some(options) => options,
+        None => return fail(2, USAGE),
     };
     let explained = match *files {
-        [file] if file.ends_with(".txt") => explain_text(&calls, file),
-        [file] => explain_bytes(&calls, file, None),
-        [file, names] if !file.ends_with(".txt") => explain_bytes(&calls, file, Some(names)),
+        [file] if file.ends_with(".txt") => explain_text(&calls, edition, file),
+        [file] => explain_bytes(&calls, edition, file, None),
+        [file, names] if !file.ends_with(".txt") => {
+            explain_bytes(&calls, edition, file, Some(names))
+        }
         _ => return fail(2, USAGE),
     };
     match explained {
@@ -51,13 +52,18 @@ fn print(explained: &str) -> ExitCode {
     }
 }
 
-fn explain_text(calls: &Calls, file: &str) -> Result<String, Failure> {
+fn explain_text(calls: &Calls, edition: u64, file: &str) -> Result<String, Failure> {
     let text = text(file)?;
     let names = |_: &_| Ok(text.names.clone());
-    words::explain(calls, &encode(&text.question), names)
+    words::explain(calls, edition, &encode(&text.question), names)
 }
 
-fn explain_bytes(calls: &Calls, file: &str, names: Option<&str>) -> Result<String, Failure> {
+fn explain_bytes(
+    calls: &Calls,
+    edition: u64,
+    file: &str,
+    names: Option<&str>,
+) -> Result<String, Failure> {
     let names = |question: &_| -> Result<Names, Failure> { names_for(question, names) };
-    words::explain(calls, &question_bytes(file)?, names)
+    words::explain(calls, edition, &question_bytes(file)?, names)
 }

@@ -1,7 +1,8 @@
-//! A book in words: what each line claims. Whether it follows is for the check to say.
+//! A book in words, of either edition: what each line claims. Whether it follows is for the check to
+//! say.
 
 use crate::names::Names;
-use crate::question::{Clause, Condition, Literal, Question, Relation, FIGURES};
+use crate::question::{Clause, Condition, Edition, Literal, Question, Relation, FIGURES};
 use crate::reading::{Half, Reading};
 use crate::show::show_clause;
 
@@ -20,17 +21,24 @@ pub fn explain_book(
     if lines > whole {
         return Err(format!("expected {lines} whole lines, found {whole}"));
     }
+    let clauses = question.clauses_in(Edition::Second);
     let mut text = String::new();
     for (number, bytes) in book.chunks_exact(LINE).take(lines).enumerate() {
-        let words = explain_line(question, bytes, names)
+        let words = explain_line(question, &clauses, bytes, names)
             .map_err(|message| format!("line {number}: {message}"))?;
         text += &format!("line {number}: {words}\n");
     }
     Ok(text)
 }
 
-fn explain_line(question: &Question, bytes: &[u8], names: &Names) -> Result<String, String> {
-    let origin = origin(question, bytes, names)?;
+/// The clauses are those of the second edition, which has those of the first.
+fn explain_line(
+    question: &Question,
+    clauses: &[Clause],
+    bytes: &[u8],
+    names: &Names,
+) -> Result<String, String> {
+    let origin = origin(question, clauses, bytes, names)?;
     let clause = stated(question, bytes)?;
     let stated = show_clause(&clause, names);
     let stated = stated.unwrap_or_else(|| "nothing: a contradiction".into());
@@ -38,11 +46,19 @@ fn explain_line(question: &Question, bytes: &[u8], names: &Names) -> Result<Stri
 }
 
 /// Where a line comes from.
-fn origin(question: &Question, bytes: &[u8], names: &Names) -> Result<String, String> {
+fn origin(
+    question: &Question,
+    clauses: &[Clause],
+    bytes: &[u8],
+    names: &Names,
+) -> Result<String, String> {
     let which = usize::from(bytes[1]);
     let (first, second) = (half(bytes, 2), half(bytes, 4));
     match bytes[0] {
-        0 => loaded(question, first, second),
+        0 => match clauses.get(first) {
+            Some(clause) => Ok(named(question.clause_name(first), clause, second)),
+            None => Err(format!("expected a clause below {}", clauses.len())),
+        },
         1 => match names.figures.get(which) {
             Some(name) => Ok(format!("figure {name} from lines {first} and {second}")),
             None => Err(format!("expected a figure below {}", question.figures)),
@@ -57,22 +73,11 @@ fn origin(question: &Question, bytes: &[u8], names: &Names) -> Result<String, St
     }
 }
 
-fn loaded(question: &Question, clause: usize, piece: usize) -> Result<String, String> {
-    match question.clauses.get(clause) {
-        Some(whole) => Ok(named(whole, clause, piece)),
-        None => Err(format!(
-            "expected a clause below {}",
-            question.clauses.len()
-        )),
-    }
-}
-
-/// A clause by its number, with its piece where it has several, and the half of its `=` that the
-/// piece is of.
-pub fn named(whole: &Clause, clause: usize, piece: usize) -> String {
+/// A clause by its name, with its piece where it has several, and the half of its `=` that the piece
+/// is of.
+pub fn named(mut name: String, clause: &Clause, piece: usize) -> String {
     let of_pieces = |reading: Reading| vec![reading.half; reading.pieces()];
-    let halves: Vec<_> = whole.readings().into_iter().flat_map(of_pieces).collect();
-    let mut name = format!("clause {clause}");
+    let halves: Vec<_> = clause.readings().into_iter().flat_map(of_pieces).collect();
     if halves.len() > 1 || piece > 0 {
         name += &format!(", piece {piece}");
     }

@@ -38,7 +38,7 @@ pub use loading::explain_loading;
 pub use names::Names;
 pub use order::{explain_order, order_taken};
 pub use parse::{parse, Text};
-pub use question::{Clause, Condition, Literal, Question, Relation};
+pub use question::{Clause, Condition, Edition, Literal, Question, Relation};
 pub use reading::{Half, Reading};
 pub use sheet::explain_sheet;
 pub use show::{show, show_clause};

@@ -2,19 +2,20 @@
 //! pieces that an earlier line covers.
 
 use crate::book::{half, named, of_half, LINE};
-use crate::question::{Clause, Condition, Literal, Question, Relation};
+use crate::question::{Clause, Condition, Edition, Literal, Question, Relation};
 use crate::reading::Reading;
 
 /// The pieces that an earlier line covers, and the clauses, or one reading of them, that always hold:
 /// for both their count, and each on a line. Nothing of what a run did not come to. The book is the
-/// used lines of that run.
-pub fn explain_loading(question: &Question, book: &[u8]) -> String {
+/// used lines of that run, in the edition given.
+pub fn explain_loading(question: &Question, edition: Edition, book: &[u8]) -> String {
     let mut lines = book.chunks_exact(LINE).take_while(|line| line[0] == 0);
     let mut next = lines.next();
     let mut held: Vec<(String, Piece)> = Vec::new();
     let (mut covered, mut dropped) = (Vec::new(), Vec::new());
-    let clauses = question.clauses.iter().enumerate();
-    for item in clauses.flat_map(|(number, clause)| items(number, clause)) {
+    let clauses = question.clauses_in(edition);
+    let numbered = clauses.iter().enumerate();
+    for item in numbered.flat_map(|(number, clause)| items(question, number, clause)) {
         if held.last().map_or(false, |(_, piece)| piece.is_empty()) {
             break;
         }
@@ -50,20 +51,21 @@ enum Item<'a> {
 }
 
 /// What loading comes to of a clause, in order.
-fn items(number: usize, clause: &Clause) -> Vec<Item<'_>> {
+fn items<'a>(question: &Question, number: usize, clause: &'a Clause) -> Vec<Item<'a>> {
+    let clause_name = question.clause_name(number);
     let readings = clause.readings();
     if readings.iter().all(|reading| reading.pieces() == 0) {
-        return vec![Item::AlwaysTrue(format!("clause {number}"))];
+        return vec![Item::AlwaysTrue(clause_name)];
     }
     let mut items = Vec::new();
     let mut part = 0;
     for reading in readings {
         if reading.pieces() == 0 {
             let half = of_half(reading.half);
-            items.push(Item::AlwaysTrue(format!("clause {number}{half}")));
+            items.push(Item::AlwaysTrue(format!("{clause_name}{half}")));
         }
         for piece in pieces(&clause.literals, reading) {
-            let name = named(clause, number, part);
+            let name = named(clause_name.clone(), clause, part);
             items.push(Item::Piece(number, part, name, piece));
             part += 1;
         }

@@ -83,6 +83,14 @@ impl Clause {
     }
 }
 
+/// Which clauses must hold: those of the question as it is written, or in the second edition also
+/// that no figure is negative.
+#[derive(Clone, Copy, Debug, PartialEq, Eq)]
+pub enum Edition {
+    First,
+    Second,
+}
+
 #[derive(Clone, Debug, Default, PartialEq, Eq)]
 pub struct Question {
     pub marks: usize,
@@ -91,6 +99,38 @@ pub struct Question {
 }
 
 impl Question {
+    /// The clauses of an edition, in the order of their numbers: in the second, behind those that are
+    /// written, one for each figure.
+    pub fn clauses_in(&self, edition: Edition) -> Vec<Clause> {
+        let mut clauses = self.clauses.clone();
+        if edition == Edition::Second {
+            clauses.extend((0..self.figures).map(|figure| self.at_least_0(figure)));
+        }
+        clauses
+    }
+
+    /// That a figure is not negative.
+    fn at_least_0(&self, figure: usize) -> Clause {
+        let coefficients = (0..self.figures).map(|other| i32::from(other == figure));
+        Clause {
+            literals: Vec::new(),
+            conditions: vec![Condition {
+                relation: Relation::AtLeast,
+                coefficients: coefficients.collect(),
+                bound: 0,
+            }],
+        }
+    }
+
+    /// A clause by its number, with its edition if it is not written.
+    pub fn clause_name(&self, number: usize) -> String {
+        let edition = match number < self.clauses.len() {
+            true => "",
+            false => " (edition 2)",
+        };
+        format!("clause {number}{edition}")
+    }
+
     /// Whether a mark stands in no literal as written, so that nothing decides it.
     pub fn is_open(&self, mark: usize) -> bool {
         let mut literals = self.clauses.iter().flat_map(|clause| &clause.literals);

@@ -8,7 +8,7 @@ use std::fs;
 
 #[test]
 fn every_example_gives_its_question() {
-    assert_eq!(texts().len(), 18);
+    assert_eq!(texts().len(), 19);
     for file in texts() {
         let text = parse(&fs::read_to_string(&file).unwrap()).unwrap();
         let question = fs::read(file.with_extension("question")).unwrap();
@@ -26,7 +26,7 @@ fn every_question_has_its_text() {
             questions += 1;
         }
     }
-    assert_eq!(questions, 18);
+    assert_eq!(questions, 19);
 }
 
 #[test]
@@ -69,6 +69,7 @@ fn they_are_answered_as_the_papers_say() {
         ("example_11", "unwritten 2 0"),
         ("example_12", "agrees 81 40"),
         ("example_12_variant", "agrees 81 40"),
+        ("negative_share", "agrees 10 9"),
         ("open", "agrees 6 3"),
         ("payment", "agrees 35 37"),
         ("payment_missing", "cannot 29 29"),

@@ -283,7 +283,7 @@ fn what_cannot_be_explained() {
         explain_book(&question, &book, None, &names).unwrap_err()
     };
     assert_eq!(said(0, 3), "line 0: expected how, 0 to 2, found 3");
-    assert_eq!(said(66, 3), "line 1: expected a clause below 3");
+    assert_eq!(said(66, 5), "line 1: expected a clause below 5");
     assert_eq!(said(193, 2), "line 3: expected a figure below 2");
     assert_eq!(
         said(70, 0),

@@ -4,7 +4,7 @@
 mod common;
 
 use common::{solved, text};
-use notation::{decode, encode, explain_loading, parse, Question, Relation, Text};
+use notation::{decode, encode, explain_loading, parse, Edition, Question, Relation, Text};
 use questions::random::Random;
 use questions::rows;
 use reference::Answer;
@@ -23,7 +23,7 @@ fn book(question: &[u8]) -> Option<Vec<u8>> {
 
 fn said(text: &Text) -> String {
     let book = book(&encode(&text.question)).unwrap();
-    explain_loading(&text.question, &book)
+    explain_loading(&text.question, Edition::First, &book)
 }
 
 #[test]
@@ -183,7 +183,7 @@ fn of_random_questions() {
             Some(book) if !ends_loading(&book) => book,
             _ => continue,
         };
-        let said = explain_loading(&question, &book);
+        let said = explain_loading(&question, Edition::First, &book);
         let covered: Vec<&str> = said
             .lines()
             .filter(|line| line.contains(" by line "))

@@ -19,7 +19,13 @@ pub const YES: u8 = 1;
 /// A mark on a sheet that stands in no clause: decided by nothing, it is neither yes nor no.
 pub const OPEN: u8 = 2;
 
-/// A refusal by its number, 1 to 18, and its place; the header says what each number means.
+/// The edition of a question as it is written.
+pub const FIRST_EDITION: u64 = 1;
+/// The edition in which, besides, no figure is negative: behind a question's n clauses, clauses n,
+/// n + 1 and so on state that figure 0, 1 and so on is at least 0.
+pub const SECOND_EDITION: u64 = 2;
+
+/// A refusal by its number, 1 to 19, and its place; the header says what each number means.
 #[derive(Clone, Copy, Debug, PartialEq, Eq)]
 pub struct Refusal {
     pub number: u8,
@@ -27,7 +33,7 @@ pub struct Refusal {
 }
 
 impl Refusal {
-    /// Whether the question itself is at fault: 3 to 13, and 18.
+    /// Whether the question itself is at fault: 3 to 13, and 18. 19 is for an edition that is none.
     pub fn is_fault(&self) -> bool {
         matches!(self.number, 3..=13 | 18)
     }
@@ -99,6 +105,24 @@ extern "C" {
         sheet: *mut u8,
         sheet_length: usize,
     ) -> SolvedTold;
+    fn jemuling_solve_in(
+        edition: u64,
+        question: *const u8,
+        question_length: usize,
+        book: *mut u8,
+        book_length: usize,
+        sheet: *mut u8,
+        sheet_length: usize,
+    ) -> SolvedTold;
+    fn jemuling_preview_solve_in(
+        edition: u64,
+        question: *const u8,
+        question_length: usize,
+        book: *mut u8,
+        book_length: usize,
+        sheet: *mut u8,
+        sheet_length: usize,
+    ) -> SolvedTold;
     fn jemuling_check_book(
         question: *const u8,
         question_length: usize,
@@ -111,7 +135,28 @@ extern "C" {
         book: *const u8,
         book_length: usize,
     ) -> Told;
+    fn jemuling_check_book_in(
+        edition: u64,
+        question: *const u8,
+        question_length: usize,
+        book: *const u8,
+        book_length: usize,
+    ) -> Told;
+    fn jemuling_preview_check_book_in(
+        edition: u64,
+        question: *const u8,
+        question_length: usize,
+        book: *const u8,
+        book_length: usize,
+    ) -> Told;
     fn jemuling_check_sheet(
+        question: *const u8,
+        question_length: usize,
+        sheet: *const u8,
+        sheet_length: usize,
+    ) -> Told;
+    fn jemuling_check_sheet_in(
+        edition: u64,
         question: *const u8,
         question_length: usize,
         sheet: *const u8,
@@ -135,10 +180,13 @@ extern "C" {
     ) -> Told;
 }
 
-/// A call for solving, one for the check of a book or of a sheet, and one for handing back, whichever
-/// its limit of lines.
+/// A call for solving, one for the check of a book or of a sheet, both also with an edition before the
+/// rest, and one for handing back, whichever its limit of lines.
 type Solving = unsafe extern "C" fn(*const u8, usize, *mut u8, usize, *mut u8, usize) -> SolvedTold;
+type SolvingIn =
+    unsafe extern "C" fn(u64, *const u8, usize, *mut u8, usize, *mut u8, usize) -> SolvedTold;
 type Checking = unsafe extern "C" fn(*const u8, usize, *const u8, usize) -> Told;
+type CheckingIn = unsafe extern "C" fn(u64, *const u8, usize, *const u8, usize) -> Told;
 type HandingBack = unsafe extern "C" fn(u64, usize, *const u8, usize, *const u8, usize) -> Told;
 
 const AGREES: u64 = 64;
@@ -155,9 +203,21 @@ pub fn solve(question: &[u8], book: &mut [u8], sheet: &mut [u8]) -> Solved {
     solve_by(jemuling_solve, question, book, sheet)
 }
 
+/// Solves a question in the edition of this number, [`FIRST_EDITION`] or [`SECOND_EDITION`]; any other
+/// is refused before all else, 19. In the first it does what [`solve`] does.
+pub fn solve_in(edition: u64, question: &[u8], book: &mut [u8], sheet: &mut [u8]) -> Solved {
+    solve_in_by(jemuling_solve_in, edition, question, book, sheet)
+}
+
 /// Checks that a book refutes a question.
 pub fn check_book(question: &[u8], book: &[u8]) -> Checked {
     check_by(jemuling_check_book, question, book)
+}
+
+/// Checks that a book refutes a question in the edition of this number; any other than 1 and 2 is
+/// refused before all else, 19. A book that is accepted in the first is accepted in the second.
+pub fn check_book_in(edition: u64, question: &[u8], book: &[u8]) -> Checked {
+    check_in_by(jemuling_check_book_in, edition, question, book)
 }
 
 /// Checks that the marks and figures on a sheet satisfy a question, with either value for each open
@@ -165,6 +225,14 @@ pub fn check_book(question: &[u8], book: &[u8]) -> Checked {
 /// [`NO`] or [`YES`] at the others; anything else is refused, 17.
 pub fn check_sheet(question: &[u8], sheet: &[u8]) -> Checked {
     check_by(jemuling_check_sheet, question, sheet)
+}
+
+/// Checks that the marks and figures on a sheet satisfy a question in the edition of this number; any
+/// other than 1 and 2 is refused before all else, 19. In the second, [`Checked::Fails`] names clause
+/// n + i where figure i is the first below 0 and all n written clauses hold. A sheet that is accepted
+/// in the second is accepted in the first.
+pub fn check_sheet_in(edition: u64, question: &[u8], sheet: &[u8]) -> Checked {
+    check_in_by(jemuling_check_sheet_in, edition, question, sheet)
 }
 
 /// The part of book or sheet that an answer gives: the sheet after "agrees", the used lines of the
@@ -176,7 +244,8 @@ pub fn hand_back<'a>(answer: Answer, book: &'a [u8], sheet: &'a [u8]) -> Part<'a
 
 /// The calls with a preview's book: 256 lines, [`PREVIEW_BYTES`](crate::PREVIEW_BYTES); a longer one
 /// keeps its bytes from there on. A verdict of the preview, or 14, is also what
-/// [`solve`](crate::solve) says with a full-size book.
+/// [`solve`](crate::solve) says with a full-size book, and in an edition
+/// [`solve_in`](crate::solve_in).
 pub mod preview {
     use super::{Answer, Checked, Part, Solved};
 
@@ -185,9 +254,22 @@ pub mod preview {
         super::solve_by(super::jemuling_preview_solve, question, book, sheet)
     }
 
+    /// Solves a question in the edition of this number, as [`solve_in`](crate::solve_in) does.
+    pub fn solve_in(edition: u64, question: &[u8], book: &mut [u8], sheet: &mut [u8]) -> Solved {
+        let call = super::jemuling_preview_solve_in;
+        super::solve_in_by(call, edition, question, book, sheet)
+    }
+
     /// Checks that a book of at most 256 lines refutes a question.
     pub fn check_book(question: &[u8], book: &[u8]) -> Checked {
         super::check_by(super::jemuling_preview_check_book, question, book)
+    }
+
+    /// Checks that a book of at most 256 lines refutes a question in the edition of this number, as
+    /// [`check_book_in`](crate::check_book_in) does.
+    pub fn check_book_in(edition: u64, question: &[u8], book: &[u8]) -> Checked {
+        let call = super::jemuling_preview_check_book_in;
+        super::check_in_by(call, edition, question, book)
     }
 
     /// The part of book or sheet that an answer gives, as [`hand_back`](crate::hand_back) has it, of a
@@ -200,7 +282,7 @@ pub mod preview {
 fn solve_by(call: Solving, question: &[u8], book: &mut [u8], sheet: &mut [u8]) -> Solved {
     // SAFETY: the call reads the question and reads and writes the buffers within their lengths,
     // and keeps no pointer; slices lent mutably do not overlap.
-    let told = unsafe {
+    solved(unsafe {
         call(
             question.as_ptr(),
             question.len(),
@@ -209,23 +291,47 @@ fn solve_by(call: Solving, question: &[u8], book: &mut [u8], sheet: &mut [u8]) -
             sheet.as_mut_ptr(),
             sheet.len(),
         )
-    };
-    let answer = match told.number {
-        AGREES => Answer::Verdict(Verdict::Agrees, told.value),
-        CANNOT => Answer::Verdict(Verdict::Cannot, told.value),
-        UNWRITTEN => Answer::Verdict(Verdict::Unwritten, told.value),
-        number => Answer::Refused(refusal(number, told.value)),
-    };
-    Solved {
-        answer,
-        pairs: told.pairs,
-    }
+    })
+}
+
+fn solve_in_by(
+    call: SolvingIn,
+    edition: u64,
+    question: &[u8],
+    book: &mut [u8],
+    sheet: &mut [u8],
+) -> Solved {
+    // SAFETY: as for `solve_by`.
+    solved(unsafe {
+        call(
+            edition,
+            question.as_ptr(),
+            question.len(),
+            book.as_mut_ptr(),
+            book.len(),
+            sheet.as_mut_ptr(),
+            sheet.len(),
+        )
+    })
 }
 
 fn check_by(call: Checking, question: &[u8], evidence: &[u8]) -> Checked {
     // SAFETY: the call reads both slices within their lengths, and keeps no pointer.
     checked(unsafe {
         call(
+            question.as_ptr(),
+            question.len(),
+            evidence.as_ptr(),
+            evidence.len(),
+        )
+    })
+}
+
+fn check_in_by(call: CheckingIn, edition: u64, question: &[u8], evidence: &[u8]) -> Checked {
+    // SAFETY: as for `check_by`.
+    checked(unsafe {
+        call(
+            edition,
             question.as_ptr(),
             question.len(),
             evidence.as_ptr(),
@@ -264,6 +370,19 @@ fn hand_back_by<'a>(
     }
 }
 
+fn solved(told: SolvedTold) -> Solved {
+    let answer = match told.number {
+        AGREES => Answer::Verdict(Verdict::Agrees, told.value),
+        CANNOT => Answer::Verdict(Verdict::Cannot, told.value),
+        UNWRITTEN => Answer::Verdict(Verdict::Unwritten, told.value),
+        number => Answer::Refused(refusal(number, told.value)),
+    };
+    Solved {
+        answer,
+        pairs: told.pairs,
+    }
+}
+
 fn checked(told: Told) -> Checked {
     match told.number {
         ACCEPTED => Checked::Accepted,
@@ -272,7 +391,7 @@ fn checked(told: Told) -> Checked {
     }
 }
 
-/// The library's refusals are 1 to 18; a number that is none of its own would come out as 255.
+/// The library's refusals are 1 to 19; a number that is none of its own would come out as 255.
 fn refusal(number: u64, place: usize) -> Refusal {
     Refusal {
         number: u8::try_from(number).unwrap_or(u8::MAX),

@@ -1,3 +1,4 @@
 pub mod LoadedParts
 pub mod Loading
+pub mod Added
 pub mod Eliminated

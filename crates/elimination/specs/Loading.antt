@@ -1,4 +1,4 @@
--- The parts of all clauses put behind one another.
+-- The parts of the written clauses put behind one another.
 use mathlib.Core.Path.{_≡_, refl, sym, ap, _∙_}
 use mathlib.Core.Bool.{true, false}
 use mathlib.Core.List.{List, []}
@@ -45,12 +45,12 @@ pub no-pairs : {limits : Limits} {start : List ℕ} {from : Point} {proof : List
 unfolding pairsOf
 no-pairs {limits} {proof = proof} {p = p} xs r = sym (pairs-at proof p) ∙ ap pairsOf (r .is) ∙ load-pairs (limited limits) xs (running [] 0)
 
--- the parts of all clauses
-abbrev pub allLoaded : Limits → List ℕ → Sizes → State
-allLoaded limits q sizes = load (limited limits) (loadableOf (problemAt q sizes)) (running [] 0)
+-- the parts of all that are written
+abbrev pub writtenLoaded : Limits → List ℕ → Sizes → State
+writtenLoaded limits q sizes = load (limited limits) (loadableOf (problemAt q sizes)) (running [] 0)
 
-abbrev pub LoadsAll : Limits → List ℕ → Sizes → List ℕ → List ℕ → Point → Type 0
-LoadsAll limits q sizes before after p = Reaches limits before origin after p (allLoaded limits q sizes)
+abbrev pub LoadsWritten : Limits → List ℕ → Sizes → List ℕ → List ℕ → Point → Type 0
+LoadsWritten limits q sizes before after p = Reaches limits before origin after p (writtenLoaded limits q sizes)
 
 -- ---- at the loop's test
 -- the clauses from `clause` on, at their place, come to what all of them come to
@@ -61,7 +61,7 @@ pub record AtClause (limits : Limits) (q : List ℕ) (sizes : Sizes) (start proo
   pub ahead : Ahead q (sizes .rationals) (sizes .clauses - clause) at (split - sizes .booleans)
   pub leads : Leads limits start 0 proof (p .steps)
   pub same : load (limited limits) (loadable clause split (clausesAt q (sizes .rationals) (sizes .clauses - clause) at)) (stateAt proof p)
-      ≡ allLoaded limits q sizes
+      ≡ writtenLoaded limits q sizes
 
 module _ {limits : Limits} {q : List ℕ} {sizes : Sizes} {start : List ℕ} where
   pub clauses-start : Readable q sizes → limit.stepBytes * limits .steps ≤ length start
@@ -80,7 +80,7 @@ module _ {limits : Limits} {q : List ℕ} {sizes : Sizes} {start : List ℕ} whe
       }
 
   module _ {proof : List ℕ} {p : Point} {at split clause : ℕ} (a : AtClause limits q sizes start proof p at split clause) where
-    pub clauses-done : sizes .clauses ≤ clause → LoadsAll limits q sizes start proof p
+    pub clauses-done : sizes .clauses ≤ clause → LoadsWritten limits q sizes start proof p
     unfolding loadable load clausesAt
     clauses-done h = let e : 0 ≡ sizes .clauses - clause = omega arith in record {
       is = ap (λ (k : ℕ). load (limited limits) (loadable clause split (clausesAt q (sizes .rationals) k at)) (stateAt proof p)) e
@@ -102,7 +102,7 @@ module _ {limits : Limits} {q : List ℕ} {sizes : Sizes} {start : List ℕ} whe
           (reaches : LoadsClause limits q (sizes .rationals) at split clause proof p after x) where
         tried : load (limited limits) (loadable (suc clause) (split + splitsOf (clauseAt q (sizes .rationals) at))
             (clausesAt q (sizes .rationals) (sizes .clauses - clause - 1) (clauseEnd q (sizes .rationals) at))) (stateAt after x)
-            ≡ allLoaded limits q sizes
+            ≡ writtenLoaded limits q sizes
         unfolding loadable
         tried =
             let r = sizes .rationals in
@@ -131,7 +131,7 @@ module _ {limits : Limits} {q : List ℕ} {sizes : Sizes} {start : List ℕ} whe
             }
 
         pub clause-ended : isRunning (x .progress) ≡ false
-            → LoadsAll limits q sizes start after x
+            → LoadsWritten limits q sizes start after x
         clause-ended g =
             record {
               is = load-stays limits (loadable (suc clause) (split + splitsOf (clauseAt q (sizes .rationals) at))

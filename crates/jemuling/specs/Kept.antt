@@ -1,19 +1,31 @@
 -- The calls keep what they promise: from the equations with document 01's definitions.
-use mathlib.Core.Path.{_≡_, refl, sym, subst}
+use mathlib.Core.Path.{_≡_, refl, sym, ap, subst, _∙_}
+use mathlib.Core.Logic.{_↔_}
 use mathlib.Core.List.{List}
 use Prim.Native.Nat.{ℕ, _≤_}
 use Rattle.rules_types.specs.declared.answers.Solved.{Solved}
 use Rattle.rules_types.specs.declared.answers.Checked.{Checked}
+use Rattle.rules_types.specs.declared.answers.Checked.the-variants.{Accepted, Refused}
 use Rattle.rules_types.specs.declared.answers.Evidence.{Evidence}
 use Rattle.rules_types.specs.declared.limits.Limits.{Limits}
+use Rattle.rules_types.specs.declared.answers.Refusal.the-variants.{Edition as EditionRefused}
+use Rattle.rules_types.specs.declared.terms.Edition.{Edition}
+use Rattle.rules_types.specs.declared.terms.Edition.the-variants.{First, Second}
+use Rattle.rules_types.specs.declared.terms.Named.the-variants.{Known}
 use Rattle.rules_types.specs.declared.terms.Terms.{Terms}
 use Rattle.rules_types.specs.Limits as limit
-use Rattle.rules_types.specs.Answers.{answerNumber, checkedNumber, checkedValue, evidenceNumber, evidenceLength}
-use Rattle.rules.specs.Calls.{solve, proofChecked, modelChecked, evidence}
+use Rattle.rules_types.specs.Answers.{refusalNumber, answerNumber, answerValue, checkedNumber, checkedValue, evidenceNumber, evidenceLength}
+use Rattle.rules_types.specs.Terms.{editionNamed}
+use Rattle.rules.specs.Problem.{Problem}
+use Rattle.rules.specs.Calls.{sound, read, Solving, solve, proofChecked, modelChecked, solveIn, proofCheckedIn, modelCheckedIn, evidence}
 use Rattle.theory_bytes.specs.Bytes.{AllBytes}
 use Rattle.promises.specs.Numbers.{verdict-exactly, refusal-exactly, accepted-exactly, fails-exactly, refused-exactly, of-proof-exactly}
 use Rattle.promises.specs.Numbers.{of-model-exactly}
 use Rattle.promises.specs.Handing.{hands}
+use Rattle.promises.specs.Editions.{Editions, editions, on, Other, solve-not, proof-not, model-not, proof-kept, model-kept}
+use Rattle.promises.specs.Editions.{named-first, named-second, named-other, solve-known, solve-unknown, proof-known, proof-unknown}
+use Rattle.promises.specs.Editions.{model-known, model-unknown}
+use Rattle.theory_splitting.specs.WellRead.{posed-well-formed}
 use Rattle.promises.specs.Checks.{checks-proof, checks-model}
 use Rattle.promises.specs.Demand1.{demand1}
 use Rattle.promises.specs.Demand2.{demand2}
@@ -22,6 +34,7 @@ use Rattle.jemuling.specs.declared.told.Told.{Told}
 use Rattle.jemuling.specs.declared.told.SolvedTold.{SolvedTold}
 use Rattle.jemuling.specs.Told.{solvedTold, checkedTold, evidenceTold}
 use Rattle.jemuling.specs.Promised.{TellsSolved, TellsChecked, TellsPart, Delivered, BookChecked, SheetChecked, PartHanded}
+use Rattle.jemuling.specs.Promised.{DeliveredIn, BookCheckedIn, SheetCheckedIn}
 
 -- ---- numbers
 solved-tells : (s : Solved) → TellsSolved (solvedTold s) s
@@ -93,3 +106,134 @@ part-handed limits number lines proof model told t =
       tells = subst (λ (x : Told). TellsPart x part) (sym t) (part-tells part);
       hands = hands limits number lines proof model;
     }
+
+-- ---- the calls that name an edition
+-- what the second edition asks
+editions-of : (input : List ℕ) (p : Problem) → read input ≡ sound p → Editions p
+editions-of input p e = editions p (posed-well-formed First input p e .rationals)
+
+pub delivered-in : (limits : Limits) → limits .steps ≤ limit.mostSteps → (edition : ℕ) (input lentProof lentModel : List ℕ)
+    (told : SolvedTold) (proof model : List ℕ) → AllBytes input → AllBytes proof → AllBytes model
+    → told ≡ solvedTold (solveIn limits edition input lentProof lentModel .solved)
+    → proof ≡ solveIn limits edition input lentProof lentModel .proof
+    → model ≡ solveIn limits edition input lentProof lentModel .model → DeliveredIn limits edition input lentProof lentModel told proof model
+unfolding solvedTold answerNumber answerValue refusalNumber
+delivered-in limits few edition input lentProof lentModel told proof model are lines sheet t b s =
+    record {
+      first = λ e. by First (named-first edition e);
+      second = λ e. by Second (named-second edition e);
+      editions = editions-of input;
+      refused = (
+        λ n. (
+          λ e. not-refused First (named-first edition e) n,
+          λ e. not-refused Second (named-second edition e) n,
+        ),
+        λ h. ap (λ (x : SolvedTold). x .number) (left h .0),
+      );
+      other = left;
+    }
+  where
+    by : (e : Edition) → editionNamed edition ≡ Known e → Delivered (on limits e) input lentProof lentModel told proof model
+    by e h = let is = solve-known limits edition input lentProof lentModel e h in
+        delivered (on limits e) few input lentProof lentModel told proof model are lines sheet
+        (t ∙ ap (λ (x : Solving). solvedTold (x .solved)) is) (b ∙ ap (λ (x : Solving). x .proof) is)
+        (s ∙ ap (λ (x : Solving). x .model) is)
+
+    not-refused : (e : Edition) → editionNamed edition ≡ Known e → told .number ≡ 19 → ⊥
+    not-refused e h n = let is = solve-known limits edition input lentProof lentModel e h in
+        solve-not (on limits e) input are lentProof lentModel
+        (refusal-exactly EditionRefused (solve (on limits e) input lentProof lentModel .solved .answer) .0
+        (sym (ap (λ (x : SolvedTold). x .number) (t ∙ ap (λ (x : Solving). solvedTold (x .solved)) is)) ∙ n))
+
+    left : Other edition → (told ≡ record { number = 19; value = 0; pairs = 0 }) × (proof ≡ lentProof) × (model ≡ lentModel)
+    left h = let is = solve-unknown limits edition input lentProof lentModel (named-other edition h) in (
+      t ∙ ap (λ (x : Solving). solvedTold (x .solved)) is,
+      b ∙ ap (λ (x : Solving). x .proof) is,
+      s ∙ ap (λ (x : Solving). x .model) is,
+    )
+
+-- what a check tells in an edition that it knows is not 19, and in every other it is
+module _ (edition : ℕ) (told : Told) (in-edition : Edition → Checked) (says : Checked) (t : told ≡ checkedTold says)
+    (known : (e : Edition) → editionNamed edition ≡ Known e → says ≡ in-edition e)
+    (unknown : Other edition → says ≡ Refused EditionRefused 0)
+    (not-refused : (e : Edition) (place : ℕ) → in-edition e ≡ Refused EditionRefused place → ⊥) where
+  checked-other : Other edition → told ≡ record { number = 19; value = 0 }
+  unfolding checkedTold checkedNumber checkedValue refusalNumber
+  checked-other h = t ∙ ap checkedTold (unknown h)
+
+  checked-not : (e : Edition) → editionNamed edition ≡ Known e → told .number ≡ 19 → ⊥
+  unfolding refusalNumber
+  checked-not e h n = not-refused e (told .value) (sym (known e h)
+      ∙ subst (λ (x : Told). TellsChecked x says) (sym t) (checked-tells says) .refused EditionRefused (told .value) .0 (n, refl))
+
+  checked-refused : (told .number ≡ 19) ↔ Other edition
+  checked-refused = (
+    λ n. (λ e. checked-not First (named-first edition e) n, λ e. checked-not Second (named-second edition e) n),
+    λ h. ap (λ (x : Told). x .number) (checked-other h),
+  )
+
+  accepted-in : (e : Edition) → editionNamed edition ≡ Known e → told .number ≡ 67 → in-edition e ≡ Accepted
+  accepted-in e h n = sym (known e h) ∙ subst (λ (x : Told). TellsChecked x says) (sym t) (checked-tells says) .accepted .0 n
+
+pub book-checked-in : (limits : Limits) → limits .steps ≤ limit.mostSteps → (edition : ℕ) (input proof : List ℕ) (told : Told)
+    → AllBytes input → AllBytes proof → told ≡ checkedTold (proofCheckedIn limits edition input proof)
+    → BookCheckedIn limits edition input proof told
+book-checked-in limits few edition input proof told are lines t =
+    record {
+      first = λ e. by First (named-first edition e);
+      second = λ e. by Second (named-second edition e);
+      editions = editions-of input;
+      kept = λ e n. proof-known limits 2 input proof Second (named-second 2 refl)
+          ∙ proof-kept limits input proof few lines (accepted-in edition told in-edition says t known unknown not-in First (named-first edition e) n);
+      refused = checked-refused edition told in-edition says t known unknown not-in;
+      other = checked-other edition told in-edition says t known unknown not-in;
+    }
+  where
+    says : Checked
+    says = proofCheckedIn limits edition input proof
+
+    in-edition : Edition → Checked
+    in-edition e = proofChecked (on limits e) input proof
+
+    known : (e : Edition) → editionNamed edition ≡ Known e → says ≡ in-edition e
+    known e h = proof-known limits edition input proof e h
+
+    unknown : Other edition → says ≡ Refused EditionRefused 0
+    unknown h = proof-unknown limits edition input proof (named-other edition h)
+
+    not-in : (e : Edition) (place : ℕ) → in-edition e ≡ Refused EditionRefused place → ⊥
+    not-in e place = proof-not (on limits e) input are proof place
+
+    by : (e : Edition) → editionNamed edition ≡ Known e → BookChecked (on limits e) input proof told
+    by e h = book-checked (on limits e) few input proof told are lines (t ∙ ap checkedTold (known e h))
+
+pub sheet-checked-in : (limits : Limits) (edition : ℕ) (input model : List ℕ) (told : Told) → AllBytes input
+    → told ≡ checkedTold (modelCheckedIn limits edition input model) → SheetCheckedIn limits edition input model told
+sheet-checked-in limits edition input model told are t =
+    record {
+      first = λ e. by First (named-first edition e);
+      second = λ e. by Second (named-second edition e);
+      editions = editions-of input;
+      kept = λ e n. model-known limits 1 input model First (named-first 1 refl)
+          ∙ model-kept limits input model (accepted-in edition told in-edition says t known unknown not-in Second (named-second edition e) n);
+      refused = checked-refused edition told in-edition says t known unknown not-in;
+      other = checked-other edition told in-edition says t known unknown not-in;
+    }
+  where
+    says : Checked
+    says = modelCheckedIn limits edition input model
+
+    in-edition : Edition → Checked
+    in-edition e = modelChecked (on limits e) input model
+
+    known : (e : Edition) → editionNamed edition ≡ Known e → says ≡ in-edition e
+    known e h = model-known limits edition input model e h
+
+    unknown : Other edition → says ≡ Refused EditionRefused 0
+    unknown h = model-unknown limits edition input model (named-other edition h)
+
+    not-in : (e : Edition) (place : ℕ) → in-edition e ≡ Refused EditionRefused place → ⊥
+    not-in e place = model-not (on limits e) input are model place
+
+    by : (e : Edition) → editionNamed edition ≡ Known e → SheetChecked (on limits e) input model told
+    by e h = sheet-checked (on limits e) input model told are (t ∙ ap checkedTold (known e h))

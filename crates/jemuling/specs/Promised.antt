@@ -12,10 +12,11 @@ use Rattle.rules_types.specs.declared.answers.Checked.the-variants.{Accepted, F
 use Rattle.rules_types.specs.declared.answers.Evidence.{Evidence}
 use Rattle.rules_types.specs.declared.answers.Evidence.the-variants.{OfProof, OfModel}
 use Rattle.rules_types.specs.declared.limits.Limits.{Limits}
+use Rattle.rules_types.specs.declared.terms.Edition.the-variants.{First, Second}
 use Rattle.rules_types.specs.declared.terms.Terms.{Terms}
 use Rattle.rules_types.specs.Answers.{refusalNumber, verdictNumber, answerValue}
 use Rattle.rules.specs.Problem.{Problem, inEdition}
-use Rattle.rules.specs.Calls.{sound, read, Solving}
+use Rattle.rules.specs.Calls.{sound, read, Solving, proofCheckedIn, modelCheckedIn}
 use Rattle.theory_bytes.specs.Bytes.{AllBytes}
 use Rattle.promises.specs.Words.{Comes, IsRefused, FullSize}
 use Rattle.promises.specs.Handing.{Hands}
@@ -23,6 +24,7 @@ use Rattle.promises.specs.Checks.{ChecksProof, ChecksModel}
 use Rattle.promises.specs.Demand1.{Demand1}
 use Rattle.promises.specs.Demand2.{Demand2}
 use Rattle.promises.specs.Demand3.{Demand3}
+use Rattle.promises.specs.Editions.{Editions, on, Other}
 use Rattle.jemuling.specs.declared.told.Told.{Told}
 use Rattle.jemuling.specs.declared.told.SolvedTold.{SolvedTold}
 
@@ -76,3 +78,36 @@ pub record PartHanded (limits : Limits) (number lines : ℕ) (proof model : List
   pub part : Evidence
   pub tells : TellsPart told part
   pub hands : Hands limits number lines proof model part
+
+-- ---- 02, (v): the calls that name an edition by its number; what is promised in each, and 19 for every other number, "tested first ...,
+-- place 0", and for no other reason
+-- `jemuling_solve_in`, `jemuling_preview_solve_in`
+pub record DeliveredIn (limits : Limits) (edition : ℕ) (input lentProof lentModel : List ℕ) (told : SolvedTold) (proof model : List ℕ)
+    : Type 0 where
+  pub first : edition ≡ 1 → Delivered (on limits First) input lentProof lentModel told proof model
+  pub second : edition ≡ 2 → Delivered (on limits Second) input lentProof lentModel told proof model
+  -- what the second asks beyond the first
+  pub editions : (p : Problem) → read input ≡ sound p → Editions p
+  pub refused : (told .number ≡ 19) ↔ Other edition
+  -- "alter no byte", "report no pairs"
+  pub other : Other edition → (told ≡ record { number = 19; value = 0; pairs = 0 }) × (proof ≡ lentProof) × (model ≡ lentModel)
+
+-- `jemuling_check_book_in`, `jemuling_preview_check_book_in`
+pub record BookCheckedIn (limits : Limits) (edition : ℕ) (input proof : List ℕ) (told : Told) : Type 0 where
+  pub first : edition ≡ 1 → BookChecked (on limits First) input proof told
+  pub second : edition ≡ 2 → BookChecked (on limits Second) input proof told
+  pub editions : (p : Problem) → read input ≡ sound p → Editions p
+  -- a proof accepted in the first edition is accepted in the second
+  pub kept : edition ≡ 1 → told .number ≡ 67 → proofCheckedIn limits 2 input proof ≡ Accepted
+  pub refused : (told .number ≡ 19) ↔ Other edition
+  pub other : Other edition → told ≡ record { number = 19; value = 0 }
+
+-- `jemuling_check_sheet_in`
+pub record SheetCheckedIn (limits : Limits) (edition : ℕ) (input model : List ℕ) (told : Told) : Type 0 where
+  pub first : edition ≡ 1 → SheetChecked (on limits First) input model told
+  pub second : edition ≡ 2 → SheetChecked (on limits Second) input model told
+  pub editions : (p : Problem) → read input ≡ sound p → Editions p
+  -- a model accepted in the second edition is accepted in the first
+  pub kept : edition ≡ 2 → told .number ≡ 67 → modelCheckedIn limits 1 input model ≡ Accepted
+  pub refused : (told .number ≡ 19) ↔ Other edition
+  pub other : Other edition → told ≡ record { number = 19; value = 0 }

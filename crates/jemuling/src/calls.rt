@@ -1,12 +1,11 @@
 // The calls. None has a `requires`: nothing checks C's arguments but the code itself. Each is equal to document 01's definition, and
 // keeps what the demands promise of it (specs/Promised.antt). One for each limit of lines, 1,024 and a preview's 256, where it matters.
 use crate::on_terms::check_book_on;
+use crate::on_terms::check_sheet_on;
 use crate::on_terms::hand_back_on;
 use crate::on_terms::solve_on;
 use crate::told::SolvedTold;
 use crate::told::Told;
-use crate::told::checked_told;
-use model_check::check::check_model;
 use rules_types::limits::Limits;
 use rules_types::terms::Terms;
 ghost use mathlib.Core.Path.{_≡_};
@@ -67,7 +66,7 @@ pub extern "C" fn jemuling_check_sheet(input: &[u8], model: &[u8]) -> Told
     ensures { λ t. ⌜ t ≡ checkedTold (modelChecked standard (now (input .entry)) (now (model .entry))) ⌝ }
     ensures { λ t. ⌜ SheetChecked standard (now (input .entry)) (now (model .entry)) t ⌝ }
 {
-    checked_told(check_model(input, model, Terms::standard()))
+    check_sheet_on(input, model, Terms::standard())
 }
 
 // Which part of proof or model is handed back, from a verdict's number and lines.

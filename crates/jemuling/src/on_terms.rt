@@ -5,6 +5,7 @@ use crate::told::Told;
 use crate::told::checked_told;
 use crate::told::evidence_told;
 use crate::told::solved_told;
+use model_check::check::check_model;
 use proof_check::check::check_proof;
 use rules_types::limits::Limits;
 use rules_types::terms::Terms;
@@ -12,9 +13,9 @@ use solving::solve::solve_within;
 ghost use mathlib.Core.Path.{_≡_};
 ghost use Prim.Native.Nat.{_≤_};
 ghost use Rattle.rules_types.specs.Limits.{mostSteps};
-ghost use Rattle.rules.specs.Calls.{solve, proofChecked, evidence};
+ghost use Rattle.rules.specs.Calls.{solve, proofChecked, modelChecked, evidence};
 ghost use Rattle.jemuling.specs.Told.{solvedTold, checkedTold, evidenceTold};
-ghost use Rattle.jemuling.specs.Promised.{Delivered, BookChecked, PartHanded};
+ghost use Rattle.jemuling.specs.Promised.{Delivered, BookChecked, SheetChecked, PartHanded};
 
 // Whether a problem can be satisfied, with a model or a proof that shows it.
 pub fn solve_on(input: &[u8], proof: &mut [u8], model: &mut [u8], terms: Terms) -> SolvedTold
@@ -35,6 +36,14 @@ pub fn check_book_on(input: &[u8], proof: &[u8], terms: Terms) -> Told
     ensures { λ t. ⌜ BookChecked terms (now (input .entry)) (now (proof .entry)) t ⌝ }
 {
     checked_told(check_proof(input, proof, terms))
+}
+
+// Whether a model satisfies a problem.
+pub fn check_sheet_on(input: &[u8], model: &[u8], terms: Terms) -> Told
+    ensures { λ t. ⌜ t ≡ checkedTold (modelChecked terms (now (input .entry)) (now (model .entry))) ⌝ }
+    ensures { λ t. ⌜ SheetChecked terms (now (input .entry)) (now (model .entry)) t ⌝ }
+{
+    checked_told(check_model(input, model, terms))
 }
 
 // Which part of proof or model is handed back, from a verdict's number and lines.

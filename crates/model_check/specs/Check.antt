@@ -14,6 +14,7 @@ use Rattle.rules.specs.Problem.{inEdition}
 use Rattle.rules.specs.Model.{isOpen}
 use Rattle.rules.specs.Calls.{sound, read, modelChecked}
 use Rattle.rules.specs.Checker.{checkClauses}
+use Rattle.theory_splitting.specs.Editions.{open-posed}
 use Rattle.problem_scan.specs.declared.cursor.Sizes.{Sizes}
 use Rattle.problem_scan.specs.declared.cursor.Scan.the-variants.{Fault}
 use Rattle.problem_read.specs.Parsed.{problemAt}
@@ -40,9 +41,23 @@ module _ (terms : Terms) {q : List ℕ} {sizes : Sizes} (given : Readable q size
       (read : ReadModel s (sizes .booleans) (sizes .rationals) (isOpen (problemAt q sizes)) back) where
     pub checked-bad : back .sound ≡ false → modelChecked terms q s ≡ Refused refusal.BadModel (back .place)
     unfolding modelChecked reading
-    checked-bad e = rw (given .is-read, le-ltb (length s) limit.modelBytes long, read .same, e, modelChecked)
+    checked-bad e = rw (
+      given .is-read,
+      le-ltb (length s) limit.modelBytes long,
+      open-posed (terms .edition) (problemAt q sizes),
+      read .same,
+      e,
+      modelChecked,
+    )
 
     pub checked-clauses : back .sound ≡ true
         → modelChecked terms q s ≡ checkClauses (assignment (back .model)) 0 (inEdition (terms .edition) (problemAt q sizes) .clauses)
     unfolding modelChecked reading
-    checked-clauses e = rw (given .is-read, le-ltb (length s) limit.modelBytes long, read .same, e, modelChecked)
+    checked-clauses e = rw (
+      given .is-read,
+      le-ltb (length s) limit.modelBytes long,
+      open-posed (terms .edition) (problemAt q sizes),
+      read .same,
+      e,
+      modelChecked,
+    )

@@ -1,4 +1,5 @@
 pub mod Any
 pub mod Sum
 pub mod Failing
+pub mod Added
 pub mod Check

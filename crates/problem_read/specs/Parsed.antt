@@ -7,9 +7,10 @@ use native.Mathlib.Nat.{eq-zero-or-pos}
 use native.Mathlib.Omega.{arith}
 use lib.ListN.{length, drop}
 use Rattle.rules_types.specs.declared.answers.Refusal.{Refusal}
+use Rattle.rules_types.specs.declared.terms.Edition.{Edition}
 use Rattle.rules_types.specs.Limits as limit
 use Rattle.rules_types.specs.Layout as layout
-use Rattle.rules.specs.Problem.{Clause, Problem, Read, Reader, got, after, end, problem}
+use Rattle.rules.specs.Problem.{Clause, Problem, inEdition, Read, Reader, got, after, end, problem}
 use Rattle.rules.specs.Calls.{withinSplits, read}
 use Rattle.problem_scan.specs.declared.cursor.Sizes.{Sizes}
 use Rattle.problem_scan.specs.declared.cursor.Scan.the-variants.{Sound, Fault}
@@ -31,6 +32,10 @@ lastEnd q sizes = clausesEnd q (sizes .rationals) (sizes .clauses) layout.firstC
 -- the problem
 abbrev pub problemAt : List ℕ → Sizes → Problem
 problemAt q sizes = record { booleans = sizes .booleans; rationals = sizes .rationals; clauses = allClauses q sizes }
+
+-- in its edition
+abbrev pub posedAt : Edition → List ℕ → Sizes → Problem
+posedAt edition q sizes = inEdition edition (problemAt q sizes)
 
 pub sizes-are : (q : List ℕ) (sizes : Sizes) → sizesOf (problemAt q sizes) ≡ sizes
 sizes-are q sizes = λ i. record {

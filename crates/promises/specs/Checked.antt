@@ -62,7 +62,7 @@ whole-few limits few n t =
     omega arith
 
 -- the clauses refuse nothing
-never-refused : (χ : Assignment) (k : ℕ) (cs : List Clause) (f : Refusal) (place : ℕ) → checkClauses χ k cs ≡ Refused f place → ⊥
+pub never-refused : (χ : Assignment) (k : ℕ) (cs : List Clause) (f : Refusal) (place : ℕ) → checkClauses χ k cs ≡ Refused f place → ⊥
 unfolding checkClauses
 never-refused χ k [] f place e = let z : _≡_ {A = ℕ} 0 1 = cc in omega arith
 never-refused χ k (c ∷ cs) f place e = by (clauseHolds χ c) (never-refused χ (suc k) cs f place) e

@@ -10,6 +10,7 @@ use lib.Dec.{T}
 use lib.ListN.{length, getElem?, take}
 use Rattle.rules_types.specs.declared.answers.Checked.the-variants.{Accepted}
 use Rattle.rules_types.specs.declared.limits.Limits.{Limits}
+use Rattle.rules_types.specs.declared.terms.Edition.{Edition}
 use Rattle.rules_types.specs.declared.terms.Terms.{Terms}
 use Rattle.rules_types.specs.Limits as limit
 use Rattle.rules_types.specs.Answers.{answerNumber, answerValue}
@@ -64,7 +65,7 @@ use Rattle.promises.specs.Demand1.{demand1}
 use Rattle.promises.specs.Demand3.{demand3}
 
 -- for Q, the problem that was read, in its edition: `p`
-pub record Demand2 (edition : ℕ) (input : List ℕ) (p : Problem) : Type 0 where
+pub record Demand2 (edition : Edition) (input : List ℕ) (p : Problem) : Type 0 where
   -- "Our book is the course of the published Davis-Putnam and Fourier-Motzkin rules as 01 sets it out: each line is the clause or
   -- resolvent it names,": a part, the one that it names, or the resolvent of two earlier lines of its round; no earlier line
   -- drops one, no two are equal, and all are normalized: no Boolean variable in both signs, no constant constraint, no common divisor
@@ -116,7 +117,7 @@ pub record Demand2 (edition : ℕ) (input : List ℕ) (p : Problem) : Type 0 whe
   pub either : (limits : Limits) (bytes : List ℕ) → modelChecked (record { limits = limits; edition = edition }) input bytes ≡ Accepted
       → (χ : Assignment) → StatesModel bytes (p .booleans) (p .rationals) (isOpen p) χ → OpenVariables p bytes χ
 
-pub demand2 : (edition : ℕ) (input : List ℕ) (q : Problem) → read input ≡ sound q → Demand2 edition input (inEdition edition q)
+pub demand2 : (edition : Edition) (input : List ℕ) (q : Problem) → read input ≡ sound q → Demand2 edition input (inEdition edition q)
 demand2 edition input q e = let p = inEdition edition q in record {
   lines = elimination-lines p;
   parts = every-part p;

@@ -7,6 +7,7 @@ use Prim.Native.Nat.{ℕ, _-_, _≤_, _<_, _∣_}
 use native.Mathlib.Nat.{eq-zero-or-pos}
 use native.Mathlib.Omega.{arith}
 use lib.IntN.{pos}
+use Rattle.rules_types.specs.declared.terms.Edition.{Edition}
 use Rattle.rules.specs.Problem.{Problem, inEdition}
 use Rattle.rules.specs.Meaning.{Assignment}
 use Rattle.rules.specs.Lines.{coefficient}
@@ -56,7 +57,7 @@ module _ (p : Problem) (w : WellFormed p) where
   assignment-least m h = walk-least (orderOf p) (problem-ordered p (w .rationals) .once) (lines steps) m
       (λ f. ⊎-elim (λ z. over-zero χ m f (absent f (omega arith))) (λ z. h f (omega arith)) (eq-zero-or-pos (r - f)))
 
-pub least-denominator : (edition : ℕ) (input : List ℕ) {p : Problem} → read input ≡ sound p → let posed = inEdition edition p in
+pub least-denominator : (edition : Edition) (input : List ℕ) {p : Problem} → read input ≡ sound p → let posed = inEdition edition p in
     LeastOf (posed .rationals) (walkOf posed .assignment)
 unfolding walkOf
 least-denominator edition input {p} e = assignment-least (inEdition edition p) (posed-well-formed edition input p e)

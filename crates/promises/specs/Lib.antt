@@ -18,6 +18,7 @@ pub mod Left
 pub mod Denominator
 pub mod Total
 pub mod Demand1
+pub mod Editions
 pub mod Demand3
 pub mod HandedBack
 pub mod Demand2

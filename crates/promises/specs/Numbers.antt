@@ -8,7 +8,7 @@ use lib.ListN.{getD}
 use Rattle.rules_types.specs.declared.answers.Refusal.{Refusal}
 use Rattle.rules_types.specs.declared.answers.Refusal.the-variants.{ShortProof, ShortModel, LongProblem, Truncated, Booleans, Rationals}
 use Rattle.rules_types.specs.declared.answers.Refusal.the-variants.{Clauses, Literal, Comparisons, Relation, Amount, Trailing, Splits}
-use Rattle.rules_types.specs.declared.answers.Refusal.the-variants.{Overflow, OutOfSteps, ProofLength, BadModel, SecondEquality}
+use Rattle.rules_types.specs.declared.answers.Refusal.the-variants.{Overflow, OutOfSteps, ProofLength, BadModel, SecondEquality, Edition}
 use Rattle.rules_types.specs.declared.answers.Verdict.{Verdict}
 use Rattle.rules_types.specs.declared.answers.Verdict.the-variants.{Satisfiable, Unsatisfiable, Unwritten}
 use Rattle.rules_types.specs.declared.answers.Answer.{Answer}
@@ -25,7 +25,7 @@ use Rattle.promises.specs.Words.{Comes, IsRefused}
 refusals : List Refusal
 refusals =
     ShortProof ∷ ShortModel ∷ LongProblem ∷ Truncated ∷ Booleans ∷ Rationals ∷ Clauses ∷ Literal ∷ Comparisons ∷ Relation ∷ Amount
-    ∷ Trailing ∷ Splits ∷ Overflow ∷ OutOfSteps ∷ ProofLength ∷ BadModel ∷ SecondEquality ∷ []
+    ∷ Trailing ∷ Splits ∷ Overflow ∷ OutOfSteps ∷ ProofLength ∷ BadModel ∷ SecondEquality ∷ Edition ∷ []
 
 refusalOf : ℕ → Refusal
 refusalOf n = getD refusals (n - 1) SecondEquality
@@ -50,6 +50,7 @@ refusal-back OutOfSteps = refl
 refusal-back ProofLength = refl
 refusal-back BadModel = refl
 refusal-back SecondEquality = refl
+refusal-back Edition = refl
 
 pub refusals-differ : (f g : Refusal) → refusalNumber f ≡ refusalNumber g → f ≡ g
 refusals-differ f g e = sym (refusal-back f) ∙ ap refusalOf e ∙ refusal-back g
@@ -75,6 +76,7 @@ refusal-below OutOfSteps = omega arith
 refusal-below ProofLength = omega arith
 refusal-below BadModel = omega arith
 refusal-below SecondEquality = omega arith
+refusal-below Edition = omega arith
 
 verdict-above : (v : Verdict) → 64 ≤ verdictNumber v
 unfolding verdictNumber

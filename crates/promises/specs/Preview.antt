@@ -14,6 +14,7 @@ use Rattle.rules_types.specs.declared.answers.Verdict.{Verdict}
 use Rattle.rules_types.specs.declared.answers.Answer.{Answer}
 use Rattle.rules_types.specs.declared.answers.Answer.the-variants.{Decided, Refused}
 use Rattle.rules_types.specs.declared.limits.Limits.{Limits}
+use Rattle.rules_types.specs.declared.terms.Edition.{Edition}
 use Rattle.rules_types.specs.declared.terms.Terms.{Terms}
 use Rattle.rules_types.specs.Limits as limit
 use Rattle.rules_types.specs.Answers.{answerValue}
@@ -113,7 +114,7 @@ module _ (lesser larger : Limits) (less : lesser .steps < larger .steps) where
     held (ended outOfSteps steps n) h = tt
 
   -- ---- the theorem
-  module _ (edition : ℕ) (input : List ℕ) (q : Problem) (e : read input ≡ sound q) (proof model other otherModel : List ℕ)
+  module _ (edition : Edition) (input : List ℕ) (q : Problem) (e : read input ≡ sound q) (proof model other otherModel : List ℕ)
       (ourSize : FullSize lesser proof model) (theirSize : FullSize larger other otherModel) where
     abbrev few : Terms
     few = record { limits = lesser; edition = edition }

@@ -7,11 +7,12 @@ use problem_scan::cursor::Sizes;
 use rules_types::answers::Checked;
 use rules_types::answers::Refusal;
 use rules_types::limits::Limits;
+use rules_types::terms::Edition;
 use rules_types::terms::Terms;
 ghost use mathlib.Core.Path.{_≡_};
 ghost use Rattle.rules.specs.Checker.{checkProof};
 ghost use Rattle.rules.specs.Calls.{wholeSteps, proofChecked};
-ghost use Rattle.problem_read.specs.Parsed.{problemAt};
+ghost use Rattle.problem_read.specs.Parsed.{posedAt};
 ghost use Rattle.problem_read.specs.Readable.{Readable};
 
 // 16: "length not 64 to 65,536 by 64s".
@@ -27,15 +28,15 @@ fn whole_steps(limits: Limits, n: usize) -> bool
     n % Limits::STEP_BYTES == 0
 }
 
-// Of a problem that is read without fault.
-fn check_readable(input: &[u8], sizes: Sizes, proof: &[u8]) -> Checked
+// Of a problem that is read without fault, in its edition.
+fn check_readable(input: &[u8], sizes: Sizes, edition: Edition, proof: &[u8]) -> Checked
     requires { ⌜ Readable (now input) sizes ⌝ }
-    ensures { λ c. ⌜ c ≡ checkProof (problemAt (now (input .entry)) sizes) (now (proof .entry)) ⌝ }
+    ensures { λ c. ⌜ c ≡ checkProof (posedAt edition (now (input .entry)) sizes) (now (proof .entry)) ⌝ }
 {
     let mut places = [0u16; Limits::CLAUSES];
     let mut variables = [0u8; Limits::CLAUSES];
     index(input, sizes, &mut places, &mut variables);
-    check_steps(input, sizes, &places, &variables, proof)
+    check_steps(input, sizes, edition, &places, &variables, proof)
 }
 
 pub fn check_proof(input: &[u8], proof: &[u8], terms: Terms) -> Checked
@@ -48,7 +49,8 @@ pub fn check_proof(input: &[u8], proof: &[u8], terms: Terms) -> Checked
             if !whole_steps(terms.limits, proof.len()) {
                 return Checked::Refused(Refusal::ProofLength, proof.len());
             }
-            check_readable(input, sizes, proof)
+            let edition = terms.edition;
+            check_readable(input, sizes, edition, proof)
         }
     }
 }

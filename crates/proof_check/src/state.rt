@@ -2,6 +2,7 @@
 use crate::load::loaded;
 use problem_scan::cursor::Sizes;
 use rules_types::limits::Limits;
+use rules_types::terms::Edition;
 use step_check::compare::Stated;
 use step_check::derive::derived;
 use steps::access::origin_at;
@@ -17,6 +18,7 @@ ghost use Rattle.proof_check.specs.Loaded.{lineStatedAt};
 pub fn line_stated(
     input: &[u8],
     sizes: Sizes,
+    edition: Edition,
     places: &[u16],
     variables: &[u8],
     proof: &[u8],
@@ -26,11 +28,11 @@ pub fn line_stated(
     requires { ⌜ Known (now input) sizes (now places) (now variables) ⌝ }
     requires { ⌜ stepBytes * i ≤ length (now proof) ⌝ }
     requires { ⌜ ReadyLines (now proof) i ⌝ }
-    ensures { λ s. ⌜ States (lineStatedAt (now (input .entry)) sizes (now (proof .entry)) i bytes) bytes s ⌝ }
+    ensures { λ s. ⌜ States (lineStatedAt edition (now (input .entry)) sizes (now (proof .entry)) i bytes) bytes s ⌝ }
 {
     let origin = origin_at(&bytes, 0);
     if origin.how == 0 {
-        return loaded(input, sizes, places, variables, bytes);
+        return loaded(input, sizes, edition, places, variables, bytes);
     }
     derived(proof, i, bytes)
 }

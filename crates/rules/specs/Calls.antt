@@ -16,9 +16,11 @@ use Rattle.rules_types.specs.declared.answers.Checked.the-variants as checked
 use Rattle.rules_types.specs.declared.answers.Evidence.{Evidence}
 use Rattle.rules_types.specs.declared.answers.Evidence.the-variants.{OfProof, OfModel}
 use Rattle.rules_types.specs.declared.limits.Limits.{Limits}
+use Rattle.rules_types.specs.declared.terms.Named.the-variants.{Known, Unknown}
 use Rattle.rules_types.specs.declared.terms.Terms.{Terms}
 use Rattle.rules_types.specs.Limits as limit
 use Rattle.rules_types.specs.Answers.{verdictNumber}
+use Rattle.rules_types.specs.Terms.{editionNamed}
 use Rattle.rules.specs.Problem.{Problem, inEdition, Read, fault, got, problem}
 use Rattle.rules.specs.Split.{overSplit}
 use Rattle.rules.specs.Steps.{Step, encodeProof}
@@ -142,6 +144,28 @@ modelChecked terms input bytes =
               | got χ rest place ↦ checkClauses χ 0 (posed .clauses)
             ]
       ]
+    ]
+
+-- ---- 02, (v): calls that name the edition; 19, "any other edition, tested first in every call that names one, place 0"
+unfoldable pub solveIn : Limits → ℕ → List ℕ → List ℕ → List ℕ → Solving
+solveIn limits edition input proof model =
+    elim (editionNamed edition) [
+      | Unknown ↦ record { solved = said (faulted refusal.Edition 0); proof = proof; model = model }
+      | Known e ↦ solve (record { limits = limits; edition = e }) input proof model
+    ]
+
+unfoldable pub proofCheckedIn : Limits → ℕ → List ℕ → List ℕ → Checked
+proofCheckedIn limits edition input proof =
+    elim (editionNamed edition) [
+      | Unknown ↦ checked.Refused refusal.Edition 0
+      | Known e ↦ proofChecked (record { limits = limits; edition = e }) input proof
+    ]
+
+unfoldable pub modelCheckedIn : Limits → ℕ → List ℕ → List ℕ → Checked
+modelCheckedIn limits edition input bytes =
+    elim (editionNamed edition) [
+      | Unknown ↦ checked.Refused refusal.Edition 0
+      | Known e ↦ modelChecked (record { limits = limits; edition = e }) input bytes
     ]
 
 -- ---- handing back

@@ -9,11 +9,12 @@ use Rattle.rules_types.specs.declared.answers.Solved.{Solved}
 use Rattle.rules_types.specs.Answers.{refusalNumber, verdictNumber, answerNumber, answerValue, checkedNumber, checkedValue, evidenceNumber}
 use Rattle.rules_types.specs.Answers.{evidenceLength}
 use Rattle.rules_types.specs.Layout as layout
-use Rattle.rules_types.specs.Terms.{standard}
+use Rattle.rules_types.specs.declared.terms.Terms.{Terms}
+use Rattle.rules_types.specs.Terms.{standard, editionNamed}
 use Rattle.rules.specs.Lists.{any, all, filter, concat, same, tabulate, put}
 use Rattle.rules.specs.Arithmetic.{gcdWithin, gcd, gcdAll, lcm, sum, scale, combine, related, isPositive, isNegative, isZero, equal}
 use Rattle.rules.specs.Bytes.{toBytes, fromBytes, fromUnsigned, toUnsigned, amountBytes, fieldAt, padded}
-use Rattle.rules.specs.Problem.{after, repeat, each, byte, number, tested, field, inRange, amount, literal, clause, end}
+use Rattle.rules.specs.Problem.{nonNegative, added, after, repeat, each, byte, number, tested, field, inRange, amount, literal, clause, end}
 use Rattle.rules.specs.Problem.{problem, isRelation, relationOf, isEquality, relation, comparison, comparisons}
 use Rattle.rules.specs.Meaning.{literalHolds, compared, comparisonHolds, constraintHolds, clauseHolds}
 use Rattle.rules.specs.Lines.{noBooleans, including, excluding, union, meet, someYes, aLiteralHolds, theConstraintHolds, lineHolds}
@@ -35,7 +36,8 @@ use Rattle.rules.specs.Model.{occurs, isOpen, booleanByte, isBooleanByte
 use Rattle.rules.specs.Checker.{pairable, derived, variableNamed, resolventNamed, lineAmong, statedLine, followed, checkProof}
 use Rattle.rules.specs.Checker.{followedLines, endsEmpty, withEmptyEnd, checkClauses}
 use Rattle.rules.specs.Calls.{Outcome, faulted, stopped, decided, withinSplits, read, noModel, concluded, outcome, lent, said}
-use Rattle.rules.specs.Calls.{proofAfter, modelAfter, solve, wholeSteps, proofChecked, modelChecked, evidence, evidenceBytes}
+use Rattle.rules.specs.Calls.{proofAfter, modelAfter, solve, wholeSteps, proofChecked, modelChecked, solveIn}
+use Rattle.rules.specs.Calls.{proofCheckedIn, modelCheckedIn, evidence, evidenceBytes}
 use Rattle.rules.specs.Print.{ascii, digitsWithin, decimal, signedDecimal, printLine, printStep, printProof, printModel, printRefusal}
 use Rattle.rules.specs.Print.{printed}
 use Rattle.rules.specs.Needs.{stepsOf, pairsOf, needs, listed, triedResolvents, roundResolvents, resolvents}
@@ -43,7 +45,7 @@ use Rattle.rules.specs.Needs.{stepsOf, pairsOf, needs, listed, triedReso
 -- `unfolding definitions` lets a theorem compute
 unfoldable abbrev pub definitions : Unit {0}
 unfolding any all filter concat same tabulate put gcdWithin gcd gcdAll lcm sum scale combine related isPositive isNegative isZero equal
-    toBytes fromBytes fromUnsigned toUnsigned amountBytes fieldAt padded after repeat each byte number tested field inRange amount literal
+    toBytes fromBytes fromUnsigned toUnsigned amountBytes fieldAt padded nonNegative added after repeat each byte number tested field inRange amount literal
     isRelation relationOf isEquality relation comparison comparisons clause end problem literalHolds compared comparisonHolds
     constraintHolds clauseHolds isStrict turns signed readAs reading hasEquality readings readingParts readingSplits allParts
     allSplits noBooleans including excluding union meet someYes aLiteralHolds
@@ -56,8 +58,8 @@ unfolding any all filter concat same tabulate put gcdWithin gcd gcdAll lcm sum s
     withBoolean assign exceeds start walkFrom walk occurs isOpen booleanByte isBooleanByte encodeModel tooLarge written model pairable
     derived variableNamed resolventNamed lineAmong statedLine followed followedLines endsEmpty withEmptyEnd checkProof checkClauses
     withinSplits read noModel
-    concluded outcome lent said proofAfter modelAfter solve wholeSteps proofChecked modelChecked evidence evidenceBytes ascii digitsWithin
-    decimal signedDecimal printLine printStep printProof printModel printRefusal printed stepsOf pairsOf needs listed triedResolvents
+    concluded outcome lent said proofAfter modelAfter solve wholeSteps proofChecked modelChecked editionNamed solveIn proofCheckedIn
+    modelCheckedIn evidence evidenceBytes ascii digitsWithin decimal signedDecimal printLine printStep printProof printModel printRefusal printed stepsOf pairsOf needs listed triedResolvents
     roundResolvents resolvents refusalNumber verdictNumber answerNumber answerValue checkedNumber checkedValue evidenceNumber
     evidenceLength
 definitions = tt
@@ -106,8 +108,11 @@ shownOf q (decided Satisfiable steps pairs bytes) =
 shownOf q (decided Unsatisfiable steps pairs bytes) = bare (said (decided Unsatisfiable steps pairs bytes)) (map (λ s. s .origin) steps)
 shownOf q (decided Unwritten steps pairs bytes) = bare (said (decided Unwritten steps pairs bytes)) (map (λ s. s .origin) steps)
 
+abbrev pub shownOn : Terms → List ℕ → Shown
+shownOn terms q = shownOf q (outcome terms q)
+
 abbrev pub shown : List ℕ → Shown
-shown q = shownOf q (outcome standard q)
+shown q = shownOn standard q
 
 -- an example: a problem, and what the paper says of it
 pub record Example : Type 0 where

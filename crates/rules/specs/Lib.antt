@@ -21,5 +21,6 @@ pub mod Written
 pub mod Compute
 pub mod Equalities
 pub mod OpenVariables
+pub mod Editions
 pub mod Examples
 pub mod Traps

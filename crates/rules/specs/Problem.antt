@@ -7,7 +7,10 @@ use lib.Dec.{eqb, leb, ltb}
 use lib.ListN.{replicate}
 use Rattle.rules_types.specs.declared.answers.Refusal.{Refusal}
 use Rattle.rules_types.specs.declared.answers.Refusal.the-variants as refusal
+use Rattle.rules_types.specs.declared.terms.Edition.{Edition}
+use Rattle.rules_types.specs.declared.terms.Edition.the-variants.{First, Second}
 use Rattle.rules_types.specs.Limits as limit
+use Rattle.rules.specs.Lists.{tabulate}
 use Rattle.rules.specs.Bytes.{fromUnsigned}
 
 -- ---- what a problem consists of
@@ -44,9 +47,25 @@ pub record Problem : Type 0 where
   pub rationals : ℕ
   pub clauses : List Clause
 
--- the problem that is posed in an edition: so far its clauses as written, in each
-abbrev pub inEdition : ℕ → Problem → Problem
-inEdition edition p = p
+-- ---- 02, (v): the edition
+-- "figure ... is ≥ 0", with no bytes in the problem; its start is the place of none
+unfoldable pub nonNegative : ℕ → Clause
+nonNegative f =
+    let row = tabulate limit.rationals (λ i. cond (eqb i f) (pos 1) (pos 0)) in
+    record { start = 0; literals = []; comparisons = record { relation = ge; coefficients = row; bound = pos 0 } ∷ [] }
+
+-- "In edition 2, after clause n - 1, clauses n to n + r - 1 state that figure 0, 1 and so on is ≥ 0"
+unfoldable pub added : Edition → ℕ → List Clause
+added First r = []
+added Second r = tabulate r nonNegative
+
+-- the problem that is posed in an edition: "they load like others", and ""Satisfies" is meant per edition"
+abbrev pub inEdition : Edition → Problem → Problem
+inEdition edition p = record {
+  booleans = p .booleans;
+  rationals = p .rationals;
+  clauses = p .clauses ++ added edition (p .rationals);
+}
 
 -- ---- reading
 -- a fault with its place; or a value, the bytes left, and the place of the next one

@@ -5,7 +5,7 @@ use Rattle.rules_types.specs.declared.answers.Refusal.{Refusal}
 use Rattle.rules_types.specs.declared.answers.Refusal.the-variants.{ShortProof, ShortModel, LongProblem, Truncated, Booleans}
 use Rattle.rules_types.specs.declared.answers.Refusal.the-variants.{Rationals, Clauses, Literal, Comparisons, Relation, Amount}
 use Rattle.rules_types.specs.declared.answers.Refusal.the-variants.{Trailing, Splits, Overflow, OutOfSteps, ProofLength, BadModel}
-use Rattle.rules_types.specs.declared.answers.Refusal.the-variants.{SecondEquality}
+use Rattle.rules_types.specs.declared.answers.Refusal.the-variants.{SecondEquality, Edition}
 use Rattle.rules_types.specs.declared.answers.Verdict.{Verdict}
 use Rattle.rules_types.specs.declared.answers.Verdict.the-variants.{Satisfiable, Unsatisfiable, Unwritten}
 use Rattle.rules_types.specs.declared.answers.Answer.{Answer}
@@ -35,6 +35,7 @@ refusalNumber OutOfSteps = 15  -- "full"
 refusalNumber ProofLength = 16  -- "claim"
 refusalNumber BadModel = 17  -- "slip"
 refusalNumber SecondEquality = 18  -- "double"
+refusalNumber Edition = 19  -- "edition"
 
 -- "agrees", "cannot agree", "unwritten"
 unfoldable pub verdictNumber : Verdict → ℕ

@@ -23,6 +23,10 @@ rationals = 8
 abbrev pub clauses : ℕ
 clauses = 256
 
+-- 02, (v): "after clause n - 1, clauses n to n + r - 1"
+abbrev pub allClauses : ℕ
+allClauses = clauses + rationals
+
 -- "m, 0 to 32, then m literals"; "t, 0 to 8, then t conditions"; "At most 16 links in all."
 abbrev pub literals : ℕ
 literals = 32

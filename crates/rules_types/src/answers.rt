@@ -22,6 +22,7 @@ pub enum Refusal {
     ProofLength,
     BadModel,
     SecondEquality,
+    Edition,
 }
 
 impl Refusal {
@@ -47,6 +48,7 @@ impl Refusal {
             Refusal::ProofLength => 16,
             Refusal::BadModel => 17,
             Refusal::SecondEquality => 18,
+            Refusal::Edition => 19,
         }
     }
 }

@@ -34,7 +34,7 @@ pub fn decide(
     ensures { λ _. ⌜ now (model .exit) ≡ modelAfter (outcomeAt terms (now (input .entry)) sizes) (now (model .entry)) ⌝ }
 {
     let limits = terms.limits;
-    let run = eliminate(input, sizes, proof, limits);
+    let run = eliminate(input, sizes, proof, terms);
     let c = run.end;
     let progress = c.progress;
     match progress {

@@ -15,6 +15,7 @@ pub mod SplitReadings
 pub mod SplitProblem
 pub mod Readers
 pub mod Occurs
+pub mod Editions
 pub mod WellRead
 pub mod Lent
 pub mod Named

@@ -1,4 +1,4 @@
--- What reading a problem makes sure of.
+-- What reading a problem makes sure of; in every edition.
 use mathlib.Core.Path.{_≡_}
 use mathlib.Core.Bool.{cond}
 use mathlib.Core.List.{List, [], _∷_}
@@ -49,6 +49,6 @@ splitsIn (c ∷ cs) = splitsOf c + splitsIn cs
 pub record WellFormed (p : Problem) : Type 0 where
   pub booleans : p .booleans ≤ limit.booleans
   pub rationals : p .rationals ≤ limit.rationals
-  pub few : length (p .clauses) ≤ limit.clauses
+  pub few : length (p .clauses) ≤ limit.allClauses
   pub clauses : All (WellFormedClause (p .booleans) (p .rationals)) (p .clauses)
   pub splits : splitsIn (p .clauses) ≤ limit.splits

@@ -1,4 +1,4 @@
--- Every problem that reading accepts is well formed.
+-- Every problem that reading accepts is well formed, in each edition.
 use mathlib.Core.Path.{_≡_, refl, subst}
 use mathlib.Core.Bool.{Bool, true, false, not, cond, _&&_, _||_}
 use mathlib.Core.Logic.{⊎-elim}
@@ -11,6 +11,8 @@ use lib.Dec.{ltb, leb→le, ltb→lt, nltb→le}
 use lib.ListN.{length, getD, replicate, length-append, length-replicate}
 use Rattle.rules_types.specs.declared.answers.Refusal.{Refusal}
 use Rattle.rules_types.specs.declared.answers.Refusal.the-variants as refusal
+use Rattle.rules_types.specs.declared.terms.Edition.{Edition}
+use Rattle.rules_types.specs.declared.terms.Edition.the-variants.{First}
 use Rattle.rules_types.specs.Limits as limit
 use Rattle.theory_lists.specs.Tests.{split, is-true, is-false}
 use Rattle.theory_lists.specs.All.{All, all-append, getD-replicate-same}
@@ -22,6 +24,7 @@ use Rattle.rules.specs.Split.{splitsOf, overSplit}
 use Rattle.rules.specs.Calls.{Reading, faulty, sound, withinSplits, read}
 use Rattle.theory_vectors.specs.Amounts.{Small, range-small, zeros-small}
 use Rattle.theory_splitting.specs.WellFormed.{WellFormedRow, WellFormedComparison, WellFormedClause, equalities, splitsIn, WellFormed}
+use Rattle.theory_splitting.specs.Editions.{posed-first, posed-formed}
 use Rattle.theory_splitting.specs.Readers.{Gives, Yields, gives-any, after-gives, then-yields, field-then, repeat-then}
 
 -- ---- literals
@@ -114,9 +117,12 @@ clause-yields b r z bytes start =
     }))))
     bytes start
 
--- ---- problems, whose splits are counted later
+-- ---- problems, in any edition, whose splits are counted later
+abbrev FormedIn : Problem → Type 0
+FormedIn p = (e : Edition) → WellFormed (inEdition e p)
+
 abbrev FormedBut : Problem → Type 0
-FormedBut p = splitsIn (p .clauses) ≤ limit.splits → WellFormed p
+FormedBut p = splitsIn (p .clauses) ≤ limit.splits → FormedIn p
 
 end-yields : (P : Problem → Type 0) (p : Problem) → P p → Yields P (end p)
 unfolding end
@@ -130,13 +136,8 @@ problem-yields =
     field-then FormedBut _ _ _ _ (λ r k.
     field-then FormedBut _ _ _ _ (λ n u.
     repeat-then FormedBut (WellFormedClause b r) _ _ _ (clause-yields b r (leb→le r limit.rationals k)) (λ cs c e.
-    end-yields FormedBut _ (λ s. record {
-      booleans = leb→le b limit.booleans h;
-      rationals = leb→le r limit.rationals k;
-      few = rw e (leb→le n limit.clauses u);
-      clauses = c;
-      splits = s;
-    })))))
+    end-yields FormedBut _ (posed-formed (record { booleans = b; rationals = r; clauses = cs }) (leb→le b limit.booleans h)
+    (leb→le r limit.rationals k) (rw e (leb→le n limit.clauses u)) c)))))
 
 -- ---- splits
 some-not-none : {A : Type 0} (a : A) → some a ≡ none → ⊥
@@ -156,23 +157,22 @@ abbrev pub SoundIs : (Problem → Type 0) → Reading → Type 0
 SoundIs P (faulty f place) = Unit {0}
 SoundIs P (sound p) = P p
 
-splits-formed : (r : Read Problem) → Gives FormedBut r → SoundIs WellFormed (withinSplits r)
+splits-formed : (r : Read Problem) → Gives FormedBut r → SoundIs FormedIn (withinSplits r)
 unfolding withinSplits
 splits-formed (fault f place) h = tt
 splits-formed (got p bytes place) h = by (overSplit 0 (p .clauses)) refl
   where
-    by : (o : Option ℕ) → overSplit 0 (p .clauses) ≡ o → SoundIs WellFormed (withinSplits (got p bytes place))
+    by : (o : Option ℕ) → overSplit 0 (p .clauses) ≡ o → SoundIs FormedIn (withinSplits (got p bytes place))
     by none e = rw (e, withinSplits) (h (omega (arith, within-splits 0 (p .clauses) (omega arith) e)))
     by (some start) e = rw (e, withinSplits) tt
 
-read-is-formed : (q : List ℕ) → SoundIs WellFormed (read q)
+read-is-formed : (q : List ℕ) → SoundIs FormedIn (read q)
 unfolding read
 read-is-formed q = let L = ltb limit.problemBytes (length q) in
     ⊎-elim (λ t. rw (is-true L t, read) tt) (λ t. rw (is-false L t, read) (splits-formed (problem q 0) (problem-yields q 0))) (split L)
 
-pub read-well-formed : (q : List ℕ) (p : Problem) → read q ≡ sound p → WellFormed p
-read-well-formed q p e = subst (SoundIs WellFormed) e (read-is-formed q)
+pub posed-well-formed : (edition : Edition) (q : List ℕ) (p : Problem) → read q ≡ sound p → WellFormed (inEdition edition p)
+posed-well-formed edition q p e = subst (SoundIs FormedIn) e (read-is-formed q) edition
 
--- in its edition too
-pub posed-well-formed : (edition : ℕ) (q : List ℕ) (p : Problem) → read q ≡ sound p → WellFormed (inEdition edition p)
-posed-well-formed edition q p e = read-well-formed q p e
+pub read-well-formed : (q : List ℕ) (p : Problem) → read q ≡ sound p → WellFormed p
+read-well-formed q p e = subst WellFormed (posed-first p) (posed-well-formed First q p e)

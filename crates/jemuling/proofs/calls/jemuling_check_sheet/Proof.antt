@@ -1,9 +1,4 @@
 -- `calls::jemuling_check_sheet` meets its contract. Assumes nothing.
-use mathlib.Core.Path.{ap, _∙_}
-use native.Mathlib.Omega.{arith}
-use Rattle.theory_bytes.specs.Bytes.{all-bytes}
-use Rattle.jemuling.specs.Told.{checkedTold}
-use Rattle.jemuling.specs.Kept.{sheet-checked}
 use borrow.Author.Needs.{needs}
 use Rattle.jemuling.proofs.calls.jemuling_check_sheet.Statement.{statement}
 use Rattle.jemuling.proofs.calls.jemuling_check_sheet.Tie as tie
@@ -11,18 +6,11 @@ use Rattle.jemuling.proofs.calls.jemuling_check_sheet.Tie as tie
 standard-requires : tie.Need-standard-requires
 standard-requires c κs = search needs
 
-check-model-requires : tie.Need-check-model-requires
-check-model-requires c κs = search needs
-
-checked-told-requires : tie.Need-checked-told-requires
-checked-told-requires c κs = search needs
+check-sheet-on-requires : tie.Need-check-sheet-on-requires
+check-sheet-on-requires c κs = search needs
 
 returns : tie.Need-returns
-returns c =
-    let k = c .before in
-    let e = c .checked-told .ensures ∙ ap checkedTold (rw (k .before .standard .ensures) at (k .check-model .ensures)) in
-    let input = k .before .before .before in
-    (e, sheet-checked _ _ _ _ (all-bytes (input .before .args .input .now) (λ i. omega (arith, input .shared-slice-known .given i))) e)
+returns c = rw (c .before .standard .ensures) at (c .check-sheet-on .ensures)
 
 pub jemuling-check-sheet-spec : {M : Type 1} → statement M
-jemuling-check-sheet-spec = tie.close (tie.spec standard-requires check-model-requires checked-told-requires returns)
+jemuling-check-sheet-spec = tie.close (tie.spec standard-requires check-sheet-on-requires returns)

@@ -31,21 +31,20 @@ returns-2 c =
     sym (checked-bad (s .args .terms) (s .pre) (s .args .bytes .now) (m .before .before .if1 .left) (read-back m)
     (not-true _ (c .if2 .taken)))
 
-check-clauses-requires : tie.Need-check-clauses-requires
-check-clauses-requires c κs =
+check-posed-requires : tie.Need-check-posed-requires
+check-posed-requires c κs =
     let m = c .before .before .before in
-    let g = m .before .before .before .before .before .pre in
-    (g .parsed .rationals, (g .parsed .sound, m .read-model .ensures .numerators))
+    (m .before .before .before .before .before .pre, m .read-model .ensures .numerators)
 
 returns-3 : tie.Need-returns-3
 returns-3 c =
     let e = c .before .before in
     let m = e .before .before in
     let s = m .before .before .before .before .before in
-    c .check-clauses .ensures
+    c .check-posed .ensures
     ∙ sym (checked-clauses (s .args .terms) (s .pre) (s .args .bytes .now) (m .before .before .if1 .left) (read-back m)
     (not-false _ (e .if2 .left)))
 
 pub check-readable-spec : {M : Type 1} → statement M
 check-readable-spec =
-    tie.close (tie.spec returns occurring-requires read-model-requires returns-2 check-clauses-requires returns-3)
+    tie.close (tie.spec returns occurring-requires read-model-requires returns-2 check-posed-requires returns-3)

@@ -7,7 +7,7 @@ use lib.ListN.{length}
 use Rattle.rules_types.specs.declared.answers.Checked.the-variants.{Accepted, Fails}
 use Rattle.rules_types.specs.Limits.{stepBytes}
 use Rattle.rules.specs.Checker.{checkProof}
-use Rattle.problem_read.specs.Parsed.{problemAt}
+use Rattle.problem_read.specs.Parsed.{posedAt}
 use Rattle.proof_check.specs.Checking.{check-fails, check-follow}
 use Rattle.proof_check.proofs.follow.check_steps.Statement.{statement}
 use Rattle.proof_check.proofs.follow.check_steps.Tie as tie
@@ -28,7 +28,7 @@ ends-empty-requires c κs = search needs
 ended : (c : tie.After-ends-empty) →
     let a = c .before .before .before .before .before .before .before .before .args in
     let n = length (a .proof .now) / stepBytes in
-    cond (c .ends-empty .result) Accepted (Fails n) ≡ checkProof (problemAt (a .input .now) (a .sizes)) (a .proof .now)
+    cond (c .ends-empty .result) Accepted (Fails n) ≡ checkProof (posedAt (a .edition) (a .input .now) (a .sizes)) (a .proof .now)
 ended c = check-follow _ _ (c .before .before .before .follow-steps .ensures) (c .before .enum-told .given .1) (c .ends-empty .ensures)
 
 returns : tie.Need-returns

@@ -11,20 +11,20 @@ use Rattle.rules.specs.Checker.{statedLine, followedLines}
 use Rattle.steps.specs.Places.{stepAt}
 use Rattle.steps.specs.Lines.{linesIn}
 use Rattle.step_check.specs.Stated.{States}
-use Rattle.problem_read.specs.Parsed.{problemAt}
+use Rattle.problem_read.specs.Parsed.{posedAt}
 use Rattle.proof_check.specs.Checking.{followedAs, Following, following-start, following-done, following-stop, following-next}
 use Rattle.proof_check.proofs.follow.follow_steps.Statement.{statement}
 use Rattle.proof_check.proofs.follow.follow_steps.Tie as tie
 
 abbrev Inv-loop : tie.InvT-loop
-Inv-loop q sizes places variables proof count i₀ i = Following (loadableOf (problemAt q sizes)) proof count i
+Inv-loop q sizes edition places variables proof count i₀ i = Following (loadableOf (posedAt edition q sizes)) proof count i
 
 abbrev μ-loop : tie.MeasureT-loop
-μ-loop q sizes places variables proof count i₀ i = count - i
+μ-loop q sizes edition places variables proof count i₀ i = count - i
 
 loop-holds : tie.Need-loop-holds Inv-loop μ-loop
 loop-holds c = let s = c .before .before .before .before in
-    following-start (loadableOf (problemAt (s .args .input .now) (s .args .sizes))) (s .args .proof .now) _
+    following-start (loadableOf (posedAt (s .args .edition) (s .args .input .now) (s .args .sizes))) (s .args .proof .now) _
 
 get-requires : tie.Need-get-requires Inv-loop μ-loop
 get-requires c κs = omega (arith, c .loop-test .taken)
@@ -41,12 +41,12 @@ line-stated-requires c κs =
 -- what step i states
 stated : (c : tie.After-line-stated Inv-loop μ-loop) → let l = c .before .before .before .loop in let a =
     start (c .before .before .before) .args in
-    States (statedLine (loadableOf (problemAt (a .input .now) (a .sizes))) (linesIn (a .proof .now) (l .i)) (stepAt (a .proof .now) (l .i)))
+    States (statedLine (loadableOf (posedAt (a .edition) (a .input .now) (a .sizes))) (linesIn (a .proof .now) (l .i)) (stepAt (a .proof .now) (l .i)))
     (stepAt (a .proof .now) (l .i)) (c .line-stated .result)
 stated c =
     let l = c .before .before .before .loop in
     let a = start (c .before .before .before) .args in
-    subst (λ (b : List ℕ). States (statedLine (loadableOf (problemAt (a .input .now) (a .sizes))) (linesIn (a .proof .now) (l .i)) b) b
+    subst (λ (b : List ℕ). States (statedLine (loadableOf (posedAt (a .edition) (a .input .now) (a .sizes))) (linesIn (a .proof .now) (l .i)) b) b
     (c .line-stated .result)) (c .before .get .ensures) (c .line-stated .ensures)
 
 returns : tie.Need-returns Inv-loop μ-loop

@@ -4,10 +4,9 @@ use native.Mathlib.Omega.{arith}
 use lib.ListN.{getD}
 use Rattle.steps.specs.declared.origin.Origin.{Origin}
 use Rattle.step_check.specs.Named.{clause, part}
-use Rattle.step_check.specs.Stated.{states-none}
 use Rattle.step_check.specs.Resolvents.{states-same}
 use Rattle.proof_check.specs.Index.{Entry}
-use Rattle.proof_check.specs.Loaded.{loaded-beyond, loaded-found}
+use Rattle.proof_check.specs.Loaded.{loaded-behind, loaded-found}
 use borrow.Author.Needs.{needs}
 use Rattle.proof_check.proofs.load.loaded.Statement.{statement}
 use Rattle.proof_check.proofs.load.loaded.Tie as tie
@@ -22,21 +21,24 @@ abbrev start : tie.After-origin-at → tie.Start
 start k = k .before .before .before .before .before
 
 -- the clause and the part that the bytes name
-named-clause : (k : tie.After-origin-at) → k .origin-at .result .first ≡ clause (start k .args .t5)
+named-clause : (k : tie.After-origin-at) → k .origin-at .result .first ≡ clause (start k .args .t6)
 named-clause k = ap (λ (o : Origin). o .first) (k .origin-at .ensures)
 
-named-part : (k : tie.After-origin-at) → k .origin-at .result .second ≡ part (start k .args .t5)
+named-part : (k : tie.After-origin-at) → k .origin-at .result .second ≡ part (start k .args .t6)
 named-part k = ap (λ (o : Origin). o .second) (k .origin-at .ensures)
 
-unstated-requires : tie.Need-unstated-requires
-unstated-requires c κs = search needs
+loaded-behind-requires : tie.Need-loaded-behind-requires
+loaded-behind-requires c κs =
+    let k = c .before .before in
+    let s = start k in
+    (s .pre .readable .parsed .rationals, omega (arith, c .if1 .taken, named-clause k))
 
 returns : tie.Need-returns
 returns c =
     let k = c .before .before .before in
     let s = start k in
-    states-none (s .args .t5) (c .unstated .result) (c .unstated .ensures)
-    (loaded-beyond (s .pre .readable) (s .args .t5) (omega (arith, c .before .if1 .taken, named-clause k)))
+    states-same (loaded-behind (s .args .edition) (s .pre .readable) (s .args .t6) (omega (arith, c .before .if1 .taken, named-clause k)))
+    (c .loaded-behind .ensures)
 
 mul-part : tie.Need-mul-part
 mul-part c = search needs
@@ -81,8 +83,8 @@ returns-2 c =
     let e = p .before .before .before in
     let k = e .before .before in
     let s = start k in
-    states-same (loaded-found (s .pre .readable) (s .args .t5) (p .part .result)
-    (named-clause k) (named-part k)
+    states-same (loaded-found (s .args .edition) (s .pre .readable) (s .args .t6) (p .part .result)
+    (named-clause k) (named-part k) (omega (arith, e .if1 .left))
     (entry e) (p .part .ensures .0)) (rw (o .loaded .ensures) at (c .compared .ensures))
 
 pub loaded-spec : {M : Type 1} → statement M
@@ -91,7 +93,7 @@ loaded-spec =
     (tie.spec
     slice-aggregate-origin-at
     origin-at-requires
-    unstated-requires
+    loaded-behind-requires
     returns
     mul-part
     shared-slice-read-part

@@ -4,7 +4,7 @@ use Rattle.rules.specs.Elimination.{loadableOf}
 use Rattle.steps.specs.declared.origin.Origin.{Origin}
 use Rattle.steps.specs.Lines.{linesIn}
 use Rattle.step_check.specs.Resolvents.{states-same}
-use Rattle.problem_read.specs.Parsed.{problemAt}
+use Rattle.problem_read.specs.Parsed.{posedAt}
 use Rattle.proof_check.specs.Loaded.{loaded-other, stated-loaded, stated-derived}
 use borrow.Author.Needs.{needs}
 use Rattle.proof_check.proofs.state.line_stated.Statement.{statement}
@@ -27,7 +27,7 @@ returns c =
     let k = c .before .before .before in
     let s = start k in
     let a = s .args in
-    states-same (stated-loaded (loadableOf (problemAt (a .input .now) (a .sizes))) (linesIn (a .proof .now) (a .i)) (a .t7)
+    states-same (stated-loaded (loadableOf (posedAt (a .edition) (a .input .now) (a .sizes))) (linesIn (a .proof .now) (a .i)) (a .t8)
     (sym (ap (λ (o : Origin). o .how) (k .origin-at .ensures)) ∙ c .before .if1 .taken)) (c .loaded .ensures)
 
 derived-requires : tie.Need-derived-requires
@@ -38,9 +38,9 @@ returns-2 c =
     let k = c .before .before .before in
     let s = start k in
     let a = s .args in
-    let none-loaded = loaded-other (s .pre .0 .readable) (a .t7)
+    let none-loaded = loaded-other (a .edition) (s .pre .0 .readable) (a .t8)
     (λ e. c .before .if1 .left (ap (λ (o : Origin). o .how) (k .origin-at .ensures) ∙ e)) in
-    states-same (stated-derived (loadableOf (problemAt (a .input .now) (a .sizes))) (linesIn (a .proof .now) (a .i)) (a .t7)
+    states-same (stated-derived (loadableOf (posedAt (a .edition) (a .input .now) (a .sizes))) (linesIn (a .proof .now) (a .i)) (a .t8)
     none-loaded) (c .derived .ensures)
 
 pub line-stated-spec : {M : Type 1} → statement M

@@ -4,20 +4,21 @@ use Rattle.rules.specs.Elimination.{limited}
 use Rattle.theory_saturation.specs.Order.{Ordered}
 use Rattle.theory_saturation.specs.Taken.{run-ordered}
 use Rattle.theory_splitting.specs.WellFormed.{WellFormed}
-use Rattle.theory_splitting.specs.WellRead.{read-well-formed}
-use Rattle.problem_read.specs.Parsed.{problemAt}
+use Rattle.theory_splitting.specs.WellRead.{posed-well-formed}
+use Rattle.theory_splitting.specs.Editions.{open-posed}
+use Rattle.problem_read.specs.Parsed.{problemAt, posedAt}
 use Rattle.solving.specs.Left.{few-steps, narrow, order-is, leaves-overflow, leaves-out, leaves-empty, leaves-saturated}
 use borrow.Author.Needs.{needs}
 use Rattle.solving.proofs.decide.decide.Statement.{statement}
 use Rattle.solving.proofs.decide.decide.Tie as tie
 
--- the problem is well formed
+-- the problem is well formed, in its edition
 formed : (c : tie.After-eliminate) → let a = c .before .before .before .before .before .before .args in
-    WellFormed (problemAt (a .input .now) (a .sizes))
+    WellFormed (posedAt (a .terms .edition) (a .input .now) (a .sizes))
 formed c =
     let s = c .before .before .before .before .before .before in
     let a = s .args in
-    read-well-formed (a .input .now) (problemAt (a .input .now) (a .sizes)) (s .pre .0 .is-read)
+    posed-well-formed (a .terms .edition) (a .input .now) (problemAt (a .input .now) (a .sizes)) (s .pre .0 .is-read)
 
 eliminate-requires : tie.Need-eliminate-requires
 eliminate-requires c κs = search needs
@@ -54,7 +55,7 @@ saturated-requires c κs =
     let e = k .eliminate .ensures .0 in
     let w = formed k in
     let ordered = subst Ordered (sym (k .eliminate .ensures .1)) (run-ordered (limited (s .args .terms .limits))
-    (problemAt (s .args .input .now) (s .args .sizes)) (w .rationals)) in (
+    (posedAt (s .args .terms .edition) (s .args .input .now) (s .args .sizes)) (w .rationals)) in (
       s .pre .0 .parsed .booleans,
       (s .pre .0 .parsed .rationals, (few-steps w e, (search needs, (s .pre .1 .1 .0, (e .ready, (narrow w e, ordered)))))),
     )
@@ -109,9 +110,11 @@ returns-4 c =
     let t = o .before in
     let k = t .before .before .before .before .before in
     let order = k .eliminate .ensures .1 ∙ order-is (formed k) (k .eliminate .ensures .0) (t .enum-told4 .given .1) in
+    let s = k .before .before .before .before .before .before in
+    let opens = o .occurring .ensures ∙ sym (open-posed (s .args .terms .edition) (problemAt (s .args .input .now) (s .args .sizes))) in
     rw (f .saturated .ensures .1)
     (leaves-saturated (formed k) (k .eliminate .ensures .0) (k .before .before .before .before .before .before .args .model .now) _ _
-    (t .enum-told4 .given .1) (rw (order, o .occurring .ensures) at (f .saturated .ensures .0)))
+    (t .enum-told4 .given .1) (rw (order, opens) at (f .saturated .ensures .0)))
 
 pub decide-spec : {M : Type 1} → statement M
 decide-spec =

@@ -1,28 +1,48 @@
-//! Solves standard input with a preview's book, and prints as the program `jemuling_solve` does: the
-//! answer with its numbers, then the marks and figures, or where each line of the book comes from.
+//! Solves standard input, `answer [--preview] [--edition N]`, and prints as the program
+//! `jemuling_solve` does: the answer with its numbers, then the marks and figures, or where each line
+//! of the book comes from.
 
-use jemuling::preview::{hand_back, solve};
+use explain::{options, Calls};
 use jemuling::{Answer, Part, Refusal, Solved, Verdict};
-use jemuling::{LINE_BYTES, PREVIEW_BYTES, QUESTION_BYTES, SHEET_BYTES};
+use jemuling::{LINE_BYTES, QUESTION_BYTES, SHEET_BYTES};
 use std::io::{self, Read, Write};
+use std::process::ExitCode;
 
 /// One byte more than a question may have is enough to tell that it is too long.
 const ENOUGH: u64 = QUESTION_BYTES as u64 + 1;
 
-fn main() -> io::Result<()> {
+fn main() -> ExitCode {
+    let arguments: Vec<String> = std::env::args().skip(1).collect();
+    let words: Vec<&str> = arguments.iter().map(String::as_str).collect();
+    let (calls, edition) = match options(&words) {
+        Some((calls, edition, [])) => (calls, edition),
+        _ => return fail(2, "usage: answer [--preview] [--edition N]"),
+    };
+    match run(&calls, edition) {
+        Ok(()) => ExitCode::SUCCESS,
+        Err(error) => fail(1, &error.to_string()),
+    }
+}
+
+fn fail(status: u8, message: &str) -> ExitCode {
+    eprintln!("{message}");
+    ExitCode::from(status)
+}
+
+fn run(calls: &Calls, edition: u64) -> io::Result<()> {
     let mut question = Vec::new();
     io::stdin().take(ENOUGH).read_to_end(&mut question)?;
     let mut output = io::stdout().lock();
-    output.write_all(printed(&question).as_bytes())?;
+    output.write_all(printed(calls, edition, &question).as_bytes())?;
     output.flush()
 }
 
 /// All that is printed, every line ended.
-fn printed(question: &[u8]) -> String {
-    let (mut book, mut sheet) = ([0; PREVIEW_BYTES], [0; SHEET_BYTES]);
-    let solved = solve(question, &mut book, &mut sheet);
+fn printed(calls: &Calls, edition: u64, question: &[u8]) -> String {
+    let (mut book, mut sheet) = (vec![0; calls.book_bytes], [0; SHEET_BYTES]);
+    let solved = (calls.solve)(edition, question, &mut book, &mut sheet);
     let mut lines = vec![answer(solved)];
-    match hand_back(solved.answer, &book, &sheet) {
+    match (calls.hand_back)(solved.answer, &book, &sheet) {
         Part::Sheet(sheet) => lines.extend(shares(sheet)),
         Part::Book([]) => {}
         Part::Book(book) => lines.extend(origins(book)),
