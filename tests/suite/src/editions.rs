@@ -13,7 +13,7 @@ use crate::solver::{naming, Solver, BOTH, BOTH_IN_2, PREVIEWS_IN_2};
 use crate::solving::compare_limits_by;
 use questions::editions;
 use questions::largest::uppers;
-use questions::problem::{at_most, equal as equals, Problem};
+use questions::problem::{at_most, constraint, equal as equals, yes, Problem, Relation, Term};
 use questions::random::Random;
 use reference::{Answer, Checked, Limit, Verdict, FIRST_EDITION, SECOND_EDITION};
 
@@ -48,6 +48,7 @@ pub fn run(sums: &mut Sums) {
         run_largest(solver, sums);
     }
     run_others(sums);
+    run_pairs(sums);
     run_random(sums);
     run_sheets(sums);
 }
@@ -335,6 +336,95 @@ fn check_other(solver: Solver, question: &[u8]) -> Outcome {
         }
         let said = solver.check_book(question, &vec![0; book]);
         equal("check of a book", &checked, &said)?;
+    }
+    Ok(())
+}
+
+/// A condition of one figure with each relation about 0, alone and beside a mark.
+fn clauses() -> Vec<Vec<Term>> {
+    let relations = [
+        Relation::AtMost,
+        Relation::Below,
+        Relation::Equal,
+        Relation::AtLeast,
+    ];
+    let mut clauses = Vec::new();
+    for relation in relations {
+        for coefficient in [1, -1] {
+            for bound in -1..=1 {
+                let condition = constraint(relation, &[coefficient], bound);
+                clauses.push(vec![condition.clone()]);
+                clauses.push(vec![yes(0), condition]);
+            }
+        }
+    }
+    clauses
+}
+
+/// Every two of these clauses. How often came: it can agree in both editions, in edition 1 alone, in
+/// none.
+fn run_pairs(sums: &mut Sums) {
+    let mut group = Group::new("editions: every two clauses of a few");
+    let mut came = [0; 3];
+    for (i, first) in clauses().iter().enumerate() {
+        for (j, second) in clauses().iter().enumerate() {
+            let mut problem = Problem::new(1, 1);
+            problem.clauses = vec![first.clone(), second.clone()];
+            group.case(&format!("{i} and {j}"), || {
+                let agree = [BOTH, BOTH_IN_2].map(|solvers| check_pair(solvers, &problem));
+                let [in_1, in_2] = agree;
+                came[2 - usize::from(in_1?) - usize::from(in_2?)] += 1;
+                check_choices(&problem)
+            });
+        }
+    }
+    group.case("each comes often", || {
+        let often = came.iter().all(|&count| count >= 100);
+        demand(often, &format!("they came {came:?} times"))
+    });
+    group.finish(sums);
+}
+
+/// The choices of a grid: no condition tells two figures apart that lie between the same two of these
+/// halves. A sheet has 2 for a mark that stands in neither clause.
+fn choices(problem: &Problem) -> Vec<Vec<u8>> {
+    let marks = match problem.open() {
+        0 => 0..=1,
+        _ => 2..=2,
+    };
+    let sheet = |mark: u8, half: i32| {
+        let mut sheet = vec![1, mark, 1];
+        sheet.extend(
+            [2, half]
+                .iter()
+                .flat_map(|amount: &i32| amount.to_le_bytes()),
+        );
+        sheet.resize(SHEET_LENGTH, 0);
+        sheet
+    };
+    let of_mark = |mark| (-4..=4).map(move |half| sheet(mark, half));
+    marks.flat_map(of_mark).collect()
+}
+
+/// Both solvers answer alike, and it can agree exactly if a choice of the grid satisfies the question in
+/// its edition, by the suite's own arithmetic.
+fn check_pair(solvers: [Solver; 2], problem: &Problem) -> Result<bool, String> {
+    let (solved, _) = compare_limits_by(solvers, &problem.encode(), 0xab)?;
+    let stated = solvers[0].stated(problem);
+    let mut agrees = false;
+    for sheet in choices(problem) {
+        agrees |= judged(&stated, &sheet)? == Checked::Accepted;
+    }
+    equal("can agree", &Some(agrees), &satisfiable(&solved.answer))?;
+    Ok(agrees)
+}
+
+/// The checks of all these choices say in each edition what the suite's own arithmetic does.
+fn check_choices(problem: &Problem) -> Outcome {
+    let (question, stated) = (problem.encode(), problem.with_shares());
+    for sheet in choices(problem) {
+        let expected = [judged(problem, &sheet)?, judged(&stated, &sheet)?];
+        equal("check", &expected, &sheets_in_both(&question, &sheet)?)?;
     }
     Ok(())
 }
