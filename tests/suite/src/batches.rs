@@ -4,7 +4,7 @@
 //! natural and loose ones none by the preview. Edition 2 answers them alike.
 
 use crate::buffers::{read_sheet, solve_filled, Solved, BOOK_LENGTH, SHEET_LENGTH};
-use crate::editions;
+use crate::edition_laws::check_question;
 use crate::preview::is_full;
 use crate::report::{demand, equal, Group, Outcome, Sums};
 use crate::solver::{Solver, BOTH_IN_2};
@@ -137,7 +137,7 @@ fn decide_stated(problem: &Problem) -> Result<bool, String> {
 /// same; without these clauses it adds them, and decides alike.
 fn decide_in_2(problem: &Problem, agrees: bool) -> Outcome {
     let question = problem.encode();
-    let [in_1, in_2] = editions::check_question(&question, 0)?;
+    let [in_1, in_2] = check_question(&question, 0)?;
     in_2.expect(&in_1.answer)?;
     let alike = in_1.book == in_2.book && in_1.sheet == in_2.sheet;
     demand(alike, "edition 2 leaves other bytes")?;

@@ -3,7 +3,7 @@
 //! not too long for it. Each is put to both in both editions.
 
 use crate::buffers::{solve_filled, BOOK_LENGTH, LINE_LENGTH, PREVIEW_LENGTH, SHEET_LENGTH};
-use crate::editions::{books_in_both, sheets_in_both};
+use crate::edition_laws::{books_in_both, sheets_in_both};
 use crate::report::{demand, equal, Group, Sums};
 use crate::solver::BOTH_IN_2;
 use crate::vectors;

@@ -1,4 +1,4 @@
-//! Questions of 02's (v) with their answers in both editions, worked out by hand, and the largest one.
+//! Questions of 02's (v) with their answers in both editions, worked out by hand.
 
 use crate::examples::{agrees, cannot, refused, unwritten};
 use questions::problem::{at_least, at_most, below, equal as equals, no, yes, Problem, Term};
@@ -329,14 +329,4 @@ fn limits() -> Vec<Case> {
             [],
         ),
     ]
-}
-
-/// x_0 + k x_1 ≤ 0 for k from 1 to 255, and x_7 ≤ -1. Of the edition's clauses the first leaves x_1 ≤ 0,
-/// once, and the last, 263, contradicts.
-pub fn largest() -> Problem {
-    let mut problem = Problem::new(0, 8);
-    for k in 1..=255 {
-        problem = problem.clause([at_most(&[1, k], 0)]);
-    }
-    problem.clause([at_most(&[0, 0, 0, 0, 0, 0, 0, 1], -1)])
 }

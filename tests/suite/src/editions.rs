@@ -1,21 +1,19 @@
 //! 02's (v), shares that are never negative: questions with their answers in both editions, worked out by
-//! hand; what the answers of the two have to do with each other, and with those of the question with
-//! the clauses of edition 2 written out; books and sheets in both; and every other edition, which is
-//! refused before anything else.
+//! hand, and the largest one; every two clauses of a few, random questions and arbitrary sheets in both;
+//! and other editions, which are refused before anything else.
 
-use crate::buffers::{judged, solve_filled, solve_in, Solved};
-use crate::buffers::{BOOK_LENGTH, LINE_LENGTH, PREVIEW_LENGTH, SHEET_LENGTH};
-use crate::edition_cases::{cases, largest, Case};
-use crate::examples::{agrees, cannot, refused};
-use crate::preview::full;
+use crate::buffers::{judged, satisfiable, solve_filled, Solved, LINE_LENGTH, SHEET_LENGTH};
+use crate::edition_cases::{cases, Case};
+use crate::edition_largest::{self, largest};
+use crate::edition_laws::{check_question, sheets_in_both};
+use crate::examples::refused;
 use crate::report::{demand, equal, Group, Outcome, Sums};
 use crate::solver::{naming, Solver, BOTH, BOTH_IN_2, PREVIEWS_IN_2};
 use crate::solving::compare_limits_by;
 use questions::editions;
-use questions::largest::uppers;
 use questions::problem::{at_most, constraint, equal as equals, yes, Problem, Relation, Term};
 use questions::random::Random;
-use reference::{Answer, Checked, Limit, Verdict, FIRST_EDITION, SECOND_EDITION};
+use reference::{Answer, Checked, Limit, Verdict, FIRST_EDITION};
 
 const SEED: u64 = 14;
 const CASES: usize = 30_000;
@@ -45,59 +43,12 @@ const OTHERS: [u64; 16] = [
 pub fn run(sums: &mut Sums) {
     for solver in BOTH_IN_2.into_iter().chain(PREVIEWS_IN_2) {
         run_by_hand(solver, sums);
-        run_largest(solver, sums);
+        edition_largest::run(solver, sums);
     }
     run_others(sums);
     run_pairs(sums);
     run_random(sums);
     run_sheets(sums);
-}
-
-/// The same answer, and the same bytes left.
-fn same(what: &str, expected: &Solved, got: &Solved) -> Outcome {
-    equal(what, &expected.answer, &got.answer)?;
-    let bytes = expected.book == got.book && expected.sheet == got.sheet;
-    demand(bytes, &format!("{what}: other bytes"))
-}
-
-/// What the proved code says of a question in both editions, with the limit of lines that the fill
-/// picks. By the call that names edition 1 it says what it does by the one that names none, and in
-/// edition 2 what it says of the question with the edition's clauses written out, where such a question
-/// is not too large; a fault is the same in both. What can agree in edition 2 can in edition 1.
-pub fn check_question(question: &[u8], fill: u8) -> Result<[Solved; 2], String> {
-    let proved = Solver::proved(LIMITS[usize::from(fill % 2)]);
-    let solve = |solver, question: &[u8]| {
-        let (book, sheet) = (vec![fill; BOOK_LENGTH + 16], vec![fill; SHEET_LENGTH + 16]);
-        solve_in(solver, question, book, sheet)
-    };
-    let none = solve(proved, question);
-    let in_1 = solve(proved.naming(FIRST_EDITION), question);
-    let in_2 = solve(proved.naming(SECOND_EDITION), question);
-    same("edition 1 by its number", &none, &in_1)?;
-    match reference::read(question) {
-        Err(_) => same("a fault in edition 2", &none, &in_2)?,
-        Ok(_) => {
-            let written = Problem::decode(question).with_shares().encode();
-            if reference::read(&written).is_ok() {
-                let written = solve(proved, &written);
-                same("the clauses written out", &written, &in_2)?;
-            }
-        }
-    }
-    let [first, second] = [&in_1, &in_2].map(|solved| satisfiable(&solved.answer));
-    demand(
-        first != Some(false) || second != Some(true),
-        "it cannot agree in edition 1, and can in edition 2",
-    )?;
-    Ok([in_1, in_2])
-}
-
-/// What a verdict says of the question; a refusal says nothing.
-fn satisfiable(answer: &Answer) -> Option<bool> {
-    match answer {
-        Answer::Verdict { verdict, .. } => Some(*verdict != Verdict::Cannot),
-        Answer::Refused { .. } => None,
-    }
 }
 
 fn run_by_hand(solver: Solver, sums: &mut Sums) {
@@ -192,100 +143,6 @@ fn check_parts(solver: Solver, question: &[u8], in_1: &Solved, in_2: &Solved) ->
         }
     }
     Ok(())
-}
-
-/// 256 clauses and eight figures: the edition's last clause is 263. And courses that end about line 256.
-fn run_largest(solver: Solver, sums: &mut Sums) {
-    let mut group = solver.group("editions: the largest question");
-    let question = largest().encode();
-    let first = solver.naming(FIRST_EDITION);
-    group.case("solved", || {
-        let solved = solve_filled(solver, &question);
-        solved.check_buffers()?;
-        if solver.is_preview() {
-            return solved.expect(&full(0));
-        }
-        solved.expect(&cannot(266, 257))?;
-        // behind the 256 clauses, the eight of the edition; then x_1 ≤ 0 and the end
-        let line = |number: usize| &solved.used()[64 * number..][..6];
-        equal("line 263", &&[0, 0, 7, 1, 0, 0][..], &line(263))?;
-        equal("the end", &&[1, 7, 255, 0, 7, 1][..], &line(265))?;
-        let accepted = solver.check_book(&question, solved.used());
-        equal("check", &Checked::Accepted, &accepted)?;
-        let failing = first.check_book(&question, solved.used());
-        equal("check in edition 1", &Checked::Fails(256), &failing)
-    });
-    // each is a line, with -x ≤ 0, -y ≤ 0 and their result y ≤ 0
-    for count in 252..=256 {
-        group.case(&format!("{count} uppers"), || {
-            let lines = count as usize + 3;
-            let expected = match (solver.is_preview(), lines) {
-                (true, 257) => full(1),
-                (true, 258..) => full(0),
-                _ => agrees(lines, count as u64 + 1),
-            };
-            let solved = solve_filled(solver, &uppers(count).encode());
-            solved.expect(&expected)?;
-            solved.check_buffers()
-        });
-    }
-    for clause in [255, 256, 262, 263, 264, 271, 519, 1_287, 65_535] {
-        for part in [0, 1, 2, 256] {
-            group.case(&format!("a book with clause {clause}, part {part}"), || {
-                let book = book_of(clause, part);
-                let expected = match (clause, part) {
-                    (263, 0) => Checked::Accepted,
-                    _ => Checked::Fails(1),
-                };
-                equal("check", &expected, &solver.check_book(&question, &book))?;
-                let failing = first.check_book(&question, &book);
-                equal("check in edition 1", &Checked::Fails(1), &failing)
-            });
-        }
-    }
-    for figure in 0..8 {
-        group.case(&format!("a sheet with figure {figure} below 0"), || {
-            // x_1 is 0 or below, x_7 is -1, as clauses 0 to 255 have it
-            let sheet = sheet_below(figure);
-            let failing = Checked::Fails(256 + figure);
-            equal("check", &failing, &solver.check_sheet(&question, &sheet))?;
-            let accepted = first.check_sheet(&question, &sheet);
-            equal("check in edition 1", &Checked::Accepted, &accepted)
-        });
-    }
-    group.finish(sums);
-}
-
-/// x_7 ≤ -1, -x_7 ≤ 0 as this part of this clause, and the end that follows from both.
-fn book_of(clause: u16, part: u16) -> Vec<u8> {
-    let mut book = vec![0; 3 * LINE_LENGTH];
-    book[2] = 255;
-    book[6] = 1;
-    book[44] = 1;
-    book[48..52].fill(0xff);
-    let lower = &mut book[LINE_LENGTH..];
-    lower[2..4].copy_from_slice(&clause.to_le_bytes());
-    lower[4..6].copy_from_slice(&part.to_le_bytes());
-    lower[6] = 1;
-    lower[44..48].fill(0xff);
-    book[2 * LINE_LENGTH..][..6].copy_from_slice(&[1, 7, 0, 0, 1, 0]);
-    book
-}
-
-/// -1/3 for this figure, -1 for the last, and 0 or 16/3 for the others.
-fn sheet_below(figure: usize) -> Vec<u8> {
-    let numerators = (0..8).map(|i| match i {
-        7 => -3,
-        _ if i == figure => -1,
-        // x_0 + k x_1 ≤ 0
-        0 | 1 => 0,
-        _ => 16,
-    });
-    let mut sheet = vec![0, 8];
-    sheet.extend(3_i32.to_le_bytes());
-    sheet.extend(numerators.flat_map(|numerator: i32| numerator.to_le_bytes()));
-    sheet.resize(SHEET_LENGTH, 0);
-    sheet
 }
 
 /// Whatever question and buffers are lent, another edition is refused, and no byte is altered.
@@ -483,67 +340,6 @@ fn show(problem: &Problem, in_1: &Solved, in_2: &Solved, shown: &mut Shown) {
     for (count, came) in shown.iter_mut().zip(came) {
         *count += usize::from(came);
     }
-}
-
-/// What the checks of a book say in both editions, which is the same of both solvers and, of a book that
-/// is not too long for it, of the preview. Accepted in edition 1, it is accepted in 2; a refusal is the
-/// same; and edition 2 names no earlier line.
-pub fn books_in_both(question: &[u8], book: &[u8]) -> Result<[Checked; 2], String> {
-    let in_1 = check_book_by(BOTH, question, book)?;
-    let in_2 = check_book_by(BOTH_IN_2, question, book)?;
-    let proved = Solver::PROVED.naming(FIRST_EDITION);
-    let named = proved.check_book(question, book);
-    equal("edition 1 by its number", &in_1, &named)?;
-    let said = [in_1, in_2];
-    let follows = match said {
-        [Checked::Accepted, in_2] => in_2 == Checked::Accepted,
-        [Checked::Fails(line), Checked::Fails(later)] => line <= later,
-        [Checked::Fails(_), in_2] => in_2 == Checked::Accepted,
-        [refused, in_2] => refused == in_2,
-    };
-    demand(follows, &format!("the editions say {said:?}"))?;
-    Ok(said)
-}
-
-/// What these two say, and the proved code's preview.
-fn check_book_by(solvers: [Solver; 2], question: &[u8], book: &[u8]) -> Result<Checked, String> {
-    let [second, proved] = solvers;
-    let said = second.check_book(question, book);
-    equal("check", &said, &proved.check_book(question, book))?;
-    let expected = match said {
-        Checked::Accepted | Checked::Fails(_) if book.len() > PREVIEW_LENGTH => Checked::Refused {
-            number: 16,
-            place: book.len(),
-        },
-        said => said,
-    };
-    let preview = proved.within(Limit::PREVIEW);
-    let preview = preview.check_book(question, book);
-    equal("check by the preview", &expected, &preview)?;
-    Ok(said)
-}
-
-/// The same of a sheet: accepted in edition 2, it is accepted in 1; a refusal or a clause of the question
-/// that fails is the same; and where edition 2 alone names a clause, it is one of its own.
-pub fn sheets_in_both(question: &[u8], sheet: &[u8]) -> Result<[Checked; 2], String> {
-    let check = |[second, proved]: [Solver; 2]| {
-        let said = second.check_sheet(question, sheet);
-        equal("check", &said, &proved.check_sheet(question, sheet))?;
-        Ok::<Checked, String>(said)
-    };
-    let said = [check(BOTH)?, check(BOTH_IN_2)?];
-    let proved = Solver::PROVED.naming(FIRST_EDITION);
-    let named = proved.check_sheet(question, sheet);
-    equal("edition 1 by its number", &said[0], &named)?;
-    let follows = match (said, reference::read(question)) {
-        ([Checked::Accepted, Checked::Fails(clause)], Ok(problem)) => {
-            let [_, r, n] = problem.counts();
-            (n..n + r).contains(&clause)
-        }
-        ([in_1, in_2], _) => in_1 == in_2,
-    };
-    demand(follows, &format!("the editions say {said:?}"))?;
-    Ok(said)
 }
 
 /// Sheets of random figures about 0, by the suite's own arithmetic. How often came: accepted in both,

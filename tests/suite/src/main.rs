@@ -11,6 +11,8 @@ mod consistency;
 mod damage;
 mod earlier;
 mod edition_cases;
+mod edition_largest;
+mod edition_laws;
 mod editions;
 mod examples;
 mod integers;

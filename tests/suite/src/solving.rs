@@ -8,7 +8,7 @@ use crate::buffers::{BOOK_LENGTH, LINE_LENGTH, PREVIEW_LENGTH, SHEET_LENGTH};
 use crate::preview::{self, is_full};
 use crate::report::{demand, equal, Group, Outcome, Sums};
 use crate::solver::{both, naming, Solver, BOTH, BOTH_IN_2};
-use crate::{editions, examples, vectors};
+use crate::{edition_laws, examples, vectors};
 use questions::largest::{self, Kind};
 use questions::problem::{at_most, yes, Problem};
 use questions::random::Random;
@@ -141,7 +141,9 @@ fn solve_vectors(sums: &mut Sums) {
             let question = question.as_ref()?;
             compare(question, 0xab)?;
             compare_limits_by(BOTH_IN_2, question, 0xab)?;
-            editions::check_question(question, 0xab).map(|_| ())
+            // with either limit
+            edition_laws::check_question(question, 0xaa)?;
+            edition_laws::check_question(question, 0xab).map(|_| ())
         });
     }
     group.case("some", || demand(!questions.is_empty(), "no question"));
@@ -175,7 +177,7 @@ fn solve_random(sums: &mut Sums) {
         group.case(&format!("number {number}"), || {
             let (large, small) = compare_limits(&question, number as u8)?;
             if number % IN_2 == 0 {
-                editions::check_question(&question, number as u8)?;
+                edition_laws::check_question(&question, (number / IN_2) as u8)?;
             }
             let preview = is_full(&small.answer).then(|| "15 by the preview".to_string());
             let (answer, lines) = match large.answer {
