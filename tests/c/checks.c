@@ -1,6 +1,7 @@
 /*
  * Calls the library from C on document 01's examples, on = and at least, on open marks, and about a preview's sizes: right books and
- * sheets, wrong ones, and solving; what has a limit of lines with either.
+ * sheets, wrong ones, and solving; what has a limit of lines with either. All of it by the calls that name no edition, and by those that
+ * name one, in edition 1; then what edition 2 answers otherwise, its largest question, and other editions.
  */
 #include <stdio.h>
 #include <string.h>
@@ -11,6 +12,9 @@
 
 static int passed, failed;
 
+/* The edition that the calls name; 0 for the calls that name none. */
+static uint64_t edition;
+
 static void expect(const char *name, jemuling_told told, uint64_t number, size_t value)
 {
     if (told.number == number && told.value == value) {
@@ -18,16 +22,35 @@ static void expect(const char *name, jemuling_told told, uint64_t number, size_t
         return;
     }
     failed++;
-    printf("FAILED %s%s: expected %llu %zu, got %llu %zu\n", name, with[limit].name, (unsigned long long)number, value,
-           (unsigned long long)told.number, told.value);
+    printf("FAILED %s%s, edition %llu: expected %llu %zu, got %llu %zu\n", name, with[limit].name, (unsigned long long)edition,
+           (unsigned long long)number, value, (unsigned long long)told.number, told.value);
+}
+
+static jemuling_solved solve(const uint8_t *question, size_t length, uint8_t *book, size_t book_length, uint8_t *sheet,
+                             size_t sheet_length)
+{
+    return edition ? with[limit].solve_in(edition, question, length, book, book_length, sheet, sheet_length)
+                   : with[limit].solve(question, length, book, book_length, sheet, sheet_length);
+}
+
+static jemuling_told check_book(const uint8_t *question, size_t length, const uint8_t *book, size_t book_length)
+{
+    return edition ? with[limit].check_book_in(edition, question, length, book, book_length)
+                   : with[limit].check_book(question, length, book, book_length);
+}
+
+static jemuling_told check_sheet(const uint8_t *question, size_t length, const uint8_t *sheet, size_t sheet_length)
+{
+    return edition ? jemuling_check_sheet_in(edition, question, length, sheet, sheet_length)
+                   : jemuling_check_sheet(question, length, sheet, sheet_length);
 }
 
 /* Solving's number and value, and its pairs beside a count of something. */
 #define ANSWER(said) ((jemuling_told){ (said).number, (said).value })
 #define PAIRS(said, count) ((jemuling_told){ (said).pairs, (count) })
 
-#define BOOK(question, book) with[limit].check_book(question, sizeof question, book, sizeof book)
-#define SHEET(question, sheet) jemuling_check_sheet(question, sizeof question, sheet, sizeof sheet)
+#define BOOK(question, book) check_book(question, sizeof question, book, sizeof book)
+#define SHEET(question, sheet) check_sheet(question, sizeof question, sheet, sizeof sheet)
 
 static void right_ones(void)
 {
@@ -57,16 +80,16 @@ static void wrong_ones(void)
     book[4 * JEMULING_LINE_BYTES + 4] = 3;
     expect("line 4's parents exchanged", BOOK(example_7_question, book), JEMULING_FAILS, 4);
     expect("the empty end missing",
-           with[limit].check_book(example_7_question, sizeof example_7_question, example_7_book, 4 * JEMULING_LINE_BYTES),
+           check_book(example_7_question, sizeof example_7_question, example_7_book, 4 * JEMULING_LINE_BYTES),
            JEMULING_FAILS, 4);
     expect("the book of another question", BOOK(example_8_question, example_4_book), JEMULING_FAILS, 0);
-    expect("a book of 63 bytes", with[limit].check_book(example_8_question, sizeof example_8_question, example_8_book, 63),
+    expect("a book of 63 bytes", check_book(example_8_question, sizeof example_8_question, example_8_book, 63),
            JEMULING_CLAIM, 63);
-    expect("no book", with[limit].check_book(example_8_question, sizeof example_8_question, NULL, 0), JEMULING_CLAIM, 0);
-    expect("no question", with[limit].check_book(NULL, 0, example_8_book, sizeof example_8_book), JEMULING_SHORT, 0);
+    expect("no book", check_book(example_8_question, sizeof example_8_question, NULL, 0), JEMULING_CLAIM, 0);
+    expect("no question", check_book(NULL, 0, example_8_book, sizeof example_8_book), JEMULING_SHORT, 0);
     expect("the sheet of another question", SHEET(example_5_question, example_3_sheet), JEMULING_FAILS, 0);
     expect("a sheet with other counts", SHEET(example_9_question, example_3_sheet), JEMULING_SLIP, 0);
-    expect("a sheet of 63 bytes", jemuling_check_sheet(example_5_question, sizeof example_5_question, example_5_sheet, 63),
+    expect("a sheet of 63 bytes", check_sheet(example_5_question, sizeof example_5_question, example_5_sheet, 63),
            JEMULING_SHEET, 0);
 }
 
@@ -83,8 +106,8 @@ static void wrong_equal_ones(void)
     memcpy(book, at_least_book, sizeof book);
     book[JEMULING_LINE_BYTES + 4] = 0;
     expect("the second reading as piece 0", BOOK(at_least_question, book), JEMULING_FAILS, 1);
-    expect("two = before 16", with[limit].check_book(double_question, sizeof double_question, NULL, 0), JEMULING_DOUBLE, 15);
-    expect("two = before 2", jemuling_check_sheet(double_question, sizeof double_question, NULL, 0), JEMULING_DOUBLE, 15);
+    expect("two = before 16", check_book(double_question, sizeof double_question, NULL, 0), JEMULING_DOUBLE, 15);
+    expect("two = before 2", check_sheet(double_question, sizeof double_question, NULL, 0), JEMULING_DOUBLE, 15);
     expect("two = before 17", SHEET(double_question, example_9_sheet), JEMULING_DOUBLE, 15);
 }
 
@@ -152,7 +175,7 @@ static void solves(const char *name, const unsigned char *question, size_t lengt
     static unsigned char book[JEMULING_BOOK_BYTES + 1], sheet[JEMULING_SHEET_BYTES + 1];
     memset(book, 0xab, sizeof book);
     memset(sheet, 0xcd, sizeof sheet);
-    jemuling_solved said = with[limit].solve(question, length, book, sizeof book, sheet, sizeof sheet);
+    jemuling_solved said = solve(question, length, book, sizeof book, sheet, sizeof sheet);
     expect(name, ANSWER(said), number, lines);
     jemuling_told told = with[limit].hand_back(said.number, said.value, book, sizeof book, sheet, sizeof sheet);
     const unsigned char *from = told.number == JEMULING_OF_SHEET ? sheet : book;
@@ -183,7 +206,7 @@ static void solving(void)
     SOLVES("an = and at least", at_least_question, JEMULING_CANNOT, 4, at_least_book);
     SOLVES("an open mark", open_question, JEMULING_AGREES, 1, open_sheet);
     SOLVES("open marks", sixteen_question, JEMULING_AGREES, 0, sixteen_sheet);
-    jemuling_solved said = with[limit].solve(example_1_question, sizeof example_1_question, NULL, 0, NULL, 0);
+    jemuling_solved said = solve(example_1_question, sizeof example_1_question, NULL, 0, NULL, 0);
     expect("no book", ANSWER(said), JEMULING_BOOK, 0);
 }
 
@@ -194,7 +217,7 @@ static void refuses(const char *name, const unsigned char *question, size_t leng
     static unsigned char book[JEMULING_BOOK_BYTES], sheet[JEMULING_SHEET_BYTES];
     memset(book, 0xab, sizeof book);
     memset(sheet, 0xcd, sizeof sheet);
-    jemuling_solved said = with[limit].solve(question, length, book, book_length, sheet, sheet_length);
+    jemuling_solved said = solve(question, length, book, book_length, sheet, sheet_length);
     expect(name, ANSWER(said), number, place);
     size_t altered = others(book, sizeof book, 0xab) + others(sheet, sizeof sheet, 0xcd);
     expect("pairs and bytes after a refusal", PAIRS(said, altered), 0, 0);
@@ -232,7 +255,7 @@ static void stops(const char *name, const unsigned char *question, size_t length
     size_t bytes = with[limit].bytes;
     memset(book, 0xab, sizeof book);
     memset(sheet, 0xcd, sizeof sheet);
-    jemuling_solved said = with[limit].solve(question, length, book, book_length, sheet, sizeof sheet);
+    jemuling_solved said = solve(question, length, book, book_length, sheet, sizeof sheet);
     expect(name, ANSWER(said), number, lines);
     size_t wrong = others(book, bytes, 0) + others(book + bytes, sizeof book - bytes, 0xab) + others(sheet, sizeof sheet, 0xcd);
     expect("pairs and bytes after 14 or 15", PAIRS(said, wrong), pairs, 0);
@@ -257,7 +280,7 @@ static void stopping(void)
             stops("a preview's bytes", question, length, JEMULING_PREVIEW_BYTES, JEMULING_FULL, 256, count == 128 ? 2 : 0);
             stops("more bytes", question, length, JEMULING_BOOK_BYTES + 1, JEMULING_FULL, 256, count == 128 ? 2 : 0);
         } else {
-            jemuling_solved said = jemuling_solve(question, length, book, sizeof book, sheet, sizeof sheet);
+            jemuling_solved said = solve(question, length, book, sizeof book, sheet, sizeof sheet);
             expect("equalities", ANSWER(said), JEMULING_AGREES, count == 128 ? 258 : 260);
             expect("pairs of equalities", PAIRS(said, 0), (uint64_t)(count * count + 1), 0);
         }
@@ -272,23 +295,146 @@ static void long_books(void)
     for (size_t i = 0; i < sizeof lengths / sizeof *lengths; i++) {
         size_t length = lengths[i];
         int right = length % 64 == 0 && length <= with[limit].bytes;
-        expect("a book of zeros", with[limit].check_book(example_2_question, sizeof example_2_question, zeros, length),
+        expect("a book of zeros", check_book(example_2_question, sizeof example_2_question, zeros, length),
                right ? JEMULING_ACCEPTED : JEMULING_CLAIM, right ? 0 : length);
+    }
+}
+
+/* x at most -1 agrees with a negative share alone. */
+static void negative_share(void)
+{
+    static const int values[] = { -2, -1, 0, 1 };
+    unsigned char book[sizeof negative_book], sheet[sizeof negative_sheet];
+    edition = JEMULING_FIRST_EDITION;
+    SOLVES("x at most -1", negative_question, JEMULING_AGREES, 1, negative_sheet);
+    expect("its sheet", SHEET(negative_question, negative_sheet), JEMULING_ACCEPTED, 0);
+    expect("edition 2's book", BOOK(negative_question, negative_book), JEMULING_FAILS, 1);
+    edition = JEMULING_SECOND_EDITION;
+    SOLVES("x at most -1", negative_question, JEMULING_CANNOT, 3, negative_book);
+    expect("edition 1's sheet", SHEET(negative_question, negative_sheet), JEMULING_FAILS, 1);
+    expect("its book", BOOK(negative_question, negative_book), JEMULING_ACCEPTED, 0);
+    memcpy(book, negative_book, sizeof book);
+    book[JEMULING_LINE_BYTES + 4] = 1;
+    expect("piece 1 of the edition's clause", BOOK(negative_question, book), JEMULING_FAILS, 1);
+    memcpy(book, negative_book, sizeof book);
+    book[JEMULING_LINE_BYTES + 2] = 2;
+    expect("the clause behind the edition's", BOOK(negative_question, book), JEMULING_FAILS, 1);
+    for (size_t i = 0; i < sizeof values / sizeof *values; i++) {
+        memcpy(sheet, negative_sheet, sizeof sheet);
+        memset(sheet + 7, values[i] < 0 ? 0xff : 0, 3);
+        sheet[6] = (unsigned char)values[i];
+        expect("a share", SHEET(negative_question, sheet), JEMULING_FAILS, values[i] <= -1);
+    }
+    SOLVES("example 7", example_7_question, JEMULING_CANNOT, 5, example_7_book);
+    SOLVES("no figure", example_8_question, JEMULING_CANNOT, 3, example_8_book);
+    SOLVES("open marks", sixteen_question, JEMULING_AGREES, 0, sixteen_sheet);
+    refusing();
+}
+
+/* 256 clauses and 8 figures: x0 + k x1 at most 0 for k from 1 to 255, x7 at most -1. */
+static size_t largest(unsigned char *question)
+{
+    size_t length = 4;
+    memcpy(question, (unsigned char[]){ 0, 8, 0, 1 }, length);
+    for (int k = 1; k <= 256; k++) {
+        unsigned char clause[39] = { 0, 1, 1 };
+        if (k <= 255) {
+            clause[3] = 1;
+            clause[7] = (unsigned char)k;
+        } else {
+            clause[31] = 1;
+            memset(clause + 35, 0xff, 4);
+        }
+        memcpy(question + length, clause, sizeof clause);
+        length += sizeof clause;
+    }
+    return length;
+}
+
+/* The last clause of the edition is 263: solving loads it, a book may name it and not 264, and a sheet fails there. */
+static void largest_question(void)
+{
+    static unsigned char question[4 + 256 * 39], book[JEMULING_BOOK_BYTES], sheet[JEMULING_SHEET_BYTES];
+    size_t length = largest(question);
+    edition = JEMULING_SECOND_EDITION;
+    if (limit == PREVIEW) {
+        stops("full while it loads", question, length, JEMULING_PREVIEW_BYTES, JEMULING_FULL, 256, 0);
+    } else {
+        jemuling_solved said = solve(question, length, book, sizeof book, sheet, sizeof sheet);
+        expect("the largest question", ANSWER(said), JEMULING_CANNOT, 266);
+        expect("its pairs, and line 263's clause", PAIRS(said, (size_t)(book[263 * 64 + 2] + 256 * book[263 * 64 + 3])), 257, 263);
+        expect("its book", check_book(question, length, book, 266 * JEMULING_LINE_BYTES), JEMULING_ACCEPTED, 0);
+    }
+    for (unsigned clause = 262; clause <= 264; clause++) {
+        /* x7 at most -1; -x7 at most 0; and the end */
+        unsigned char lines[3 * JEMULING_LINE_BYTES] = { [2] = 255, [6] = 1, [44] = 1, [64 + 6] = 1, [128] = 1, 7, [132] = 1 };
+        memset(lines + 48, 0xff, 4);
+        memset(lines + 64 + 44, 0xff, 4);
+        lines[64 + 2] = (unsigned char)(clause % 256);
+        lines[64 + 3] = (unsigned char)(clause / 256);
+        expect("a book that names a clause", check_book(question, length, lines, sizeof lines),
+               clause == 263 ? JEMULING_ACCEPTED : JEMULING_FAILS, clause == 263 ? 0 : 1);
+    }
+    memset(sheet, 0, sizeof sheet);
+    memcpy(sheet, (unsigned char[]){ 0, 8, 1 }, 3);
+    memset(sheet + 34, 0xff, 4);
+    expect("x7 is -1", check_sheet(question, length, sheet, sizeof sheet), JEMULING_FAILS, 263);
+    edition = JEMULING_FIRST_EDITION;
+    expect("x7 is -1", check_sheet(question, length, sheet, sizeof sheet), JEMULING_ACCEPTED, 0);
+}
+
+/* Any other edition comes first, whatever is lent; and no byte is altered. */
+static void other_editions(void)
+{
+    static const uint64_t unknown[] = {
+        3, 255, 256, 257, 258, (UINT64_C(1) << 32) + 1, (UINT64_C(1) << 32) + 2, UINT64_C(1) << 63, UINT64_MAX,
+    };
+    static unsigned char longest[JEMULING_QUESTION_BYTES + 1];
+    size_t bytes = with[limit].bytes;
+    expect("its number", (jemuling_told){ JEMULING_EDITION, 0 }, 19, 0);
+    expect("the editions", (jemuling_told){ JEMULING_FIRST_EDITION, JEMULING_SECOND_EDITION }, 1, 2);
+    expect("edition 0", ANSWER(with[limit].solve_in(0, NULL, 0, NULL, 0, NULL, 0)), JEMULING_EDITION, 0);
+    expect("edition 0, a book", with[limit].check_book_in(0, NULL, 0, NULL, 0), JEMULING_EDITION, 0);
+    expect("edition 0, a sheet", jemuling_check_sheet_in(0, NULL, 0, NULL, 0), JEMULING_EDITION, 0);
+    for (size_t i = 0; i < sizeof unknown / sizeof *unknown; i++) {
+        edition = unknown[i];
+        expect("nothing lent", ANSWER(solve(NULL, 0, NULL, 0, NULL, 0)), JEMULING_EDITION, 0);
+        expect("no book", check_book(NULL, 0, NULL, 0), JEMULING_EDITION, 0);
+        expect("no sheet", check_sheet(NULL, 0, NULL, 0), JEMULING_EDITION, 0);
+        expect("a right book", BOOK(example_7_question, example_7_book), JEMULING_EDITION, 0);
+        expect("a right sheet", SHEET(example_9_question, example_9_sheet), JEMULING_EDITION, 0);
+        expect("a long question, a book", BOOK(longest, example_7_book), JEMULING_EDITION, 0);
+        expect("a long question, a sheet", SHEET(longest, example_9_sheet), JEMULING_EDITION, 0);
+        refuses("a right question", example_7_question, sizeof example_7_question, bytes, JEMULING_SHEET_BYTES, JEMULING_EDITION, 0);
+        refuses("short buffers", example_7_question, sizeof example_7_question, bytes - 1, 63, JEMULING_EDITION, 0);
+        refuses("a long question", longest, sizeof longest, bytes, JEMULING_SHEET_BYTES, JEMULING_EDITION, 0);
+        refuses("two =", double_question, sizeof double_question, bytes, JEMULING_SHEET_BYTES, JEMULING_EDITION, 0);
+    }
+    for (edition = JEMULING_FIRST_EDITION; edition <= JEMULING_SECOND_EDITION; edition++) {
+        expect("nothing lent", ANSWER(solve(NULL, 0, NULL, 0, NULL, 0)), JEMULING_BOOK, 0);
+        expect("no book and question", check_book(NULL, 0, NULL, 0), JEMULING_SHORT, 0);
+        expect("no sheet and question", check_sheet(NULL, 0, NULL, 0), JEMULING_SHORT, 0);
     }
 }
 
 int main(void)
 {
     for (limit = STANDARD; limit < LIMITS; limit++) {
-        right_ones();
-        wrong_ones();
-        wrong_equal_ones();
-        wrong_marks();
-        handing_back();
-        solving();
-        refusing();
-        stopping();
-        long_books();
+        /* the calls that name no edition, and edition 1 by its number */
+        for (edition = 0; edition <= JEMULING_FIRST_EDITION; edition++) {
+            right_ones();
+            wrong_ones();
+            wrong_equal_ones();
+            wrong_marks();
+            handing_back();
+            solving();
+            refusing();
+            stopping();
+            long_books();
+        }
+        negative_share();
+        largest_question();
+        other_editions();
     }
     printf("%d passed, %d failed\n", passed, failed);
     return failed != 0;

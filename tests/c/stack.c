@@ -1,7 +1,7 @@
 /*
  * The stack that each call takes beyond its caller's, measured on the vectors: a call runs on a stack painted before, and the paint that is
  * gone afterwards is counted. Takes the files of the vectors: solve, check_book, check_sheet. README.md and the header say the most, for a
- * preview's calls too.
+ * preview's calls and for those that name an edition, too.
  */
 #define _POSIX_C_SOURCE 200809L
 #include <pthread.h>
@@ -31,7 +31,10 @@ static unsigned char question[JEMULING_QUESTION_BYTES + 1], book[JEMULING_BOOK_B
 static size_t question_length, book_length;
 static jemuling_solved solved;
 static jemuling_told told;
-static size_t taken[LIMITS][CALLS], runs[LIMITS][CALLS];
+/* The calls that name no edition, and those that name one, with the second. */
+enum { UNNAMED, NAMED, NAMINGS };
+static int naming;
+static size_t taken[NAMINGS][LIMITS][CALLS], runs[NAMINGS][LIMITS][CALLS];
 
 static __attribute__((noinline)) void nothing(void)
 {
@@ -46,13 +49,22 @@ static void *called(void *call)
         nothing();
         break;
     case SOLVING:
-        solved = with[limit].solve(question, question_length, book, with[limit].bytes, sheet, sizeof sheet);
+        if (naming == NAMED)
+            solved = with[limit].solve_in(JEMULING_SECOND_EDITION, question, question_length, book, with[limit].bytes, sheet, sizeof sheet);
+        else
+            solved = with[limit].solve(question, question_length, book, with[limit].bytes, sheet, sizeof sheet);
         break;
     case BOOK:
-        told = with[limit].check_book(question, question_length, book, book_length);
+        if (naming == NAMED)
+            told = with[limit].check_book_in(JEMULING_SECOND_EDITION, question, question_length, book, book_length);
+        else
+            told = with[limit].check_book(question, question_length, book, book_length);
         break;
     case SHEET:
-        told = jemuling_check_sheet(question, question_length, sheet, sizeof sheet);
+        if (naming == NAMED)
+            told = jemuling_check_sheet_in(JEMULING_SECOND_EDITION, question, question_length, sheet, sizeof sheet);
+        else
+            told = jemuling_check_sheet(question, question_length, sheet, sizeof sheet);
         break;
     case BACK:
         told = with[limit].hand_back(solved.number, solved.value, book, with[limit].bytes, sheet, sizeof sheet);
@@ -86,10 +98,10 @@ static void measure(int call)
     static const int paints[] = { 0xa5, 0x5a };
     for (size_t i = 0; i < 2; i++) {
         size_t bytes = 8 + left(NOTHING, stack, paints[i]) - left(call, stack, paints[i]);
-        if (bytes > taken[limit][call])
-            taken[limit][call] = bytes;
+        if (bytes > taken[naming][limit][call])
+            taken[naming][limit][call] = bytes;
     }
-    runs[limit][call]++;
+    runs[naming][limit][call]++;
 }
 
 /* Reads a field of hexadecimal digits up to a bar, and goes behind it. */
@@ -136,29 +148,36 @@ static void file(const char *name, int call)
 /* What a call took, and whether it is no more than is said. */
 static int within(int call)
 {
-    size_t bytes = taken[limit][call], times = runs[limit][call];
-    printf("%s%s: %zu bytes of stack in %zu calls, %zu are said\n", said[call].name, with[limit].name, bytes, times, said[call].most);
+    size_t bytes = taken[naming][limit][call], times = runs[naming][limit][call];
+    printf("%s%s%s: %zu bytes of stack in %zu calls, %zu are said\n", said[call].name, with[limit].name,
+           naming == NAMED ? ", edition 2" : "", bytes, times, said[call].most);
     return bytes > 0 && bytes <= said[call].most && times >= 100;
+}
+
+/* Both limits: the check of a sheet has none, handing back no file and no edition. */
+static void measured(int count, char **names, int *passed, int *failed)
+{
+    for (limit = STANDARD; limit < LIMITS; limit++) {
+        for (int call = SOLVING; call < CALLS; call++) {
+            if (call != BACK && call < count && (call != SHEET || limit == STANDARD))
+                file(names[call], call);
+        }
+        for (int call = SOLVING; call < CALLS; call++) {
+            if ((call == SHEET && limit == PREVIEW) || (call == BACK && naming == NAMED))
+                continue;
+            if (within(call))
+                (*passed)++;
+            else
+                (*failed)++;
+        }
+    }
 }
 
 int main(int count, char **names)
 {
     int passed = 0, failed = 0;
-    for (limit = STANDARD; limit < LIMITS; limit++) {
-        for (int call = SOLVING; call < CALLS; call++) {
-            /* the check of a sheet has no limit of lines, and handing back no file */
-            if (call != BACK && call < count && (call != SHEET || limit == STANDARD))
-                file(names[call], call);
-        }
-        for (int call = SOLVING; call < CALLS; call++) {
-            if (call == SHEET && limit == PREVIEW)
-                continue;
-            if (within(call))
-                passed++;
-            else
-                failed++;
-        }
-    }
+    for (naming = UNNAMED; naming < NAMINGS; naming++)
+        measured(count, names, &passed, &failed);
     printf("%d passed, %d failed\n", passed, failed);
     return failed != 0;
 }

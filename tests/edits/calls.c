@@ -40,7 +40,9 @@ static void solve(const struct input *in, FILE *left)
 {
     memset(book, 0xab, sizeof book);
     memset(sheet, 0xcd, sizeof sheet);
-    jemuling_solved s = with[limit].solve(question, in->question, book, in->book, sheet, in->sheet);
+    jemuling_solved s = toupper((int)in->call) == 'T'
+                            ? with[limit].solve_in(in->number, question, in->question, book, in->book, sheet, in->sheet)
+                            : with[limit].solve(question, in->question, book, in->book, sheet, in->sheet);
     printf("%llu %llu %llu %llx %llx", (unsigned long long)s.number, (unsigned long long)s.value, (unsigned long long)s.pairs,
            hash(book, sizeof book), hash(sheet, sizeof sheet));
     told(with[limit].hand_back(s.number, s.value, book, in->book, sheet, in->sheet));
@@ -70,15 +72,24 @@ int main(int argc, char **argv)
         limit = islower((int)in.call) ? PREVIEW : STANDARD;
         switch (toupper((int)in.call)) {
         case 'S':
+        case 'T':
             solve(&in, left);
             break;
         case 'B':
             take(book, sizeof book, in.book, inputs);
             told(with[limit].check_book(question, in.question, book, in.book));
             break;
+        case 'C':
+            take(book, sizeof book, in.book, inputs);
+            told(with[limit].check_book_in(in.number, question, in.question, book, in.book));
+            break;
         case 'M':
             take(sheet, sizeof sheet, in.sheet, inputs);
             told(jemuling_check_sheet(question, in.question, sheet, in.sheet));
+            break;
+        case 'N':
+            take(sheet, sizeof sheet, in.sheet, inputs);
+            told(jemuling_check_sheet_in(in.number, question, in.question, sheet, in.sheet));
             break;
         case 'H':
             told(with[limit].hand_back(in.number, in.lines, book, in.book, sheet, in.sheet));

@@ -9,8 +9,8 @@ MOST = 1_000_000_000
 
 
 class Input:
-    """One call with its arguments: S solves, B checks a book, M a sheet, H hands back; s, b and h are the preview's. Of buffers to write,
-    the lengths alone."""
+    """One call with its arguments: S solves, B checks a book, M a sheet, H hands back; T, C and N do what S, B and M do in the edition that
+    their number names; s, b, h, t and c are the preview's. Of buffers to write, the lengths alone."""
 
     def __init__(self, name, call, question=b"", book=b"", sheet=b"", number=0, lines=0):
         self.name, self.call, self.question = name, call, bytes(question)
@@ -29,6 +29,12 @@ def solving(name, question, book=BOOK + 16, sheet=SHEET + 16):
 def preview(given):
     """The same by the preview's call."""
     return Input(f"preview: {given.name}", given.call.lower(), given.question, given.book, given.sheet, given.number, given.lines)
+
+
+def naming(edition, given):
+    """The same by the call that names an edition."""
+    call = {"S": "T", "B": "C", "M": "N"}[given.call]
+    return Input(f"edition {edition}: {given.name}", call, given.question, given.book, given.sheet, edition)
 
 
 # ---- questions by their parts: a clause is its literals' codes and its constraints, a constraint its relation, coefficients and bound
@@ -70,9 +76,21 @@ def vectors(folder):
     for file in ("base_books.txt", "cheapest_books.txt"):
         for name, asked, book, *_ in rows(f"{folder}/{file}"):
             yield Input(f"book of {file}: {name}", "B", bytes.fromhex(asked), bytes.fromhex(book))
-    for name, asked, given, *_ in rows(f"{folder}/check_sheet.txt"):
-        yield Input(f"sheet: {name}", "M", bytes.fromhex(asked), b"", bytes.fromhex(given))
+    yield from sheets_of(folder)
     yield from buffers_and_parts(folder)
+
+
+def of_editions(folder):
+    """Those of edition 2, and of every edition."""
+    second = f"{folder}/edition_2"
+    for given in (*questions_and_books(second), *sheets_of(second)):
+        yield naming(2, given)
+    for given in questions_and_books(f"{second}/preview"):
+        yield preview(naming(2, given))
+    for row in rows(f"{folder}/editions.txt"):
+        yield naming(int(row[0]), with_buffers(*row[1:5]))
+    for row in rows(f"{folder}/preview/editions.txt"):
+        yield preview(naming(int(row[0]), with_buffers(*row[1:5])))
 
 
 def questions_and_books(folder):
@@ -82,10 +100,19 @@ def questions_and_books(folder):
         yield Input(f"book: {name}", "B", bytes.fromhex(asked), bytes.fromhex(book))
 
 
+def sheets_of(folder):
+    for name, asked, given, *_ in rows(f"{folder}/check_sheet.txt"):
+        yield Input(f"sheet: {name}", "M", bytes.fromhex(asked), b"", bytes.fromhex(given))
+
+
+def with_buffers(start, zeros, book, given):
+    asked = bytes.fromhex(start) + bytes(int(zeros))
+    return solving(f"{len(asked)} bytes, buffers of {book} and {given}", asked, int(book), int(given))
+
+
 def buffers_and_parts(folder):
-    for start, zeros, book, given, *_ in rows(f"{folder}/buffers.txt"):
-        asked = bytes.fromhex(start) + bytes(int(zeros))
-        yield solving(f"{len(asked)} bytes, buffers of {book} and {given}", asked, int(book), int(given))
+    for row in rows(f"{folder}/buffers.txt"):
+        yield with_buffers(*row[:4])
     numbers = {"agrees": 64, "cannot": 65, "unwritten": 66}
     for word, second, third, *rest in rows(f"{folder}/hand_back.txt"):
         number, lines = (numbers[word], second) if word in numbers else (int(second), third)
@@ -275,6 +302,76 @@ def open_marks():
                 yield Input(f"sheet: {b} marks, {name}, {value} at {place}", "M", asked, b"", sheet(marks, 1, []))
 
 
+# ---- by the calls that name an edition
+
+EDITIONS = (0, 1, 2, 3, 19, 255, 256, *(2**bits + edition for bits in (8, 16, 32, 63) for edition in (1, 2)), 2**63, 2**64 - 2, 2**64 - 1)
+
+
+def of_shares():
+    """Questions that edition 2 answers otherwise, or nearly: each figure of so many about 0, alone, beside a mark and in a sum."""
+    for r in range(9):
+        yield f"no clause, {r} figures", question(0, r, [])
+        for i in range(r):
+            unit = [0] * i + [1]
+            for relation in (1, 2, 3, 4):
+                for bound in (-1, 0, 1):
+                    yield f"figure {i} of {r}, relation {relation}, {bound}", question(0, r, [alone(relation, unit, bound)])
+            turned = [-amount for amount in unit]
+            for relation, bound in ((1, 0), (2, 0), (1, -3), (1, 3)):
+                yield f"figure {i} of {r} turned, relation {relation}, {bound}", question(0, r, [alone(relation, turned, bound)])
+            yield f"a or figure {i} of {r} below 0; not a", question(1, r, [([0], [(2, unit, 0)]), ([128], [])])
+        for bound in (-1, 0, 1):
+            yield f"the sum of {r} figures <= {bound}", question(0, r, [alone(1, [1] * r, bound)])
+    # 256 clauses, of which the last needs a negative figure
+    for i in (0, 6, 7):
+        rest = [alone(1, [0, 0, 1, k], 0) for k in range(1, 256)]
+        yield f"256 clauses, figure {i} below 0", question(0, 8, rest + [alone(2, [0] * i + [1], 0)])
+
+
+def editions():
+    """Those questions in both editions, with their sheets and books; and every edition, with what else may be refused."""
+    for name, asked in of_shares():
+        for edition in (1, 2):
+            given = naming(edition, solving(name, asked))
+            yield given
+            yield preview(given)
+    fine = question(0, 1, [alone(1, [1], -1)])
+    asked = {"x <= -1": fine, "no byte": b"", "17 marks": b"\x11", "a tail": fine + b"\0", "32,769 bytes": bytes(32769),
+             "two =": question(0, 1, [([], [(3, [1], 1), (3, [1], 1)])]), "no clause": question(0, 1, [])}
+    book = line(0, 0, 0, 0, 1, 0, 0, [1], -1) + line(0, 0, 1, 0, 1, 0, 0, [-1], 0) + line(1, 0, 0, 1)
+    for edition in EDITIONS:
+        for name, given in asked.items():
+            checks = [Input(f"book: {name}, {len(part)} bytes", "B", given, part) for part in (book, b"", book[:63])]
+            checks += [Input(f"sheet: {name}, {len(part)} bytes", "M", given, b"", part) for part in (sheet([], 1, [-1]), b"", bytes(64))]
+            for check in checks:
+                yield naming(edition, check)
+                if check.call == "B":
+                    yield preview(naming(edition, check))
+            for lent in ((BOOK, SHEET), (BOOK - 1, SHEET), (BOOK, SHEET - 1), (PREVIEW, SHEET), (PREVIEW - 1, SHEET), (0, 0)):
+                solved = naming(edition, solving(f"{name}, buffers of {lent[0]} and {lent[1]}", given, *lent))
+                yield solved
+                yield preview(solved)
+    # the edition's clauses as a book may name them: every number and piece about theirs, with each relation and sign
+    for r in (1, 2, 3, 8):
+        given = question(0, r, [alone(1, [1] * r, -1)])
+        for figure in range(r):
+            for clause in range(r + 3):
+                for piece in (0, 1, 2, 256):
+                    for relation, sign in ((1, -1), (2, -1), (4, 1), (1, 1)):
+                        own = line(0, 0, clause, piece, relation, 0, 0, [0] * figure + [sign], 0)
+                        name = f"book: figure {figure} of {r} as clause {clause}, piece {piece}, relation {relation}, {sign}"
+                        yield naming(2, Input(name, "B", given, own))
+        yield naming(2, Input(f"book: an empty line as clause {r + 1}", "B", given, line(0, 0, r + 1, 0)))
+        # one figure or two about 0
+        for first in range(r):
+            for second in range(first, r):
+                for value in (-1, 0):
+                    numerators = [value if i in (first, second) else 1 for i in range(r)]
+                    for clauses in ([], [alone(1, [1] * r, 9)], [alone(4, [1] * r, 9)]):
+                        name = f"sheet: {r} figures, {len(clauses)} clauses, {numerators}"
+                        yield naming(2, Input(name, "M", question(0, r, clauses), b"", sheet([], 2, numerators)))
+
+
 # ---- by the preview's calls
 
 def previews(folder):
@@ -382,10 +479,14 @@ def left_by(solved, data):
         at += SHEET
 
 
+# the checks of a book and of a sheet, in the edition of what was solved
+CHECKS = {"S": ("B", "M"), "T": ("C", "N")}
+
+
 def books(given, book):
     """A right book; its lines one by one left out, cut behind, their parents exchanged; and every byte one more and one less."""
     def checks(what, changed):
-        return Input(f"book of {given.name}{what}", "B", given.question, bytes(changed))
+        return Input(f"book of {given.name}{what}", CHECKS[given.call][0], given.question, bytes(changed), b"", given.number)
 
     yield checks("", book)
     yield checks(", a byte short", book[:-1])
@@ -405,7 +506,7 @@ def books(given, book):
 
 def sheets(given, right):
     def checks(what, changed):
-        return Input(f"sheet of {given.name}{what}", "M", given.question, b"", bytes(changed))
+        return Input(f"sheet of {given.name}{what}", CHECKS[given.call][1], given.question, b"", bytes(changed), given.number)
 
     yield checks("", right)
     yield checks(", a byte short", right[:-1])
@@ -417,15 +518,17 @@ def sheets(given, right):
 
 
 def damaged(left):
-    """Of short books, and of sheets after "agrees": the first of the vectors, of those with = and >=, and of those with open marks."""
-    most_books, most_sheets = {"": 30, "(i)": 15, "(iv)": 0}, {"": 40, "(i)": 10, "(iv)": 10}
+    """Of short books, and of sheets after "agrees": the first of the vectors, of those with = and >=, of those with open marks, and in
+    edition 2."""
+    most_books = {"": 30, "(i)": 15, "(iv)": 0, "edition 2:": 15, "edition 1:": 0}
+    most_sheets = {"": 40, "(i)": 10, "(iv)": 10, "edition 2:": 15, "edition 1:": 0}
     for given, number, book, right in left:
-        kind = next((kind for kind in ("(i)", "(iv)") if given.name.startswith(f"{kind} ")), "")
+        kind = next((kind for kind in most_books if given.name.startswith(f"{kind} ")), "")
         if number == 65 and 3 * LINE <= len(book) <= 12 * LINE and most_books[kind]:
             most_books[kind] -= 1
             yield from books(given, book)
         if number in (64, 66) and 2 * LINE <= len(book) <= 8 * LINE:
-            yield Input(f"book of {given.name}", "B", given.question, book)
+            yield Input(f"book of {given.name}", CHECKS[given.call][0], given.question, book, b"", given.number)
         if number == 64 and most_sheets[kind]:
             most_sheets[kind] -= 1
             yield from sheets(given, right)

@@ -109,6 +109,8 @@ const REFUSED: &[(&str, At, &str, &str)] = &[
     ("a slice from C", Parameter("jemuling", "jemuling_solve"), "list: &mut [u8], ", "jemuling_solve is lent list: &mut [u8]"),
     ("a slice for a preview", Parameter("jemuling", "jemuling_preview_solve"), "list: &mut [u8], ",
         "jemuling_preview_solve is lent list: &mut [u8]"),
+    ("a slice beside an edition", Parameter("jemuling", "jemuling_solve_in"), "list: &mut [u8], ",
+        "jemuling_solve_in is lent list: &mut [u8]"),
     ("another question", Parameter("solving", "solve_within"), "input: &mut [u8], ", "solve_within is lent input: &mut [u8]"),
     ("a slice in a struct", Items("solving"), "pub struct Planted<'a> { n: u8, list: &'a mut [u8] } pub fn planted(p: Planted) {}",
         "planted is lent p: Planted"),

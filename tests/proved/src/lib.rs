@@ -10,11 +10,29 @@ pub fn solve(question: &[u8], book: &mut [u8], sheet: &mut [u8]) -> Answer {
 
 /// By the call with this limit of lines, if there is one.
 pub fn solve_within(limit: Limit, question: &[u8], book: &mut [u8], sheet: &mut [u8]) -> Answer {
-    let solved = match limit {
+    answer(match limit {
         Limit::STANDARD => jemuling::solve(question, book, sheet),
         Limit::PREVIEW => jemuling::preview::solve(question, book, sheet),
         limit => no_call(limit),
-    };
+    })
+}
+
+/// By the call with this limit that names an edition.
+pub fn solve_in(
+    edition: u64,
+    limit: Limit,
+    question: &[u8],
+    book: &mut [u8],
+    sheet: &mut [u8],
+) -> Answer {
+    answer(match limit {
+        Limit::STANDARD => jemuling::solve_in(edition, question, book, sheet),
+        Limit::PREVIEW => jemuling::preview::solve_in(edition, question, book, sheet),
+        limit => no_call(limit),
+    })
+}
+
+fn answer(solved: jemuling::Solved) -> Answer {
     let pairs = solved.pairs;
     match solved.answer {
         jemuling::Answer::Verdict(verdict, lines) => Answer::Verdict {
@@ -46,8 +64,20 @@ pub fn check_book_within(limit: Limit, question: &[u8], book: &[u8]) -> Checked 
     })
 }
 
+pub fn check_book_in(edition: u64, limit: Limit, question: &[u8], book: &[u8]) -> Checked {
+    checked(match limit {
+        Limit::STANDARD => jemuling::check_book_in(edition, question, book),
+        Limit::PREVIEW => jemuling::preview::check_book_in(edition, question, book),
+        limit => no_call(limit),
+    })
+}
+
 pub fn check_sheet(question: &[u8], sheet: &[u8]) -> Checked {
     checked(jemuling::check_sheet(question, sheet))
+}
+
+pub fn check_sheet_in(edition: u64, question: &[u8], sheet: &[u8]) -> Checked {
+    checked(jemuling::check_sheet_in(edition, question, sheet))
 }
 
 fn checked(checked: jemuling::Checked) -> Checked {

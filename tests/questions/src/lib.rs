@@ -2,6 +2,7 @@
 
 pub mod batches;
 pub mod diamonds;
+pub mod editions;
 pub mod largest;
 pub mod marks;
 pub mod open;

@@ -1,13 +1,15 @@
 //! The check of a book and the check of a sheet, each from the question alone: 01's "What each
 //! call says", from "The check tests question faults" on. A sheet is put to the clauses as written,
-//! with the four relations of 02's (i) and the open marks of (iv).
+//! with the four relations of 02's (i) and the open marks of (iv), and then to those of its edition.
 
+use crate::editions::Edition;
 use crate::elimination::{resolve, Limit, Origin, Step, Variable, STEP_LENGTH};
 use crate::model::{MODEL_LENGTH, OPEN};
 use crate::normalize::{split, Body, ClausePart};
 use crate::problem::{
     read, Clause, Constraint, Fault, Problem, Relation, MAX_AMOUNT, MAX_RATIONALS,
 };
+use crate::FIRST_EDITION;
 
 /// The check's answer: accepted, the first failing line or clause (a book's line count if only
 /// the empty end is missing), or a fault.
@@ -31,7 +33,18 @@ pub fn check_book(question: &[u8], book: &[u8]) -> Checked {
 
 /// The same of a book with another limit of lines.
 pub fn check_book_within(limit: Limit, question: &[u8], book: &[u8]) -> Checked {
-    let problem = match read(question) {
+    check_book_in(FIRST_EDITION, limit, question, book)
+}
+
+/// The problem of an edition, or the first fault, which an unknown edition comes before.
+fn read_in(edition: u64, question: &[u8]) -> Result<Problem, Fault> {
+    let edition = Edition::named(edition)?;
+    Ok(edition.state(read(question)?))
+}
+
+/// The same in the edition with this number.
+pub fn check_book_in(edition: u64, limit: Limit, question: &[u8], book: &[u8]) -> Checked {
+    let problem = match read_in(edition, question) {
         Ok(problem) => problem,
         Err(fault) => return fault.into(),
     };
@@ -105,7 +118,12 @@ struct Model {
 
 /// Checks that every clause, as written, holds under the choice on a sheet.
 pub fn check_sheet(question: &[u8], sheet: &[u8]) -> Checked {
-    let problem = match read(question) {
+    check_sheet_in(FIRST_EDITION, question, sheet)
+}
+
+/// The same in the edition with this number, whose clauses follow those of the question.
+pub fn check_sheet_in(edition: u64, question: &[u8], sheet: &[u8]) -> Checked {
+    let problem = match read_in(edition, question) {
         Ok(problem) => problem,
         Err(fault) => return fault.into(),
     };

@@ -1,10 +1,12 @@
-//! The second solver: document 01 with 02's requests (i), (iii), (iv), (vii) and (viii), written once
-//! more, in plain Rust and from their text alone, to judge the proved one from outside. Every call here
-//! takes any bytes and buffers of any length; one that names no limit of lines takes 1,024.
+//! The second solver: document 01 with 02's requests (i), (iii), (iv), (v), (vii) and (viii), written
+//! once more, in plain Rust and from their text alone, to judge the proved one from outside. Every call
+//! here takes any bytes and buffers of any length; one that names no limit of lines takes 1,024, and one
+//! that names no edition the first.
 
 pub mod big;
 mod checker;
 mod covering;
+mod editions;
 mod elimination;
 mod evidence;
 mod fraction;
@@ -14,15 +16,21 @@ mod print;
 mod problem;
 mod readings;
 
-pub use checker::{check_book, check_book_within, check_sheet, Checked};
+pub use checker::{check_book, check_book_in, check_book_within};
+pub use checker::{check_sheet, check_sheet_in, Checked};
 pub use covering::Dropping;
 pub use elimination::{Limit, Order, Rules, Search};
 pub use evidence::{hand_back, hand_back_within, Part};
 pub use print::print;
 pub use problem::{read, Fault, Problem};
 
+use editions::Edition;
 use elimination::{eliminate, Elimination, End, Step, Variable, STEP_LENGTH};
 use model::{model, MODEL_LENGTH};
+
+/// The edition of a call that names none.
+pub const FIRST_EDITION: u64 = 1;
+pub const SECOND_EDITION: u64 = 2;
 
 /// 01's verdicts: satisfiable, unsatisfiable, and satisfiable without a sheet.
 #[derive(Clone, Copy, Debug, PartialEq, Eq)]
@@ -61,6 +69,22 @@ pub fn solve_within(limit: Limit, question: &[u8], book: &mut [u8], sheet: &mut 
     run.solve(question, book, sheet)
 }
 
+/// The same in the edition with this number: 02's (v).
+pub fn solve_in(
+    edition: u64,
+    limit: Limit,
+    question: &[u8],
+    book: &mut [u8],
+    sheet: &mut [u8],
+) -> Answer {
+    let run = Run {
+        edition,
+        limit,
+        ..Run::TODAY
+    };
+    run.solve(question, book, sheet)
+}
+
 /// The same, with a choice how the line that drops another is looked for.
 pub fn solve_by(search: Search, question: &[u8], book: &mut [u8], sheet: &mut [u8]) -> Answer {
     let run = Run {
@@ -92,10 +116,11 @@ pub fn figures_taken(question: &[u8]) -> Option<Vec<usize>> {
     Some(course.taken.iter().filter_map(figure).collect())
 }
 
-/// How a question is solved: the limit of lines, the rules of the course, and how a line is looked
-/// for.
+/// How a question is solved: the edition that is named, the limit of lines, the rules of the course,
+/// and how a line is looked for.
 #[derive(Clone, Copy)]
 struct Run {
+    edition: u64,
     limit: Limit,
     rules: Rules,
     search: Search,
@@ -103,6 +128,7 @@ struct Run {
 
 impl Run {
     const TODAY: Run = Run {
+        edition: FIRST_EDITION,
         limit: Limit::STANDARD,
         rules: Rules::TODAY,
         search: Search::Plain,
@@ -118,6 +144,10 @@ impl Run {
             place,
             pairs: 0,
         };
+        let edition = match Edition::named(self.edition) {
+            Ok(edition) => edition,
+            Err(Fault { number, place }) => return refused(number, place),
+        };
         let book = match book.get_mut(..self.limit.proof_length()) {
             Some(book) => book,
             None => return refused(1, 0),
@@ -126,7 +156,10 @@ impl Run {
             return refused(2, 0);
         }
         match read(question) {
-            Ok(problem) => answer(&problem, &self.eliminate(&problem), book, sheet),
+            Ok(written) => {
+                let problem = edition.state(written);
+                answer(&problem, &self.eliminate(&problem), book, sheet)
+            }
             Err(Fault { number, place }) => refused(number, place),
         }
     }

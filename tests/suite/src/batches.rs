@@ -1,13 +1,14 @@
 //! Batches and diamonds: the proved code and the second solver give the same answer and leave the
 //! same bytes, a sheet satisfies its batch by the suite's own arithmetic, and the proved checks
 //! accept what a verdict hands back. None of these batches is refused, as README says, and of the
-//! natural and loose ones none by the preview.
+//! natural and loose ones none by the preview. Edition 2 answers them alike.
 
 use crate::buffers::{read_sheet, solve_filled, Solved, BOOK_LENGTH, SHEET_LENGTH};
+use crate::edition_laws::check_question;
 use crate::preview::is_full;
 use crate::report::{demand, equal, Group, Outcome, Sums};
-use crate::solver::Solver;
-use crate::solving::compare_limits;
+use crate::solver::{Solver, BOTH_IN_2};
+use crate::solving::{compare_limits, compare_limits_by};
 use questions::batches::{loose, natural, richer};
 use questions::diamonds::{diamonds, Ways};
 use questions::problem::{Problem, Term};
@@ -21,7 +22,7 @@ const CASES: usize = 300;
 const OFTEN: usize = 60;
 /// So many are solved by earlier rules, too.
 const BEFORE: usize = 30;
-/// One in so many is solved with = and ≥, too.
+/// One in so many is solved with = and ≥, too, and in edition 2.
 const STATED: usize = 3;
 
 /// The rules of version 1.0, and those with 02's (vii) alone.
@@ -77,6 +78,7 @@ fn run_family((name, draw, fewest): Family, sums: &mut Sums) {
             }
             if number % STATED == 0 {
                 stated += usize::from(decide_stated(&problem)?);
+                decide_in_2(&problem, agrees)?;
             }
             Ok(())
         });
@@ -129,6 +131,28 @@ fn decide_stated(problem: &Problem) -> Result<bool, String> {
     joined.expect(&written.answer)?;
     demand(joined.sheet() == written.sheet(), "the sheets differ")?;
     Ok(stated.clauses.iter().flatten().any(Term::is_equal))
+}
+
+/// The batch states that its shares are at least 0, so edition 2 adds nothing, and says and leaves the
+/// same; without these clauses it adds them, and decides alike.
+fn decide_in_2(problem: &Problem, agrees: bool) -> Outcome {
+    let question = problem.encode();
+    let [in_1, in_2] = check_question(&question, 0)?;
+    in_2.expect(&in_1.answer)?;
+    let alike = in_1.book == in_2.book && in_1.sheet == in_2.sheet;
+    demand(alike, "edition 2 leaves other bytes")?;
+    let fewer = problem.without_shares();
+    let shares = problem.clauses.len() - fewer.clauses.len();
+    equal("shares", &usize::from(problem.rationals), &shares)?;
+    let (solved, _) = compare_limits_by(BOTH_IN_2, &fewer.encode(), 0xab)?;
+    match solved.answer {
+        Answer::Verdict { verdict, .. } => equal(
+            "agrees in edition 2",
+            &agrees,
+            &(verdict == Verdict::Agrees),
+        ),
+        answer => Err(format!("undecided in edition 2: {answer:?}")),
+    }
 }
 
 fn satisfies(problem: &Problem, solved: &Solved) -> Outcome {

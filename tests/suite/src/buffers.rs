@@ -104,6 +104,14 @@ pub fn ends_course(number: u8) -> bool {
     matches!(number, 14 | 15)
 }
 
+/// What a verdict says of the question; a refusal says nothing.
+pub fn satisfiable(answer: &Answer) -> Option<bool> {
+    match answer {
+        Answer::Verdict { verdict, .. } => Some(*verdict != Verdict::Cannot),
+        Answer::Refused { .. } => None,
+    }
+}
+
 /// The bytes of a full-size book with this limit of lines.
 pub fn book_length(Limit(lines): Limit) -> usize {
     lines * LINE_LENGTH

@@ -1,13 +1,15 @@
 //! The checks: the proved code and the second solver accept the same books and sheets, and name
 //! the same first line, clause or place where they do not; and so does the preview, of a book that is
-//! not too long for it.
+//! not too long for it. Each is put to both in both editions.
 
 use crate::buffers::{solve_filled, BOOK_LENGTH, LINE_LENGTH, PREVIEW_LENGTH, SHEET_LENGTH};
-use crate::report::{demand, equal, Group, Outcome, Sums};
-use crate::solver::Solver;
+use crate::edition_laws::{books_in_both, sheets_in_both};
+use crate::report::{demand, equal, Group, Sums};
+use crate::solver::BOTH_IN_2;
 use crate::vectors;
+use questions::editions;
 use questions::random::Random;
-use reference::{Answer, Checked, Limit, Verdict};
+use reference::{Answer, Checked, Verdict};
 
 const SEED: u64 = 6;
 const BOOKS: usize = 100_000;
@@ -26,41 +28,36 @@ pub fn run(sums: &mut Sums) {
     check_lengths(sums);
 }
 
-fn compare_book(question: &[u8], book: &[u8]) -> Outcome {
-    let expected = reference::check_book(question, book);
-    equal("check", &expected, &proved::check_book(question, book))?;
-    let expected = match reference::read(question) {
-        Ok(_) if book.len() > PREVIEW_LENGTH => Checked::Refused {
-            number: 16,
-            place: book.len(),
-        },
-        _ => expected,
-    };
-    let checked = proved::check_book_within(Limit::PREVIEW, question, book);
-    equal("check by the preview", &expected, &checked)
-}
+/// Compares a book or a sheet, and tells what is said of it in each edition.
+type Compare = fn(&[u8], &[u8]) -> Result<[Checked; 2], String>;
 
-fn compare_sheet(question: &[u8], sheet: &[u8]) -> Outcome {
-    let expected = reference::check_sheet(question, sheet);
-    equal("check", &expected, &proved::check_sheet(question, sheet))
-}
-
+/// The stored ones of either edition. Accepted, and told apart by the editions, must come of each.
 fn check_vectors(sums: &mut Sums) {
     let mut group = Group::new("checks: the vectors' books and sheets");
-    let compared: [(_, fn(&[u8], &[u8]) -> Outcome); 3] = [
-        ("check_book.txt", compare_book),
-        ("preview/check_book.txt", compare_book),
-        ("check_sheet.txt", compare_sheet),
+    let parts: [(&[&str], Compare); 2] = [
+        (&vectors::BOOKS, books_in_both),
+        (&vectors::SHEETS, sheets_in_both),
     ];
-    for (file, compare) in compared {
-        let parts = vectors::questions_with(file);
-        for (number, part) in parts.iter().enumerate() {
-            group.case(&format!("{file} {number}"), || {
-                let (question, part) = part.as_ref()?;
-                compare(question, part)
-            });
+    for (files, compare) in parts {
+        let (mut accepted, mut apart) = (0, 0);
+        for file in files {
+            let parts = vectors::questions_with(file);
+            for (number, part) in parts.iter().enumerate() {
+                group.case(&format!("{file} {number}"), || {
+                    let (question, part) = part.as_ref()?;
+                    let [in_1, in_2] = compare(question, part)?;
+                    accepted += usize::from([in_1, in_2] == [Checked::Accepted; 2]);
+                    apart += usize::from(in_1 != in_2);
+                    Ok(())
+                });
+            }
+            group.case(file, || demand(!parts.is_empty(), "no case could be read"));
         }
-        group.case(file, || demand(!parts.is_empty(), "no case could be read"));
+        group.case("each comes", || {
+            let often = accepted >= 10 && apart >= 10;
+            let counts = format!("accepted {accepted}, told apart {apart}");
+            demand(often, &format!("of {files:?}: {counts}"))
+        });
     }
     group.finish(sums);
 }
@@ -73,13 +70,18 @@ struct Case {
     verdict: Option<Verdict>,
 }
 
+/// One in three is solved in edition 2.
 fn case(random: &mut Random) -> Case {
-    let problem = random.stated(|random| match random.once_in(10) {
-        true => random.dense_problem(6),
-        false => random.problem(),
-    });
+    let in_2 = random.once_in(3);
+    let problem = match in_2 {
+        true => editions::problem(random),
+        false => random.stated(|random| match random.once_in(10) {
+            true => random.dense_problem(6),
+            false => random.problem(),
+        }),
+    };
     let question = random.doubled(100, problem).encode();
-    let solved = solve_filled(Solver::SECOND, &question);
+    let solved = solve_filled(BOTH_IN_2[0].naming(1 + u64::from(in_2)), &question);
     let verdict = match solved.answer {
         Answer::Verdict { verdict, .. } => Some(verdict),
         Answer::Refused { .. } => None,
@@ -102,19 +104,25 @@ fn check_flipped(random: &mut Random, sums: &mut Sums) {
     });
     let right: Vec<Case> = right.take(FLIPPED).collect();
     group.case("enough books", || equal("books", &FLIPPED, &right.len()));
+    let mut apart = 0;
     for (number, case) in right.iter().enumerate() {
         group.case(&format!("number {number}"), || {
-            let accepted = proved::check_book(&case.question, &case.book);
-            equal("check", &Checked::Accepted, &accepted)?;
+            let [in_1, accepted] = books_in_both(&case.question, &case.book)?;
+            equal("check in edition 2", &Checked::Accepted, &accepted)?;
+            apart += usize::from(in_1 != accepted);
             let mut book = case.book.clone();
             for bit in 0..8 * book.len() {
                 book[bit / 8] ^= 1 << (bit % 8);
-                compare_book(&case.question, &book)?;
+                books_in_both(&case.question, &book)?;
                 book[bit / 8] ^= 1 << (bit % 8);
             }
             Ok(())
         });
     }
+    group.case("of either edition", || {
+        let some = (2..=FLIPPED - 2).contains(&apart);
+        demand(some, &format!("{apart} are accepted in edition 2 alone"))
+    });
     group.finish(sums);
 }
 
@@ -132,8 +140,8 @@ fn check_books(random: &mut Random, sums: &mut Sums) {
             false => &case.question,
         };
         group.case(&format!("number {number}"), || {
-            tally.add(reference::check_book(question, &book));
-            compare_book(question, &book)
+            tally.add(books_in_both(question, &book)?);
+            Ok(())
         });
         other = case;
     }
@@ -232,8 +240,8 @@ fn check_sheets(random: &mut Random, sums: &mut Sums) {
         let mut sheet = case.sheet.clone();
         damage_sheet(random, &mut sheet, &other.sheet);
         group.case(&format!("number {number}"), || {
-            tally.add(reference::check_sheet(&case.question, &sheet));
-            compare_sheet(&case.question, &sheet)
+            tally.add(sheets_in_both(&case.question, &sheet)?);
+            Ok(())
         });
         other = case;
     }
@@ -270,18 +278,19 @@ fn damage_sheet(random: &mut Random, sheet: &mut Vec<u8>, other: &[u8]) {
     }
 }
 
-/// How often each answer came: accepted, fails, refused.
+/// How often each answer came in edition 1: accepted, fails, refused; and in edition 2 another one.
 #[derive(Default)]
-struct Tally([usize; 3]);
+struct Tally([usize; 4]);
 
 impl Tally {
-    fn add(&mut self, checked: Checked) {
-        let answer = match checked {
+    fn add(&mut self, [in_1, in_2]: [Checked; 2]) {
+        let answer = match in_1 {
             Checked::Accepted => 0,
             Checked::Fails(_) => 1,
             Checked::Refused { .. } => 2,
         };
         self.0[answer] += 1;
+        self.0[3] += usize::from(in_1 != in_2);
     }
 
     fn demand_all(&self, group: &mut Group) {
@@ -312,7 +321,7 @@ fn check_lengths(sums: &mut Sums) {
     ] {
         for length in [length, length + 1, length + LINE_LENGTH] {
             group.case(&format!("book of {length} bytes"), || {
-                compare_book(&question, &vec![0; length])
+                books_in_both(&question, &vec![0; length]).map(|_| ())
             });
         }
     }
@@ -322,7 +331,7 @@ fn check_lengths(sums: &mut Sums) {
             if let Some(denominator) = sheet.get_mut(2) {
                 *denominator = 1;
             }
-            compare_sheet(&question, &sheet)
+            sheets_in_both(&question, &sheet).map(|_| ())
         });
     }
     group.finish(sums);

@@ -1,15 +1,18 @@
 //! Random problems: every verdict is judged without the elimination. A sheet must satisfy the
-//! problem by the suite's own arithmetic; after "cannot agree" a search of a grid of assignments
-//! must find none. The checks must accept what solving wrote.
+//! problem by the suite's own arithmetic, with the clauses that its edition adds; after "cannot agree"
+//! a search of a grid of assignments must find none. The checks must accept what solving wrote.
 
 use crate::buffers::{read_sheet, solve_filled, Solved};
 use crate::report::{demand, equal, Outcome, Sums};
 use crate::solver::Solver;
+use questions::editions;
 use questions::problem::{Assignment, Problem};
 use questions::random::Random;
 use reference::{Answer, Checked, Limit, Verdict};
 
 const CASES: usize = 20_000;
+/// In edition 2, of which every other one is drawn for it.
+const CASES_IN_2: usize = 10_000;
 const SEED: u64 = 1;
 
 /// How often each answer came: agrees, cannot agree, unwritten, refused.
@@ -19,13 +22,22 @@ pub fn run(solver: Solver, sums: &mut Sums) {
     let mut group = solver.group("random questions");
     let mut random = Random::new(SEED);
     let mut tally = Tally::default();
-    for number in 0..CASES {
-        let problem = random.stated(Random::problem);
+    let cases = match solver.is_in_2() {
+        true => CASES_IN_2,
+        false => CASES,
+    };
+    for number in 0..cases {
+        let problem = match solver.is_in_2() && number % 2 == 0 {
+            true => editions::small(&mut random),
+            false => random.stated(Random::problem),
+        };
         let name = format!("number {number}");
         group.case(&name, || check_problem(solver, &problem, &mut tally));
     }
+    // in edition 2 most figures are 0, and few are unwritten
+    let least = if solver.is_in_2() { 15 } else { 50 };
     group.case("each answer comes often", || {
-        let often = tally.iter().all(|&count| count >= 50);
+        let often = tally.iter().all(|&count| count >= least);
         demand(often, &format!("answers came {tally:?} times"))
     });
     group.finish(sums);
@@ -33,6 +45,7 @@ pub fn run(solver: Solver, sums: &mut Sums) {
 
 fn check_problem(solver: Solver, problem: &Problem, tally: &mut Tally) -> Outcome {
     let question = problem.encode();
+    let problem = &solver.stated(problem);
     let solved = solve_filled(solver, &question);
     solved.check_buffers()?;
     match solved.answer {
@@ -55,7 +68,7 @@ fn check_problem(solver: Solver, problem: &Problem, tally: &mut Tally) -> Outcom
         }
         Answer::Refused { number, .. } => {
             tally[3] += 1;
-            demand((13..=15).contains(&number), "an unexpected fault")
+            demand(matches!(number, 13..=15 | 18), "an unexpected fault")
         }
     }
 }

@@ -4,15 +4,16 @@
 use crate::buffers::{judged, solve_filled, Solved, LINE_LENGTH, SHEET_LENGTH};
 use crate::report::{demand, equal, Outcome, Sums};
 use crate::solver::Solver;
+use questions::editions;
 use questions::problem::Problem;
 use questions::random::Random;
 use reference::{Answer, Checked, Verdict};
 
 const SEED: u64 = 3;
-/// So many problems of either verdict, fewer for the preview, each with at most so many lines; they
-/// come among the first so many.
+/// So many problems of either verdict, fewer for the preview and in edition 2, each with at most so many
+/// lines; they come among the first so many.
 const PROBLEMS: usize = 200;
-const PREVIEW_PROBLEMS: usize = 20;
+const FEWER_PROBLEMS: usize = 20;
 const TRIED: usize = 20_000;
 const MAX_LINES: usize = 24;
 
@@ -48,8 +49,8 @@ pub fn run(solver: Solver, sums: &mut Sums) {
 }
 
 fn count(solver: Solver) -> usize {
-    match solver.is_preview() {
-        true => PREVIEW_PROBLEMS,
+    match solver.is_preview() || solver.is_in_2() {
+        true => FEWER_PROBLEMS,
         false => PROBLEMS,
     }
 }
@@ -57,7 +58,10 @@ fn count(solver: Solver) -> usize {
 /// Random problems with this verdict and a short book of some lines.
 fn problems(solver: Solver, wanted: Verdict, random: &mut Random) -> Vec<(Problem, Solved)> {
     let solve = || {
-        let problem = random.stated(Random::problem);
+        let problem = match solver.is_in_2() {
+            true => editions::small(random),
+            false => random.stated(Random::problem),
+        };
         let solved = solve_filled(solver, &problem.encode());
         (problem, solved)
     };
@@ -157,9 +161,10 @@ fn forged_end(solver: Solver, question: &[u8], book: &[u8]) -> Outcome {
 /// The check of a sheet must say what the suite's own reading of the sheet says.
 fn damaged_sheet(solver: Solver, problem: &Problem, sheet: &[u8]) -> Outcome {
     let question = problem.encode();
+    let stated = solver.stated(problem);
     equal("length", &SHEET_LENGTH, &sheet.len())?;
     for_each_change(sheet, |_, damaged| {
-        let expected = judged(problem, damaged)?;
+        let expected = judged(&stated, damaged)?;
         equal("check", &expected, &solver.check_sheet(&question, damaged))
     })
 }

@@ -3,14 +3,14 @@
 //! is decided otherwise by them, and the proved checks accept their books and sheets. Books that
 //! the code of either made are among the vectors; most are not ours.
 
-use crate::buffers::{solve_filled, BOOK_LENGTH, SHEET_LENGTH};
+use crate::buffers::{satisfiable, solve_filled, BOOK_LENGTH, SHEET_LENGTH};
 use crate::report::{demand, equal, Group, Sums};
 use crate::solver::{Solver, BOTH};
 use crate::solving::{check_part, question};
 use crate::vectors;
 use questions::random::Random;
 use questions::rows;
-use reference::{Answer, Dropping, Order, Rules, Verdict};
+use reference::{Dropping, Order, Rules};
 
 const SEED: u64 = 9;
 const CASES: usize = 20_000;
@@ -91,7 +91,7 @@ fn compare(rules: Rules, question: &[u8]) -> Result<[bool; 4], String> {
     let now = proved::solve(question, &mut our_book, &mut our_sheet);
     let then = reference::solve_under(rules, question, &mut book, &mut sheet);
     let part = reference::hand_back(&then, &book, &sheet);
-    check_part(question, &then, part)?;
+    check_part(Solver::PROVED, question, &then, part)?;
     let (now, then) = (satisfiable(&now), satisfiable(&then));
     let both = now.is_some() && then.is_some();
     if both {
@@ -103,14 +103,6 @@ fn compare(rules: Rules, question: &[u8]) -> Result<[bool; 4], String> {
         now.is_some() && !both,
         then.is_some() && !both,
     ])
-}
-
-/// What a verdict says of the question; a refusal says nothing.
-fn satisfiable(answer: &Answer) -> Option<bool> {
-    match answer {
-        Answer::Verdict { verdict, .. } => Some(*verdict != Verdict::Cannot),
-        Answer::Refused { .. } => None,
-    }
 }
 
 /// Where the code of these rules wrote a book, the verdict is the same, and most books are others.

@@ -1,7 +1,7 @@
 //! The test program: runs the second solver and the proved code on the examples of document 01, on
-//! the vectors, on random problems and on damaged parts, with both limits of lines, compares the
-//! two, and what the program prints with the second solver. One line for each group; the last line is
-//! the sum.
+//! the vectors, on random problems and on damaged parts, with both limits of lines and in both
+//! editions, compares the two, and what the program prints with the second solver. One line for each
+//! group; the last line is the sum.
 
 mod arbitrary;
 mod batches;
@@ -10,6 +10,10 @@ mod checks;
 mod consistency;
 mod damage;
 mod earlier;
+mod edition_cases;
+mod edition_largest;
+mod edition_laws;
+mod editions;
 mod examples;
 mod integers;
 mod lengths;
@@ -26,14 +30,17 @@ mod vectors;
 mod weaker;
 
 use report::Sums;
+use solver::{BOTH, BOTH_IN_2, PREVIEWS, PREVIEWS_IN_2};
 use std::process::ExitCode;
 
 fn main() -> ExitCode {
     let mut sums = Sums::default();
     integers::run(&mut sums);
     examples::run_printed(&mut sums);
-    for solver in solver::BOTH.into_iter().chain(solver::PREVIEWS) {
+    for solver in BOTH.into_iter().chain(PREVIEWS) {
         examples::run(solver, &mut sums);
+    }
+    for solver in [BOTH, PREVIEWS, BOTH_IN_2, PREVIEWS_IN_2].concat() {
         vectors::run(solver, &mut sums);
         consistency::run(solver, &mut sums);
         damage::run(solver, &mut sums);
@@ -47,6 +54,7 @@ fn main() -> ExitCode {
     weaker::run(&mut sums);
     relations::run(&mut sums);
     open::run(&mut sums);
+    editions::run(&mut sums);
     earlier::run(&mut sums);
     batches::run(&mut sums);
     program::run(&mut sums);

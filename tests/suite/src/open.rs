@@ -11,7 +11,7 @@ use crate::{solving, vectors};
 use questions::open;
 use questions::problem::Problem;
 use questions::random::Random;
-use reference::{Answer, Checked, Verdict};
+use reference::{Answer, Checked, Verdict, SECOND_EDITION};
 
 const SEED: u64 = 13;
 const CASES: usize = 20_000;
@@ -181,6 +181,7 @@ fn run_random(sums: &mut Sums) {
     let mut group = Group::new("open marks: random questions");
     let mut random = Random::new(SEED);
     let mut shown = Shown::default();
+    let mut in_2 = 0;
     for number in 0..CASES {
         let problem = random.stated(open::problem);
         let other = renumbered(&mut random, &problem);
@@ -192,6 +193,7 @@ fn run_random(sums: &mut Sums) {
                 demand(large.sheet == small.sheet, "another sheet of the preview")?;
             }
             compare_renumbered(&problem, &large, &other)?;
+            in_2 += usize::from(check_in_2(&question)?);
             show(&problem, &large, &mut shown);
             Ok(())
         });
@@ -200,7 +202,20 @@ fn run_random(sums: &mut Sums) {
         let often = shown.iter().zip(LEAST).all(|(&came, least)| came >= least);
         demand(often, &format!("they came {shown:?} times"))
     });
+    group.case("in edition 2", || {
+        demand(in_2 >= 2_000, &format!("open marks came {in_2} times"))
+    });
     group.finish(sums);
+}
+
+/// In edition 2, whose clauses have no literal, the same marks are open; whether one is, on a sheet.
+fn check_in_2(question: &[u8]) -> Result<bool, String> {
+    let solved = solve_filled(Solver::PROVED.naming(SECOND_EDITION), question);
+    let agrees = is(&solved.answer, Verdict::Agrees);
+    if agrees {
+        check_open(question, &solved)?;
+    }
+    Ok(agrees && Problem::decode(question).open() > 0)
 }
 
 fn show(problem: &Problem, solved: &Solved, shown: &mut Shown) {

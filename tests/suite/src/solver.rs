@@ -1,8 +1,9 @@
 //! The two implementations under test, with the same calls and the same answers, each with a limit
-//! of lines.
+//! of lines, and by the calls that name an edition or by those that name none.
 
 use crate::report::Group;
-use reference::{Answer, Checked, Limit, Part};
+use questions::problem::Problem;
+use reference::{Answer, Checked, Limit, Part, SECOND_EDITION};
 
 #[derive(Clone, Copy)]
 enum Code {
@@ -10,37 +11,80 @@ enum Code {
     Proved,
 }
 
-/// One of the two, by its calls with this limit.
+/// One of the two, by its calls with this limit, which name this edition, if one.
 #[derive(Clone, Copy)]
 pub struct Solver {
     code: Code,
     pub limit: Limit,
+    edition: Option<u64>,
 }
 
 /// Both with 1,024 lines, and both with 256.
 pub const BOTH: [Solver; 2] = [Solver::SECOND, Solver::PROVED];
-pub const PREVIEWS: [Solver; 2] = [
-    Solver::second(Limit::PREVIEW),
-    Solver::proved(Limit::PREVIEW),
-];
+pub const PREVIEWS: [Solver; 2] = both(Limit::PREVIEW);
+/// The same in edition 2.
+pub const BOTH_IN_2: [Solver; 2] = naming(SECOND_EDITION, Limit::STANDARD);
+pub const PREVIEWS_IN_2: [Solver; 2] = naming(SECOND_EDITION, Limit::PREVIEW);
+
+/// Both with this limit.
+pub const fn both(limit: Limit) -> [Solver; 2] {
+    [Solver::second(limit), Solver::proved(limit)]
+}
+
+/// Both with this limit, by the calls that name an edition, and with this one.
+pub const fn naming(edition: u64, limit: Limit) -> [Solver; 2] {
+    let [second, proved] = both(limit);
+    [second.naming(edition), proved.naming(edition)]
+}
 
 impl Solver {
     pub const SECOND: Solver = Solver::second(Limit::STANDARD);
     pub const PROVED: Solver = Solver::proved(Limit::STANDARD);
 
     pub const fn second(limit: Limit) -> Solver {
-        let code = Code::Second;
-        Solver { code, limit }
+        Solver {
+            code: Code::Second,
+            limit,
+            edition: None,
+        }
     }
 
     /// The proved code, which has calls with 1,024 and 256 lines.
     pub const fn proved(limit: Limit) -> Solver {
-        let code = Code::Proved;
-        Solver { code, limit }
+        Solver {
+            code: Code::Proved,
+            limit,
+            edition: None,
+        }
+    }
+
+    /// The same by the calls that name an edition.
+    pub const fn naming(self, edition: u64) -> Solver {
+        Solver {
+            edition: Some(edition),
+            ..self
+        }
+    }
+
+    /// The same with another limit.
+    pub const fn within(self, limit: Limit) -> Solver {
+        Solver { limit, ..self }
     }
 
     pub fn is_preview(self) -> bool {
         self.limit == Limit::PREVIEW
+    }
+
+    pub fn is_in_2(self) -> bool {
+        self.edition == Some(SECOND_EDITION)
+    }
+
+    /// The problem with all clauses that it has in the edition, those of edition 2 written out.
+    pub fn stated(self, problem: &Problem) -> Problem {
+        match self.is_in_2() {
+            true => problem.with_shares(),
+            false => problem.clone(),
+        }
     }
 
     /// A group of cases that this one runs.
@@ -50,30 +94,47 @@ impl Solver {
             Code::Proved => "proved code",
         };
         let preview = if self.is_preview() { ", preview" } else { "" };
-        Group::new(format!("{name}, {code}{preview}"))
+        let edition = self.edition.map(|edition| format!(", edition {edition}"));
+        let edition = edition.unwrap_or_default();
+        Group::new(format!("{name}, {code}{preview}{edition}"))
     }
 
     pub fn solve(self, question: &[u8], book: &mut [u8], sheet: &mut [u8]) -> Answer {
-        match self.code {
-            Code::Second => reference::solve_within(self.limit, question, book, sheet),
-            Code::Proved => proved::solve_within(self.limit, question, book, sheet),
+        let Solver { limit, edition, .. } = self;
+        match (self.code, edition) {
+            (Code::Second, None) => reference::solve_within(limit, question, book, sheet),
+            (Code::Second, Some(edition)) => {
+                reference::solve_in(edition, limit, question, book, sheet)
+            }
+            (Code::Proved, None) => proved::solve_within(limit, question, book, sheet),
+            (Code::Proved, Some(edition)) => {
+                proved::solve_in(edition, limit, question, book, sheet)
+            }
         }
     }
 
     pub fn check_book(self, question: &[u8], book: &[u8]) -> Checked {
-        match self.code {
-            Code::Second => reference::check_book_within(self.limit, question, book),
-            Code::Proved => proved::check_book_within(self.limit, question, book),
+        let Solver { limit, edition, .. } = self;
+        match (self.code, edition) {
+            (Code::Second, None) => reference::check_book_within(limit, question, book),
+            (Code::Second, Some(edition)) => {
+                reference::check_book_in(edition, limit, question, book)
+            }
+            (Code::Proved, None) => proved::check_book_within(limit, question, book),
+            (Code::Proved, Some(edition)) => proved::check_book_in(edition, limit, question, book),
         }
     }
 
     pub fn check_sheet(self, question: &[u8], sheet: &[u8]) -> Checked {
-        match self.code {
-            Code::Second => reference::check_sheet(question, sheet),
-            Code::Proved => proved::check_sheet(question, sheet),
+        match (self.code, self.edition) {
+            (Code::Second, None) => reference::check_sheet(question, sheet),
+            (Code::Second, Some(edition)) => reference::check_sheet_in(edition, question, sheet),
+            (Code::Proved, None) => proved::check_sheet(question, sheet),
+            (Code::Proved, Some(edition)) => proved::check_sheet_in(edition, question, sheet),
         }
     }
 
+    /// Handing back names no edition.
     pub fn hand_back<'a>(self, answer: &Answer, book: &'a [u8], sheet: &'a [u8]) -> Part<'a> {
         match self.code {
             Code::Second => reference::hand_back_within(self.limit, answer, book, sheet),

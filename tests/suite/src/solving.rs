@@ -1,21 +1,24 @@
 //! Solving: the proved code and the second solver give the same answer and leave the same bytes in
 //! book and sheet; what a verdict hands back, the proved checks accept; and the preview says and
-//! leaves what 02's (iii) makes of it.
+//! leaves what 02's (iii) makes of it. In edition 2 they do the same, and both editions have to do with
+//! each other what 02's (v) says.
 
 use crate::buffers::{ends_course, solve_filled, solve_in, Solved};
 use crate::buffers::{BOOK_LENGTH, LINE_LENGTH, PREVIEW_LENGTH, SHEET_LENGTH};
 use crate::preview::{self, is_full};
 use crate::report::{demand, equal, Group, Outcome, Sums};
-use crate::solver::{Solver, BOTH};
-use crate::{examples, vectors};
+use crate::solver::{both, naming, Solver, BOTH, BOTH_IN_2};
+use crate::{edition_laws, examples, vectors};
 use questions::largest::{self, Kind};
 use questions::problem::{at_most, yes, Problem};
 use questions::random::Random;
-use reference::{Answer, Checked, Limit, Part, Verdict};
+use reference::{Answer, Checked, Limit, Part, Verdict, SECOND_EDITION};
 use std::collections::BTreeMap;
 
 const SEED: u64 = 7;
 const RANDOM: usize = 200_000;
+/// One in so many is solved in edition 2, too.
+const IN_2: usize = 8;
 /// How often each kind of answer must come at least.
 const OFTEN: usize = 20;
 pub const LENGTHS: [usize; 12] = [
@@ -36,9 +39,13 @@ fn filled(length: usize, fill: u8) -> Vec<u8> {
     (0..length).map(|i| (i as u8) ^ fill).collect()
 }
 
-/// Both solve with this limit of lines and these buffers, and must leave them alike.
-fn compare_in(limit: Limit, question: &[u8], book: &[u8], sheet: &[u8]) -> Result<Solved, String> {
-    let (second, proved) = (Solver::second(limit), Solver::proved(limit));
+/// Both solve with these buffers, and must leave them alike.
+fn compare_in(
+    [second, proved]: [Solver; 2],
+    question: &[u8],
+    book: &[u8],
+    sheet: &[u8],
+) -> Result<Solved, String> {
     let theirs = solve_in(second, question, book.to_vec(), sheet.to_vec());
     let ours = solve_in(proved, question, book.to_vec(), sheet.to_vec());
     equal("answer", &theirs.answer, &ours.answer)?;
@@ -47,13 +54,13 @@ fn compare_in(limit: Limit, question: &[u8], book: &[u8], sheet: &[u8]) -> Resul
     let part = second.hand_back(&ours.answer, &theirs.book, &theirs.sheet);
     let our_part = proved.hand_back(&ours.answer, &ours.book, &ours.sheet);
     equal("part", &part, &our_part)?;
-    check_part(question, &ours.answer, part)?;
+    check_part(proved, question, &ours.answer, part)?;
     Ok(ours)
 }
 
-/// What is handed back after a verdict is accepted by the proved checks; by the preview's, too, if it
-/// has no more lines.
-pub fn check_part(question: &[u8], answer: &Answer, part: Part) -> Outcome {
+/// What is handed back after a verdict is accepted by the checks of the proved code; by the preview's,
+/// too, if it has no more lines. A book is then accepted in edition 2, too, and a sheet in edition 1.
+pub fn check_part(proved: Solver, question: &[u8], answer: &Answer, part: Part) -> Outcome {
     let checked = match (answer, part) {
         (
             Answer::Verdict {
@@ -62,13 +69,16 @@ pub fn check_part(question: &[u8], answer: &Answer, part: Part) -> Outcome {
             },
             Part::Book(book),
         ) => {
-            let preview = proved::check_book_within(Limit::PREVIEW, question, book);
+            let preview = proved.within(Limit::PREVIEW).check_book(question, book);
             let expected = match book.len() {
                 0..=PREVIEW_LENGTH => Checked::Accepted,
                 place => Checked::Refused { number: 16, place },
             };
             equal("check by the preview", &expected, &preview)?;
-            proved::check_book(question, book)
+            let proved = proved.within(Limit::STANDARD);
+            let in_2 = proved.naming(SECOND_EDITION).check_book(question, book);
+            equal("check in edition 2", &Checked::Accepted, &in_2)?;
+            proved.check_book(question, book)
         }
         (
             Answer::Verdict {
@@ -76,7 +86,11 @@ pub fn check_part(question: &[u8], answer: &Answer, part: Part) -> Outcome {
                 ..
             },
             Part::Sheet(sheet),
-        ) => proved::check_sheet(question, sheet),
+        ) => {
+            let in_1 = proved::check_sheet(question, sheet);
+            equal("check in edition 1", &Checked::Accepted, &in_1)?;
+            proved.check_sheet(question, sheet)
+        }
         _ => return Ok(()),
     };
     equal("check", &Checked::Accepted, &checked)
@@ -91,20 +105,29 @@ pub fn compare(question: &[u8], fill: u8) -> Result<Answer, String> {
 /// lent a book of either size for, by the fill. The second solver's preview is asked where the answer
 /// with 1,024 lines does not settle it.
 pub fn compare_limits(question: &[u8], fill: u8) -> Result<(Solved, Solved), String> {
+    compare_limits_by(BOTH, question, fill)
+}
+
+/// The same by these two, which have a limit of 1,024 lines.
+pub fn compare_limits_by(
+    solvers: [Solver; 2],
+    question: &[u8],
+    fill: u8,
+) -> Result<(Solved, Solved), String> {
     let (book, sheet) = (
         filled(BOOK_LENGTH + 16, fill),
         filled(SHEET_LENGTH + 16, fill),
     );
-    let large = compare_in(Limit::STANDARD, question, &book, &sheet)?;
+    let large = compare_in(solvers, question, &book, &sheet)?;
     let book = match fill % 4 {
         3 => &book[..],
         _ => &book[..PREVIEW_LENGTH + 16],
     };
-    let small = Solver::proved(Limit::PREVIEW);
-    let small = solve_in(small, question, book.to_vec(), sheet.clone());
+    let previews = solvers.map(|solver| solver.within(Limit::PREVIEW));
+    let small = solve_in(previews[1], question, book.to_vec(), sheet.clone());
     preview::check_limits(&small, &large, book, &sheet)?;
     if is_full(&small.answer) {
-        let theirs = compare_in(Limit::PREVIEW, question, book, &sheet)?;
+        let theirs = compare_in(previews, question, book, &sheet)?;
         small.expect(&theirs.answer)?;
     }
     Ok((large, small))
@@ -115,7 +138,12 @@ fn solve_vectors(sums: &mut Sums) {
     let questions = vectors::questions();
     for (number, question) in questions.iter().enumerate() {
         group.case(&format!("number {number}"), || {
-            compare(question.as_ref()?, 0xab).map(|_| ())
+            let question = question.as_ref()?;
+            compare(question, 0xab)?;
+            compare_limits_by(BOTH_IN_2, question, 0xab)?;
+            // with either limit
+            edition_laws::check_question(question, 0xaa)?;
+            edition_laws::check_question(question, 0xab).map(|_| ())
         });
     }
     group.case("some", || demand(!questions.is_empty(), "no question"));
@@ -132,7 +160,8 @@ fn solve_examples(sums: &mut Sums) {
         group.case(name, || {
             let (large, small) = compare_limits(&question, 0xab)?;
             large.expect(&expected)?;
-            small.expect(&preview)
+            small.expect(&preview)?;
+            compare_limits_by(BOTH_IN_2, &question, 0xab).map(|_| ())
         });
     }
     group.finish(sums);
@@ -147,6 +176,9 @@ fn solve_random(sums: &mut Sums) {
         let question = question(&mut random);
         group.case(&format!("number {number}"), || {
             let (large, small) = compare_limits(&question, number as u8)?;
+            if number % IN_2 == 0 {
+                edition_laws::check_question(&question, (number / IN_2) as u8)?;
+            }
             let preview = is_full(&small.answer).then(|| "15 by the preview".to_string());
             let (answer, lines) = match large.answer {
                 Answer::Verdict { verdict, lines, .. } => (format!("{verdict:?}"), lines),
@@ -248,7 +280,9 @@ fn solve_lengths(sums: &mut Sums) {
                 for limit in [Limit::STANDARD, Limit::PREVIEW] {
                     let name = format!("{name}, {}, {}, {limit:?}", book.len(), sheet.len());
                     group.case(&name, || {
-                        compare_in(limit, &question, &book, &sheet).map(|_| ())
+                        compare_in(both(limit), &question, &book, &sheet)?;
+                        let in_2 = naming(SECOND_EDITION, limit);
+                        compare_in(in_2, &question, &book, &sheet).map(|_| ())
                     });
                 }
             }
@@ -274,13 +308,16 @@ fn solve_largest(sums: &mut Sums) {
         group.case(&format!("{more:?} more"), || {
             let (large, small) = compare_limits(&largest::run(more).encode(), 1)?;
             large.expect(&expected)?;
-            small.expect(&preview::full(pairs))
+            small.expect(&preview::full(pairs))?;
+            compare_limits_by(BOTH_IN_2, &largest::run(more).encode(), 1).map(|_| ())
         });
     }
     group.case("the most lines loaded", solve_loaded);
     for kind in [Kind::Dropped, Kind::Struck, Kind::Equal, Kind::Doubled] {
         group.case(&format!("as long as it may be, {kind:?}"), || {
-            compare(&largest::question(32_768, kind), 1).map(|_| ())
+            let question = largest::question(32_768, kind);
+            compare(&question, 1)?;
+            compare_limits_by(BOTH_IN_2, &question, 1).map(|_| ())
         });
     }
     group.finish(sums);

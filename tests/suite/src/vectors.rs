@@ -11,13 +11,46 @@ use std::path::Path;
 /// The fewest cases that a file has.
 const FEWEST: usize = 20;
 
+/// The files of books and of sheets to check.
+pub const BOOKS: [&str; 6] = [
+    "check_book.txt",
+    "base_books.txt",
+    "cheapest_books.txt",
+    "preview/check_book.txt",
+    "edition_2/check_book.txt",
+    "edition_2/preview/check_book.txt",
+];
+pub const SHEETS: [&str; 2] = ["check_sheet.txt", "edition_2/check_sheet.txt"];
+
 /// The fields of one line.
 type Fields<'a> = [&'a str];
 
-/// Runs all files: the preview those of its own folder, and the others' questions and books, of which it
-/// says what the stored answer comes to.
+/// Runs all files of the edition: the preview those of its own folder, and the others' questions and
+/// books, of which it says what the stored answer comes to.
 pub fn run(solver: Solver, sums: &mut Sums) {
+    match solver.is_in_2() {
+        true => run_in_2(solver, sums),
+        false => run_in_1(solver, sums),
+    }
+}
+
+fn run_in_2(solver: Solver, sums: &mut Sums) {
     if solver.is_preview() {
+        run_file(solver, "edition_2/preview/solve.txt", solve_case, sums);
+        run_file(solver, "edition_2/preview/check_book.txt", book_case, sums);
+        run_file(solver, "edition_2/solve.txt", large_case, sums);
+        run_file(solver, "edition_2/check_book.txt", large_book_case, sums);
+    } else {
+        run_file(solver, "edition_2/solve.txt", solve_case, sums);
+        run_file(solver, "edition_2/check_book.txt", book_case, sums);
+        run_file(solver, "edition_2/check_sheet.txt", sheet_case, sums);
+    }
+}
+
+/// The calls that name no edition; and any edition, by those that name one.
+fn run_in_1(solver: Solver, sums: &mut Sums) {
+    if solver.is_preview() {
+        run_file(solver, "preview/editions.txt", editions_case, sums);
         run_file(solver, "preview/solve.txt", solve_case, sums);
         run_file(solver, "preview/check_book.txt", book_case, sums);
         run_file(solver, "preview/buffers.txt", buffers_case, sums);
@@ -33,6 +66,7 @@ pub fn run(solver: Solver, sums: &mut Sums) {
         run_file(solver, "cheapest_books.txt", book_case, sums);
         run_file(solver, "check_sheet.txt", sheet_case, sums);
         run_file(solver, "buffers.txt", buffers_case, sums);
+        run_file(solver, "editions.txt", editions_case, sums);
         run_file(solver, "hand_back.txt", hand_back_case, sums);
     }
 }
@@ -45,6 +79,7 @@ pub fn questions() -> Vec<Result<Vec<u8>, String>> {
         "check_sheet.txt",
         "preview/solve.txt",
         "preview/check_book.txt",
+        "edition_2/solve.txt",
     ];
     let second = second.into_iter().flat_map(|file| {
         let question = |line: String| bytes(line.split('|').nth(1).ok_or("malformed")?);
@@ -220,6 +255,14 @@ fn buffers_case(solver: Solver, fields: &Fields) -> Outcome {
     let altered = book.iter().chain(&sheet).any(|&byte| byte != 0);
     let faulty = matches!(answer, Answer::Refused { number, .. } if !ends_course(number));
     demand(!(faulty && altered), "a byte of the buffers altered")
+}
+
+/// edition, and the fields of a case of buffers.
+fn editions_case(solver: Solver, fields: &Fields) -> Outcome {
+    match fields {
+        [edition, rest @ ..] => buffers_case(solver.naming(number(edition)?), rest),
+        _ => Err("malformed".into()),
+    }
 }
 
 /// answer, book's length, sheet's length, part of which buffer, its length.
