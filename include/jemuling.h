@@ -66,7 +66,7 @@
  *
  * Beside what it is lent, a call takes stack and no other memory. Beyond its
  * caller's, in bytes as measured on x86-64, solving takes at most 1,664, the
- * check of a book 2,560, the check of a sheet 640, and handing back 64, for a
+ * check of a book 2,560, the check of a sheet 768, and handing back 64, for a
  * preview too. Solving is lent question, book and sheet alone, and holds no
  * array over 1,024 bytes.
  *

@@ -23,7 +23,7 @@ static const struct {
 } said[CALLS] = {
     [SOLVING] = { "solving", 1664 },
     [BOOK] = { "the check of a book", 2560 },
-    [SHEET] = { "the check of a sheet", 640 },
+    [SHEET] = { "the check of a sheet", 768 },
     [BACK] = { "handing back", 64 },
 };
 

@@ -19,8 +19,8 @@ pub fn eliminate(input: &[u8], sizes: Sizes, proof: &mut [u8], terms: Terms) -> 
     requires { ⌜ Readable (now input) sizes ⌝ }
     requires { ⌜ proofBytes (terms .limits) ≤ length (now proof) ⌝ }
     requires { ⌜ terms .limits .steps ≤ mostSteps ⌝ }
-    ensures { λ run. ⌜ Eliminated (terms .limits) (posedAt (terms .edition) (now (input .entry)) sizes) (now (proof .entry)) (now (proof .exit))
-        (run .end) ⌝ }
+    ensures { λ run. ⌜ Eliminated (terms .limits) (posedAt (terms .edition) (now (input .entry)) sizes) (now (proof .entry))
+        (now (proof .exit)) (run .end) ⌝ }
     ensures { λ run. ⌜ variablesOf (run .order)
         ≡ orderAfter (chosenRun (limited (terms .limits)) (posedAt (terms .edition) (now (input .entry)) sizes) .taken) ⌝ }
 {

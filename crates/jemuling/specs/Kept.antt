@@ -5,13 +5,13 @@ use mathlib.Core.List.{List}
 use Prim.Native.Nat.{ℕ, _≤_}
 use Rattle.rules_types.specs.declared.answers.Solved.{Solved}
 use Rattle.rules_types.specs.declared.answers.Checked.{Checked}
-use Rattle.rules_types.specs.declared.answers.Checked.the-variants.{Accepted, Refused}
+use Rattle.rules_types.specs.declared.answers.Checked.the-variants.{Refused}
 use Rattle.rules_types.specs.declared.answers.Evidence.{Evidence}
 use Rattle.rules_types.specs.declared.limits.Limits.{Limits}
 use Rattle.rules_types.specs.declared.answers.Refusal.the-variants.{Edition as EditionRefused}
 use Rattle.rules_types.specs.declared.terms.Edition.{Edition}
 use Rattle.rules_types.specs.declared.terms.Edition.the-variants.{First, Second}
-use Rattle.rules_types.specs.declared.terms.Named.the-variants.{Known}
+use Rattle.rules_types.specs.declared.terms.Named.the-variants.{Known, Unknown}
 use Rattle.rules_types.specs.declared.terms.Terms.{Terms}
 use Rattle.rules_types.specs.Limits as limit
 use Rattle.rules_types.specs.Answers.{refusalNumber, answerNumber, answerValue, checkedNumber, checkedValue, evidenceNumber, evidenceLength}
@@ -116,7 +116,8 @@ pub delivered-in : (limits : Limits) → limits .steps ≤ limit.mostSteps → (
     (told : SolvedTold) (proof model : List ℕ) → AllBytes input → AllBytes proof → AllBytes model
     → told ≡ solvedTold (solveIn limits edition input lentProof lentModel .solved)
     → proof ≡ solveIn limits edition input lentProof lentModel .proof
-    → model ≡ solveIn limits edition input lentProof lentModel .model → DeliveredIn limits edition input lentProof lentModel told proof model
+    → model ≡ solveIn limits edition input lentProof lentModel .model
+    → DeliveredIn limits edition input lentProof lentModel told proof model
 unfolding solvedTold answerNumber answerValue refusalNumber
 delivered-in limits few edition input lentProof lentModel told proof model are lines sheet t b s =
     record {
@@ -152,88 +153,73 @@ delivered-in limits few edition input lentProof lentModel told proof model are l
       s ∙ ap (λ (x : Solving). x .model) is,
     )
 
--- what a check tells in an edition that it knows is not 19, and in every other it is
-module _ (edition : ℕ) (told : Told) (in-edition : Edition → Checked) (says : Checked) (t : told ≡ checkedTold says)
-    (known : (e : Edition) → editionNamed edition ≡ Known e → says ≡ in-edition e)
-    (unknown : Other edition → says ≡ Refused EditionRefused 0)
-    (not-refused : (e : Edition) (place : ℕ) → in-edition e ≡ Refused EditionRefused place → ⊥) where
-  checked-other : Other edition → told ≡ record { number = 19; value = 0 }
+-- what a check says in each edition that a number may name, and of every other number
+record InEditions (edition : ℕ) (told : Told) (in-edition : Edition → Checked) : Type 0 where
+  says : Checked
+  tells : told ≡ checkedTold says
+  known : (e : Edition) → editionNamed edition ≡ Known e → says ≡ in-edition e
+  unknown : editionNamed edition ≡ Unknown → says ≡ Refused EditionRefused 0
+  unrefused : (e : Edition) (place : ℕ) → in-edition e ≡ Refused EditionRefused place → ⊥
+
+module _ {edition : ℕ} {told : Told} {in-edition : Edition → Checked} (k : InEditions edition told in-edition) where
+  told-in : (e : Edition) → editionNamed edition ≡ Known e → told ≡ checkedTold (in-edition e)
+  told-in e h = k .tells ∙ ap checkedTold (k .known e h)
+
+  tells-in : (e : Edition) → editionNamed edition ≡ Known e → TellsChecked told (in-edition e)
+  tells-in e h = subst (λ (x : Told). TellsChecked x (in-edition e)) (sym (told-in e h)) (checked-tells (in-edition e))
+
+  -- 19, and for no other reason
+  other-told : Other edition → told ≡ record { number = 19; value = 0 }
   unfolding checkedTold checkedNumber checkedValue refusalNumber
-  checked-other h = t ∙ ap checkedTold (unknown h)
+  other-told h = k .tells ∙ ap checkedTold (k .unknown (named-other edition h))
 
-  checked-not : (e : Edition) → editionNamed edition ≡ Known e → told .number ≡ 19 → ⊥
+  known-told : (e : Edition) → editionNamed edition ≡ Known e → told .number ≡ 19 → ⊥
   unfolding refusalNumber
-  checked-not e h n = not-refused e (told .value) (sym (known e h)
-      ∙ subst (λ (x : Told). TellsChecked x says) (sym t) (checked-tells says) .refused EditionRefused (told .value) .0 (n, refl))
+  known-told e h n = k .unrefused e (told .value) (tells-in e h .refused EditionRefused (told .value) .0 (n, refl))
 
-  checked-refused : (told .number ≡ 19) ↔ Other edition
-  checked-refused = (
-    λ n. (λ e. checked-not First (named-first edition e) n, λ e. checked-not Second (named-second edition e) n),
-    λ h. ap (λ (x : Told). x .number) (checked-other h),
+  refused-told : (told .number ≡ 19) ↔ Other edition
+  refused-told = (
+    λ n. (λ e. known-told First (named-first edition e) n, λ e. known-told Second (named-second edition e) n),
+    λ h. ap (λ (x : Told). x .number) (other-told h),
   )
-
-  accepted-in : (e : Edition) → editionNamed edition ≡ Known e → told .number ≡ 67 → in-edition e ≡ Accepted
-  accepted-in e h n = sym (known e h) ∙ subst (λ (x : Told). TellsChecked x says) (sym t) (checked-tells says) .accepted .0 n
 
 pub book-checked-in : (limits : Limits) → limits .steps ≤ limit.mostSteps → (edition : ℕ) (input proof : List ℕ) (told : Told)
     → AllBytes input → AllBytes proof → told ≡ checkedTold (proofCheckedIn limits edition input proof)
     → BookCheckedIn limits edition input proof told
 book-checked-in limits few edition input proof told are lines t =
+    let k : InEditions edition told (λ e. proofChecked (on limits e) input proof) = record {
+      says = proofCheckedIn limits edition input proof;
+      tells = t;
+      known = proof-known limits edition input proof;
+      unknown = proof-unknown limits edition input proof;
+      unrefused = λ e. proof-not (on limits e) input are proof;
+    } in
     record {
-      first = λ e. by First (named-first edition e);
-      second = λ e. by Second (named-second edition e);
+      first = λ e. book-checked (on limits First) few input proof told are lines (told-in k First (named-first edition e));
+      second = λ e. book-checked (on limits Second) few input proof told are lines (told-in k Second (named-second edition e));
       editions = editions-of input;
       kept = λ e n. proof-known limits 2 input proof Second (named-second 2 refl)
-          ∙ proof-kept limits input proof few lines (accepted-in edition told in-edition says t known unknown not-in First (named-first edition e) n);
-      refused = checked-refused edition told in-edition says t known unknown not-in;
-      other = checked-other edition told in-edition says t known unknown not-in;
+          ∙ proof-kept limits input proof few lines (tells-in k First (named-first edition e) .accepted .0 n);
+      refused = refused-told k;
+      other = other-told k;
     }
-  where
-    says : Checked
-    says = proofCheckedIn limits edition input proof
-
-    in-edition : Edition → Checked
-    in-edition e = proofChecked (on limits e) input proof
-
-    known : (e : Edition) → editionNamed edition ≡ Known e → says ≡ in-edition e
-    known e h = proof-known limits edition input proof e h
-
-    unknown : Other edition → says ≡ Refused EditionRefused 0
-    unknown h = proof-unknown limits edition input proof (named-other edition h)
-
-    not-in : (e : Edition) (place : ℕ) → in-edition e ≡ Refused EditionRefused place → ⊥
-    not-in e place = proof-not (on limits e) input are proof place
-
-    by : (e : Edition) → editionNamed edition ≡ Known e → BookChecked (on limits e) input proof told
-    by e h = book-checked (on limits e) few input proof told are lines (t ∙ ap checkedTold (known e h))
 
 pub sheet-checked-in : (limits : Limits) (edition : ℕ) (input model : List ℕ) (told : Told) → AllBytes input
     → told ≡ checkedTold (modelCheckedIn limits edition input model) → SheetCheckedIn limits edition input model told
 sheet-checked-in limits edition input model told are t =
+    let k : InEditions edition told (λ e. modelChecked (on limits e) input model) = record {
+      says = modelCheckedIn limits edition input model;
+      tells = t;
+      known = model-known limits edition input model;
+      unknown = model-unknown limits edition input model;
+      unrefused = λ e. model-not (on limits e) input are model;
+    } in
     record {
-      first = λ e. by First (named-first edition e);
-      second = λ e. by Second (named-second edition e);
+      first = λ e. sheet-checked (on limits First) input model told are (told-in k First (named-first edition e));
+      second = λ e. sheet-checked (on limits Second) input model told are (told-in k Second (named-second edition e));
       editions = editions-of input;
       kept = λ e n. model-known limits 1 input model First (named-first 1 refl)
-          ∙ model-kept limits input model (accepted-in edition told in-edition says t known unknown not-in Second (named-second edition e) n);
-      refused = checked-refused edition told in-edition says t known unknown not-in;
-      other = checked-other edition told in-edition says t known unknown not-in;
+          ∙ model-kept limits input model (tells-in k Second (named-second edition e) .accepted .0 n);
+      refused = refused-told k;
+      other = other-told k;
     }
-  where
-    says : Checked
-    says = modelCheckedIn limits edition input model
-
-    in-edition : Edition → Checked
-    in-edition e = modelChecked (on limits e) input model
-
-    known : (e : Edition) → editionNamed edition ≡ Known e → says ≡ in-edition e
-    known e h = model-known limits edition input model e h
-
-    unknown : Other edition → says ≡ Refused EditionRefused 0
-    unknown h = model-unknown limits edition input model (named-other edition h)
-
-    not-in : (e : Edition) (place : ℕ) → in-edition e ≡ Refused EditionRefused place → ⊥
-    not-in e place = model-not (on limits e) input are model place
-
-    by : (e : Edition) → editionNamed edition ≡ Known e → SheetChecked (on limits e) input model told
-    by e h = sheet-checked (on limits e) input model told are (t ∙ ap checkedTold (known e h))

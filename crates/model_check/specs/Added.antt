@@ -88,7 +88,8 @@ module _ (χ : Assignment) (n count : ℕ) (small : count ≤ limit.rationals) w
       let e : count ≡ f = omega arith in
       ap (checkClauses χ (n + f)) (sym (drop-tabulated count nonNegative) ∙ ap (λ (i : ℕ). drop i all) e) ∙ passed f few k
 
-  pub added-fails : (f : ℕ) → f < count → NotBelow (χ .numerators) f → isNegative (χ .numerators f) ≡ true → Fails (n + f) ≡ checkClauses χ n all
+  pub added-fails : (f : ℕ) → f < count → NotBelow (χ .numerators) f → isNegative (χ .numerators f) ≡ true
+      → Fails (n + f) ≡ checkClauses χ n all
   unfolding checkClauses
   added-fails f h k e =
       sym (rw (holds f h ∙ ap not e, checkClauses))

@@ -115,7 +115,8 @@ module _ (p : Problem) where
       clause = nonNegative f;
       at =
           let e : n + f - n ≡ f = omega arith in
-          sym (element-right (p .clauses) more (n + f) (omega arith)) ∙ ap (getElem? more) e ∙ element-tabulate (p .rationals) nonNegative f h;
+          sym (element-right (p .clauses) more (n + f) (omega arith)) ∙ ap (getElem? more) e
+          ∙ element-tabulate (p .rationals) nonNegative f h;
       holds = λ χ. holds-added χ f (omega arith);
       literals = refl;
     }
@@ -260,7 +261,8 @@ module _ (terms : Terms) (input : List ℕ) (are : AllBytes input) where
       read-by q e t (fault f at) d =
           let w = posed-well-formed (terms .edition) input q e in
           let size = nltb→le (length bytes) limit.modelBytes t in
-          let is = model-refusal bytes (posed q .booleans) (posed q .rationals) (isOpen (posed q)) size (w .booleans) (w .rationals) f at d in
+          let is = model-refusal bytes (posed q .booleans) (posed q .rationals) (isOpen (posed q)) size (w .booleans) (w .rationals) f at
+          d in
           other refusal.BadModel at (omega arith) (ap (λ (g : Refusal). Refused g at) (sym is)
           ∙ (rw (e, modelChecked, is-false short t, d) at a))
       read-by q e t (got χ rest at) d =
@@ -304,7 +306,8 @@ module _ (limits : Limits) (n : ℕ) (input : List ℕ) where
     solve-unknown h = rw (h, solveIn)
 
   module _ (bytes : List ℕ) where
-    pub proof-known : (e : Edition) → editionNamed n ≡ Known e → proofCheckedIn limits n input bytes ≡ proofChecked (on limits e) input bytes
+    pub proof-known : (e : Edition) → editionNamed n ≡ Known e
+        → proofCheckedIn limits n input bytes ≡ proofChecked (on limits e) input bytes
     unfolding proofCheckedIn
     proof-known e h = rw (h, proofCheckedIn)
 
@@ -312,7 +315,8 @@ module _ (limits : Limits) (n : ℕ) (input : List ℕ) where
     unfolding proofCheckedIn
     proof-unknown h = rw (h, proofCheckedIn)
 
-    pub model-known : (e : Edition) → editionNamed n ≡ Known e → modelCheckedIn limits n input bytes ≡ modelChecked (on limits e) input bytes
+    pub model-known : (e : Edition) → editionNamed n ≡ Known e
+        → modelCheckedIn limits n input bytes ≡ modelChecked (on limits e) input bytes
     unfolding modelCheckedIn
     model-known e h = rw (h, modelCheckedIn)
 

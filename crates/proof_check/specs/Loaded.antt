@@ -136,7 +136,8 @@ module _ (edition : Edition) {q : List ℕ} {sizes : Sizes} (read : Readable q s
       (few-added edition (sizes .rationals) (read .parsed .rationals))) (omega arith)
 
   -- behind the written clauses
-  pub loaded-behind : sizes .clauses ≤ clause bytes → lineAmong (loadableOf (posedAt edition q sizes)) bytes ≡ addedStated edition sizes bytes
+  pub loaded-behind : sizes .clauses ≤ clause bytes
+      → lineAmong (loadableOf (posedAt edition q sizes)) bytes ≡ addedStated edition sizes bytes
   loaded-behind h =
       let base = sizes .booleans + splitsIn (allClauses q sizes) in
       among-clauses

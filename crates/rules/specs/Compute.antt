@@ -14,7 +14,8 @@ use Rattle.rules_types.specs.Terms.{standard, editionNamed}
 use Rattle.rules.specs.Lists.{any, all, filter, concat, same, tabulate, put}
 use Rattle.rules.specs.Arithmetic.{gcdWithin, gcd, gcdAll, lcm, sum, scale, combine, related, isPositive, isNegative, isZero, equal}
 use Rattle.rules.specs.Bytes.{toBytes, fromBytes, fromUnsigned, toUnsigned, amountBytes, fieldAt, padded}
-use Rattle.rules.specs.Problem.{nonNegative, added, after, repeat, each, byte, number, tested, field, inRange, amount, literal, clause, end}
+use Rattle.rules.specs.Problem.{nonNegative, added}
+use Rattle.rules.specs.Problem.{after, repeat, each, byte, number, tested, field, inRange, amount, literal, clause, end}
 use Rattle.rules.specs.Problem.{problem, isRelation, relationOf, isEquality, relation, comparison, comparisons}
 use Rattle.rules.specs.Meaning.{literalHolds, compared, comparisonHolds, constraintHolds, clauseHolds}
 use Rattle.rules.specs.Lines.{noBooleans, including, excluding, union, meet, someYes, aLiteralHolds, theConstraintHolds, lineHolds}
@@ -45,7 +46,8 @@ use Rattle.rules.specs.Needs.{stepsOf, pairsOf, needs, listed, triedReso
 -- `unfolding definitions` lets a theorem compute
 unfoldable abbrev pub definitions : Unit {0}
 unfolding any all filter concat same tabulate put gcdWithin gcd gcdAll lcm sum scale combine related isPositive isNegative isZero equal
-    toBytes fromBytes fromUnsigned toUnsigned amountBytes fieldAt padded nonNegative added after repeat each byte number tested field inRange amount literal
+    toBytes fromBytes fromUnsigned toUnsigned amountBytes fieldAt padded nonNegative added after repeat each byte number tested field
+    inRange amount literal
     isRelation relationOf isEquality relation comparison comparisons clause end problem literalHolds compared comparisonHolds
     constraintHolds clauseHolds isStrict turns signed readAs reading hasEquality readings readingParts readingSplits allParts
     allSplits noBooleans including excluding union meet someYes aLiteralHolds
@@ -59,7 +61,8 @@ unfolding any all filter concat same tabulate put gcdWithin gcd gcdAll lcm sum s
     derived variableNamed resolventNamed lineAmong statedLine followed followedLines endsEmpty withEmptyEnd checkProof checkClauses
     withinSplits read noModel
     concluded outcome lent said proofAfter modelAfter solve wholeSteps proofChecked modelChecked editionNamed solveIn proofCheckedIn
-    modelCheckedIn evidence evidenceBytes ascii digitsWithin decimal signedDecimal printLine printStep printProof printModel printRefusal printed stepsOf pairsOf needs listed triedResolvents
+    modelCheckedIn evidence evidenceBytes ascii digitsWithin decimal signedDecimal printLine printStep printProof printModel
+    printRefusal printed stepsOf pairsOf needs listed triedResolvents
     roundResolvents resolvents refusalNumber verdictNumber answerNumber answerValue checkedNumber checkedValue evidenceNumber
     evidenceLength
 definitions = tt

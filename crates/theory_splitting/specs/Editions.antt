@@ -217,7 +217,8 @@ loadable-added c k n few = one-each c k n nonNegative nonNegativeLine (λ k f h.
         rw (h k 0 (omega arith), z 0 (omega arith))
         ((λ i. record { origin = loaded (e i) 0; line = l 0 } ∷ one-each (suc c) (k + 0) n (λ f. g (suc f)) (λ f. l (suc f))
         (λ k f t. h k (suc f) (omega arith)) (λ f t. z (suc f) (omega arith)) i)
-        ∙ (λ i. record { origin = loaded (c + 0) 0; line = l 0 } ∷ tabulate n (λ f. record { origin = loaded (shift f i) 0; line = l (suc f) })))
+        ∙ (λ i. record { origin = loaded (c + 0) 0; line = l 0 }
+        ∷ tabulate n (λ f. record { origin = loaded (shift f i) 0; line = l (suc f) })))
       where
         shift : (f : ℕ) → suc c + f ≡ c + suc f
         shift f = omega arith

@@ -55,7 +55,8 @@ admit-requires c κs =
       i .before .loop .inv .leads .standing,
       (
         n .non-negative .ensures .1,
-        rw (o .loaded .ensures) (named-loaded (s .args .n + i .before .loop .f) 0 (omega (arith, i .loop-test .taken, s .pre .0)) (omega arith)),
+        rw (o .loaded .ensures)
+            (named-loaded (s .args .n + i .before .loop .f) 0 (omega (arith, i .loop-test .taken, s .pre .0)) (omega arith)),
       ),
     )
 

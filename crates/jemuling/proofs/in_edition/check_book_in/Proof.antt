@@ -30,8 +30,8 @@ returns c =
     let other = k .before in
     let input = other .before in
     let start = input .before in
-    let e = c .checked-told .ensures ∙ ap checkedTold (sym (proof-unknown (start .args .limits) (start .args .edition) (start .args .input .now)
-    (start .args .proof .now) (sym (k .named .ensures) ∙ c .before .enum-told .given .1))) in (
+    let e = c .checked-told .ensures ∙ ap checkedTold (sym (proof-unknown (start .args .limits) (start .args .edition)
+    (start .args .input .now) (start .args .proof .now) (sym (k .named .ensures) ∙ c .before .enum-told .given .1))) in (
       e,
       book-checked-in (start .args .limits) (start .pre) _ _ _ _
           (all-bytes (start .args .input .now) (λ i. omega (arith, input .shared-slice-known .given i)))
@@ -44,8 +44,8 @@ returns-2 c =
     let other = k .before in
     let input = other .before in
     let start = input .before in
-    let e = c .check-book-on .ensures .0 ∙ ap checkedTold (sym (proof-known (start .args .limits) (start .args .edition) (start .args .input .now)
-    (start .args .proof .now) _ (sym (k .named .ensures) ∙ c .before .before .named2 .given .1))) in (
+    let e = c .check-book-on .ensures .0 ∙ ap checkedTold (sym (proof-known (start .args .limits) (start .args .edition)
+    (start .args .input .now) (start .args .proof .now) _ (sym (k .named .ensures) ∙ c .before .before .named2 .given .1))) in (
       e,
       book-checked-in (start .args .limits) (start .pre) _ _ _ _
           (all-bytes (start .args .input .now) (λ i. omega (arith, input .shared-slice-known .given i)))

@@ -30,8 +30,8 @@ returns c =
     let other = k .before in
     let input = other .before in
     let start = input .before in
-    let e = c .checked-told .ensures ∙ ap checkedTold (sym (model-unknown (start .args .limits) (start .args .edition) (start .args .input .now)
-    (start .args .model .now) (sym (k .named .ensures) ∙ c .before .enum-told .given .1))) in (
+    let e = c .checked-told .ensures ∙ ap checkedTold (sym (model-unknown (start .args .limits) (start .args .edition)
+    (start .args .input .now) (start .args .model .now) (sym (k .named .ensures) ∙ c .before .enum-told .given .1))) in (
       e,
       sheet-checked-in (start .args .limits) _ _ _ _
           (all-bytes (start .args .input .now) (λ i. omega (arith, input .shared-slice-known .given i))) e,
@@ -43,8 +43,8 @@ returns-2 c =
     let other = k .before in
     let input = other .before in
     let start = input .before in
-    let e = c .check-sheet-on .ensures .0 ∙ ap checkedTold (sym (model-known (start .args .limits) (start .args .edition) (start .args .input .now)
-    (start .args .model .now) _ (sym (k .named .ensures) ∙ c .before .before .named2 .given .1))) in (
+    let e = c .check-sheet-on .ensures .0 ∙ ap checkedTold (sym (model-known (start .args .limits) (start .args .edition)
+    (start .args .input .now) (start .args .model .now) _ (sym (k .named .ensures) ∙ c .before .before .named2 .given .1))) in (
       e,
       sheet-checked-in (start .args .limits) _ _ _ _
           (all-bytes (start .args .input .now) (λ i. omega (arith, input .shared-slice-known .given i))) e,

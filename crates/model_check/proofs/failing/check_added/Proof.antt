@@ -75,7 +75,8 @@ unfolding assignment
 returns-2 c =
     let s = c .before .before .before in
     let l = c .before .loop in
-    added-done (assignment (s .args .model)) (s .args .n) (s .args .count) (s .pre .1 .0) (l .f) (l .inv .0) (c .loop-test .left) (l .inv .1)
+    added-done (assignment (s .args .model)) (s .args .n) (s .args .count) (s .pre .1 .0) (l .f) (l .inv .0) (c .loop-test .left)
+    (l .inv .1)
 
 pub check-added-spec : {M : Type 1} → statement M
 check-added-spec =

@@ -41,12 +41,14 @@ line-stated-requires c κs =
 -- what step i states
 stated : (c : tie.After-line-stated Inv-loop μ-loop) → let l = c .before .before .before .loop in let a =
     start (c .before .before .before) .args in
-    States (statedLine (loadableOf (posedAt (a .edition) (a .input .now) (a .sizes))) (linesIn (a .proof .now) (l .i)) (stepAt (a .proof .now) (l .i)))
+    States (statedLine (loadableOf (posedAt (a .edition) (a .input .now) (a .sizes))) (linesIn (a .proof .now) (l .i))
+    (stepAt (a .proof .now) (l .i)))
     (stepAt (a .proof .now) (l .i)) (c .line-stated .result)
 stated c =
     let l = c .before .before .before .loop in
     let a = start (c .before .before .before) .args in
-    subst (λ (b : List ℕ). States (statedLine (loadableOf (posedAt (a .edition) (a .input .now) (a .sizes))) (linesIn (a .proof .now) (l .i)) b) b
+    subst (λ (b : List ℕ). States (statedLine (loadableOf (posedAt (a .edition) (a .input .now) (a .sizes)))
+    (linesIn (a .proof .now) (l .i)) b) b
     (c .line-stated .result)) (c .before .get .ensures) (c .line-stated .ensures)
 
 returns : tie.Need-returns Inv-loop μ-loop
