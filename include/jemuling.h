@@ -60,9 +60,9 @@
  * and jemuling_preview_hand_back, which differ from the others in that number
  * alone. Of a longer buffer a preview writes the first 16,384 bytes, and keeps
  * the rest. A verdict of the preview, or JEMULING_WIDE, is also what
- * jemuling_solve says of the question in the same edition, with the same lines,
- * pairs, sheet and lines of the book; where 256 lines are not enough, the
- * preview says JEMULING_FULL, and its caller may turn to jemuling_solve.
+ * jemuling_solve says of the question, or jemuling_solve_in in the same edition,
+ * with the same lines, pairs, sheet and lines of the book; where 256 lines are
+ * not enough, the preview says JEMULING_FULL, and its caller may turn to them.
  *
  * Beside what it is lent, a call takes stack and no other memory. Beyond its
  * caller's, in bytes as measured on x86-64, solving takes at most 1,664, the
@@ -159,7 +159,7 @@ typedef struct {
     size_t value;
 } jemuling_told;
 
-/* The same for solving, with the pairs of lines that it tried; 0 pairs where it refuses a question or a buffer. */
+/* The same for solving, with the pairs of lines that it tried; 0 pairs where it refuses a question, a buffer or an edition. */
 typedef struct {
     uint64_t number;
     size_t value;
