@@ -10,7 +10,7 @@ use Rattle.rules_types.specs.declared.answers.Solved.{Solved}
 use Rattle.rules_types.specs.Limits as limit
 use Rattle.rules_types.specs.Answers.{verdictNumber}
 use Rattle.rules.specs.Print.{ascii, decimal, printLine, printModel, printRefusal}
-use Rattle.jemuling.specs.Evidence.{handedBack}
+use Rattle.handing_back.specs.Evidence.{handedBack}
 use Rattle.printing.specs.Room.{countsRoom, proofRoom}
 use Rattle.printing.specs.Texts.{proofText, Printable}
 

@@ -33,7 +33,7 @@ use Rattle.theory_splitting.specs.WellRead.{posed-well-formed}
 use Rattle.theory_splitting.specs.WellFormed.{WellFormed}
 use Rattle.theory_elimination.specs.OfProblem.{elimination-held}
 use Rattle.theory_checks.specs.Writable.{elimination-writable}
-use Rattle.jemuling.specs.Evidence.{refused, handedBack, part-model, part-proof}
+use Rattle.handing_back.specs.Evidence.{refused, handedBack, part-model, part-proof}
 use Rattle.printing.specs.Texts.{Printable}
 use Rattle.answer_text.specs.Encoded.{Numbered, proof-text}
 use Rattle.answer_text.specs.Written.{written-printable}

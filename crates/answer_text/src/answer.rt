@@ -1,5 +1,5 @@
 // The text of an answer: the verdict's line or the refusal's, and what follows it.
-use jemuling::evidence::hand_back;
+use handing_back::evidence::hand_back;
 use jemuling::told::verdict_number;
 use printing::counts::put_counts;
 use printing::counts::put_refusal;

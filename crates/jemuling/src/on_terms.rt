@@ -1,10 +1,10 @@
 // What a call does on any terms, the number of lines and the edition: one body for every caller.
-use crate::evidence::evidence;
 use crate::told::SolvedTold;
 use crate::told::Told;
 use crate::told::checked_told;
 use crate::told::evidence_told;
 use crate::told::solved_told;
+use handing_back::evidence::evidence;
 use model_check::check::check_model;
 use proof_check::check::check_proof;
 use rules_types::limits::Limits;

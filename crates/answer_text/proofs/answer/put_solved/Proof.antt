@@ -3,7 +3,7 @@ use mathlib.Core.Path.{_≡_, sym, subst, _∙_}
 use borrow.Author.Needs.{needs}
 use Rattle.rules_types.specs.Limits.{standard}
 use Rattle.rules_types.specs.Answers.{verdictNumber}
-use Rattle.jemuling.specs.Evidence.{handedBack}
+use Rattle.handing_back.specs.Evidence.{handedBack}
 use Rattle.answer_text.specs.Answers.{Handed, ReadyAnswer}
 use Rattle.answer_text.proofs.answer.put_solved.Statement.{statement}
 use Rattle.answer_text.proofs.answer.put_solved.Tie as tie

@@ -1,9 +1,9 @@
 -- `evidence::hand_back` meets its contract: the part lies within its buffer. Assumes nothing.
 use mathlib.Core.Path.{sym, subst, _∙_}
-use Rattle.jemuling.specs.Evidence.{Within, part-within, proof-bytes, model-bytes}
+use Rattle.handing_back.specs.Evidence.{Within, part-within, proof-bytes, model-bytes}
 use borrow.Author.Needs.{needs}
-use Rattle.jemuling.proofs.evidence.hand_back.Statement.{statement}
-use Rattle.jemuling.proofs.evidence.hand_back.Tie as tie
+use Rattle.handing_back.proofs.evidence.hand_back.Statement.{statement}
+use Rattle.handing_back.proofs.evidence.hand_back.Tie as tie
 
 -- the part that was found, within its buffer
 within : (a : tie.After-evidence) → let s = a .before .before .before in

@@ -4,7 +4,7 @@ use rules_types::answers::Verdict;
 use rules_types::limits::Limits;
 ghost use mathlib.Core.Path.{_≡_};
 ghost use Rattle.rules.specs.Calls.{evidence};
-ghost use Rattle.jemuling.specs.Evidence.{refused, handedBack};
+ghost use Rattle.handing_back.specs.Evidence.{refused, handedBack};
 
 // Whether a buffer is too short or the steps are too many: then nothing is handed back.
 fn refused(limits: Limits, steps: usize, proof: &[u8], model: &[u8]) -> bool

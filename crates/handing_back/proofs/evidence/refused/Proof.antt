@@ -4,9 +4,9 @@ use borrow.Author.Needs.{needs}
 use borrow.Author.Tests.{lt-ltb, le-ltb}
 use lib.ListN.{length}
 use Rattle.rules_types.specs.Limits as limit
-use Rattle.jemuling.specs.Evidence.{refused}
-use Rattle.jemuling.proofs.evidence.refused.Statement.{statement}
-use Rattle.jemuling.proofs.evidence.refused.Tie as tie
+use Rattle.handing_back.specs.Evidence.{refused}
+use Rattle.handing_back.proofs.evidence.refused.Statement.{statement}
+use Rattle.handing_back.proofs.evidence.refused.Tie as tie
 
 proof-bytes-requires : tie.Need-proof-bytes-requires
 proof-bytes-requires c κs = search needs

@@ -4,9 +4,9 @@ use mathlib.Core.Bool.{false}
 use native.Mathlib.Omega.{arith}
 use borrow.Author.Tests.{eq-eqb, ne-eqb}
 use borrow.Author.Needs.{needs}
-use Rattle.jemuling.specs.Evidence.{refused, part-refused, part-model, part-proof, part-none, full}
-use Rattle.jemuling.proofs.evidence.evidence.Statement.{statement}
-use Rattle.jemuling.proofs.evidence.evidence.Tie as tie
+use Rattle.handing_back.specs.Evidence.{refused, part-refused, part-model, part-proof, part-none, full}
+use Rattle.handing_back.proofs.evidence.evidence.Statement.{statement}
+use Rattle.handing_back.proofs.evidence.evidence.Tie as tie
 
 refused-requires : tie.Need-refused-requires
 refused-requires c κs = search needs
