@@ -9,6 +9,7 @@ use Rattle.rules_types.specs.declared.answers.Refusal.{Refusal}
 use Rattle.rules_types.specs.declared.answers.Refusal.the-variants.{ShortProof, ShortModel, LongProblem, Truncated, Booleans, Rationals}
 use Rattle.rules_types.specs.declared.answers.Refusal.the-variants.{Clauses, Literal, Comparisons, Relation, Amount, Trailing, Splits}
 use Rattle.rules_types.specs.declared.answers.Refusal.the-variants.{Overflow, OutOfSteps, ProofLength, BadModel, SecondEquality, Edition}
+use Rattle.rules_types.specs.declared.answers.Refusal.the-variants.{SplitRationals, OutputSpace, CarriedRange}
 use Rattle.rules_types.specs.declared.answers.Verdict.{Verdict}
 use Rattle.rules_types.specs.declared.answers.Verdict.the-variants.{Satisfiable, Unsatisfiable, Unwritten}
 use Rattle.rules_types.specs.declared.answers.Answer.{Answer}
@@ -16,16 +17,21 @@ use Rattle.rules_types.specs.declared.answers.Answer.the-variants.{Decided, Ref
 use Rattle.rules_types.specs.declared.answers.Checked.{Checked}
 use Rattle.rules_types.specs.declared.answers.Checked.the-variants as checked
 use Rattle.rules_types.specs.declared.answers.Evidence.{Evidence}
+use Rattle.rules_types.specs.declared.answers.Converted.{Converted}
+use Rattle.rules_types.specs.declared.answers.Converted.the-variants as converted
+use Rattle.rules_types.specs.declared.answers.Carried.{Carried}
+use Rattle.rules_types.specs.declared.answers.Carried.the-variants as carried
 use Rattle.rules_types.specs.declared.answers.Evidence.the-variants.{OfProof, OfModel}
 use Rattle.rules_types.specs.Answers.{refusalNumber, verdictNumber, answerNumber, checkedNumber, checkedValue, evidenceNumber}
-use Rattle.rules_types.specs.Answers.{evidenceLength}
+use Rattle.rules_types.specs.Answers.{evidenceLength, convertedNumber, convertedValue, carriedNumber, carriedValue}
 use Rattle.promises.specs.Words.{Comes, IsRefused}
 
 -- ---- refusals have different numbers: the refusal comes back from its number
 refusals : List Refusal
 refusals =
     ShortProof ∷ ShortModel ∷ LongProblem ∷ Truncated ∷ Booleans ∷ Rationals ∷ Clauses ∷ Literal ∷ Comparisons ∷ Relation ∷ Amount
-    ∷ Trailing ∷ Splits ∷ Overflow ∷ OutOfSteps ∷ ProofLength ∷ BadModel ∷ SecondEquality ∷ Edition ∷ []
+    ∷ Trailing ∷ Splits ∷ Overflow ∷ OutOfSteps ∷ ProofLength ∷ BadModel ∷ SecondEquality ∷ Edition ∷ SplitRationals ∷ OutputSpace ∷
+    CarriedRange ∷ []
 
 refusalOf : ℕ → Refusal
 refusalOf n = getD refusals (n - 1) SecondEquality
@@ -51,6 +57,9 @@ refusal-back ProofLength = refl
 refusal-back BadModel = refl
 refusal-back SecondEquality = refl
 refusal-back Edition = refl
+refusal-back SplitRationals = refl
+refusal-back OutputSpace = refl
+refusal-back CarriedRange = refl
 
 pub refusals-differ : (f g : Refusal) → refusalNumber f ≡ refusalNumber g → f ≡ g
 refusals-differ f g e = sym (refusal-back f) ∙ ap refusalOf e ∙ refusal-back g
@@ -77,6 +86,9 @@ refusal-below ProofLength = omega arith
 refusal-below BadModel = omega arith
 refusal-below SecondEquality = omega arith
 refusal-below Edition = omega arith
+refusal-below SplitRationals = omega arith
+refusal-below OutputSpace = omega arith
+refusal-below CarriedRange = omega arith
 
 verdict-above : (v : Verdict) → 64 ≤ verdictNumber v
 unfolding verdictNumber
@@ -149,3 +161,39 @@ of-model-exactly e n = (by e, λ h. (ap evidenceNumber h, ap evidenceLength h))
     by : (e : Evidence) → (evidenceNumber e ≡ 70) × (evidenceLength e ≡ n) → e ≡ OfModel n
     by (OfProof m) h = absurd (omega (arith, h .0))
     by (OfModel m) h = ap OfModel (h .1)
+
+-- ---- of converting: the new problem's length, a refusal with its place
+pub length-exactly : (c : Converted) (n : ℕ) → ((convertedNumber c ≡ 71) × (convertedValue c ≡ n)) ↔ (c ≡ converted.Length n)
+unfolding convertedNumber convertedValue
+length-exactly c n = (by c, λ e. (ap convertedNumber e, ap convertedValue e))
+  where
+    by : (c : Converted) → (convertedNumber c ≡ 71) × (convertedValue c ≡ n) → c ≡ converted.Length n
+    by (converted.Length m) e = ap converted.Length (e .1)
+    by (converted.Refused f p) e = absurd (omega (arith, refusal-below f, e .0))
+
+pub unconverted-exactly : (c : Converted) (f : Refusal) (place : ℕ)
+    → ((convertedNumber c ≡ refusalNumber f) × (convertedValue c ≡ place)) ↔ (c ≡ converted.Refused f place)
+unfolding convertedNumber convertedValue
+unconverted-exactly c f place = (by c, λ e. (ap convertedNumber e, ap convertedValue e))
+  where
+    by : (c : Converted) → (convertedNumber c ≡ refusalNumber f) × (convertedValue c ≡ place) → c ≡ converted.Refused f place
+    by (converted.Length n) e = absurd (omega (arith, refusal-below f, e .0))
+    by (converted.Refused g p) e = λ i. converted.Refused (refusals-differ g f (e .0) i) (e .1 i)
+
+-- ---- of carrying back: carried, a refusal with its place
+pub carried-exactly : (c : Carried) → (carriedNumber c ≡ 72) ↔ (c ≡ carried.Done)
+unfolding carriedNumber
+carried-exactly c = (by c, λ e. ap carriedNumber e)
+  where
+    by : (c : Carried) → carriedNumber c ≡ 72 → c ≡ carried.Done
+    by carried.Done e = refl
+    by (carried.Refused f p) e = absurd (omega (arith, refusal-below f))
+
+pub uncarried-exactly : (c : Carried) (f : Refusal) (place : ℕ)
+    → ((carriedNumber c ≡ refusalNumber f) × (carriedValue c ≡ place)) ↔ (c ≡ carried.Refused f place)
+unfolding carriedNumber carriedValue
+uncarried-exactly c f place = (by c, λ e. (ap carriedNumber e, ap carriedValue e))
+  where
+    by : (c : Carried) → (carriedNumber c ≡ refusalNumber f) × (carriedValue c ≡ place) → c ≡ carried.Refused f place
+    by carried.Done e = absurd (omega (arith, refusal-below f, e .0))
+    by (carried.Refused g p) e = λ i. carried.Refused (refusals-differ g f (e .0) i) (e .1 i)

@@ -15,6 +15,7 @@ pub mod Values
 pub mod Model
 pub mod Checker
 pub mod Calls
+pub mod Convert
 pub mod Print
 pub mod Write
 pub mod Written
@@ -22,5 +23,6 @@ pub mod Compute
 pub mod Equalities
 pub mod OpenVariables
 pub mod Editions
+pub mod Conversions
 pub mod Examples
 pub mod Traps

@@ -1,11 +1,12 @@
--- The numbers and values of every answer. A refusal's number is document 01's, or 02's; the words that have none there take 64 to 70,
+-- The numbers and values of every answer. A refusal's number is document 01's, or 02's; the words that have none there take 64 to 72,
 -- above every refusal of documents 01 and 02 (docs/DECISIONS.md).
 use Prim.Native.Nat.{ℕ}
 use Rattle.rules_types.specs.declared.answers.Refusal.{Refusal}
 use Rattle.rules_types.specs.declared.answers.Refusal.the-variants.{ShortProof, ShortModel, LongProblem, Truncated, Booleans}
 use Rattle.rules_types.specs.declared.answers.Refusal.the-variants.{Rationals, Clauses, Literal, Comparisons, Relation, Amount}
 use Rattle.rules_types.specs.declared.answers.Refusal.the-variants.{Trailing, Splits, Overflow, OutOfSteps, ProofLength, BadModel}
-use Rattle.rules_types.specs.declared.answers.Refusal.the-variants.{SecondEquality, Edition}
+use Rattle.rules_types.specs.declared.answers.Refusal.the-variants.{SecondEquality, Edition, SplitRationals, OutputSpace}
+use Rattle.rules_types.specs.declared.answers.Refusal.the-variants.{CarriedRange}
 use Rattle.rules_types.specs.declared.answers.Verdict.{Verdict}
 use Rattle.rules_types.specs.declared.answers.Verdict.the-variants.{Satisfiable, Unsatisfiable, Unwritten}
 use Rattle.rules_types.specs.declared.answers.Answer.{Answer}
@@ -13,6 +14,10 @@ use Rattle.rules_types.specs.declared.answers.Answer.the-variants as ans
 use Rattle.rules_types.specs.declared.answers.Checked.{Checked}
 use Rattle.rules_types.specs.declared.answers.Checked.the-variants as checked
 use Rattle.rules_types.specs.declared.answers.Evidence.{Evidence}
+use Rattle.rules_types.specs.declared.answers.Converted.{Converted}
+use Rattle.rules_types.specs.declared.answers.Converted.the-variants as converted
+use Rattle.rules_types.specs.declared.answers.Carried.{Carried}
+use Rattle.rules_types.specs.declared.answers.Carried.the-variants as carried
 use Rattle.rules_types.specs.declared.answers.Evidence.the-variants.{OfProof, OfModel}
 
 -- its word in document 01, or 02, after each
@@ -36,6 +41,9 @@ refusalNumber ProofLength = 16  -- "claim"
 refusalNumber BadModel = 17  -- "slip"
 refusalNumber SecondEquality = 18  -- "double"
 refusalNumber Edition = 19  -- "edition"
+refusalNumber SplitRationals = 20  -- "split"
+refusalNumber OutputSpace = 21  -- "space"
+refusalNumber CarriedRange = 22  -- "back"
 
 -- "agrees", "cannot agree", "unwritten"
 unfoldable pub verdictNumber : Verdict → ℕ
@@ -71,3 +79,20 @@ evidenceNumber (OfModel n) = 70
 unfoldable pub evidenceLength : Evidence → ℕ
 evidenceLength (OfProof n) = n
 evidenceLength (OfModel n) = n
+
+-- converted, with the new problem's length; carried back
+unfoldable pub convertedNumber : Converted → ℕ
+convertedNumber (converted.Length n) = 71
+convertedNumber (converted.Refused f p) = refusalNumber f
+
+unfoldable pub convertedValue : Converted → ℕ
+convertedValue (converted.Length n) = n
+convertedValue (converted.Refused f p) = p
+
+unfoldable pub carriedNumber : Carried → ℕ
+carriedNumber carried.Done = 72
+carriedNumber (carried.Refused f p) = refusalNumber f
+
+unfoldable pub carriedValue : Carried → ℕ
+carriedValue carried.Done = 0
+carriedValue (carried.Refused f p) = p

@@ -23,6 +23,9 @@ pub enum Refusal {
     BadModel,
     SecondEquality,
     Edition,
+    SplitRationals,
+    OutputSpace,
+    CarriedRange,
 }
 
 impl Refusal {
@@ -49,6 +52,9 @@ impl Refusal {
             Refusal::BadModel => 17,
             Refusal::SecondEquality => 18,
             Refusal::Edition => 19,
+            Refusal::SplitRationals => 20,
+            Refusal::OutputSpace => 21,
+            Refusal::CarriedRange => 22,
         }
     }
 }
@@ -92,4 +98,16 @@ pub enum Checked {
 pub enum Evidence {
     OfProof(usize),
     OfModel(usize),
+}
+
+// What converting returns: the length of the new problem, or a refusal with its place.
+pub enum Converted {
+    Length(usize),
+    Refused(Refusal, usize),
+}
+
+// What carrying a model back returns: carried, or a refusal with its place.
+pub enum Carried {
+    Done,
+    Refused(Refusal, usize),
 }
