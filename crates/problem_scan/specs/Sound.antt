@@ -1,5 +1,6 @@
--- The limits that a clause keeps to, said of the bytes: its counts and amounts.
+-- The limits that a clause keeps to, said of the bytes: its counts, relations and amounts.
 use mathlib.Core.Path.{_≡_, subst}
+use mathlib.Core.Bool.{true}
 use mathlib.Core.List.{List, _++_}
 use Prim.Native.Nat.{ℕ, zero, suc, _+_, _-_, _≤_, _<_}
 use native.Mathlib.Omega.{arith}
@@ -7,6 +8,7 @@ use lib.IntN.{pos}
 use lib.ListN.{length, getD, replicate}
 use Rattle.rules_types.specs.Limits as limit
 use Rattle.rules_types.specs.Layout as layout
+use Rattle.rules.specs.Problem.{isRelation}
 use Rattle.theory_vectors.specs.Amounts.{Small}
 use Rattle.problem_scan.specs.Values.{valuesAt, amountAt, boundOf, countOf, clauseEnd}
 
@@ -32,6 +34,7 @@ Amount q at = Small (amountAt q at)
 
 pub record SoundComparison (q : List ℕ) (r at : ℕ) : Type 0 where
   pub within : at + layout.comparisonBytes r ≤ length q
+  pub relation : isRelation (getD q at 0) ≡ true
   pub coefficients : Each (Amount q) 4 r (at + layout.comparisonCoefficients)
   pub bound : Amount q (boundOf q r at)
 

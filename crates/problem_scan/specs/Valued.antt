@@ -104,12 +104,12 @@ module _ (q : List ℕ) where
 
   -- ---- a comparison, several, and a clause
   relation-valued : (equated : Bool) (at : ℕ) → at ≤ length q
-      → Valued q (relationOf (getD q at 0)) (Unit {0}) (at + 1) (relation equated (drop at q) at)
+      → Valued q (relationOf (getD q at 0)) (isRelation (getD q at 0) ≡ true) (at + 1) (relation equated (drop at q) at)
   unfolding relation
   relation-valued equated at h =
       valued-after _ (byte-valued isRelation _ at h) (λ t l.
       valued-after _ (tested-valued (not (equated && isEquality (relationOf (getD q at 0)))) _ at (getD q at 0) (at + 1) l) (λ u l.
-      given refl l tt))
+      given refl l t))
 
   pub comparison-valued : (equated : Bool) (r at : ℕ) → at ≤ length q
       → Valued q (comparisonAt q r at) (SoundComparison q r at) (at + layout.comparisonBytes r) (comparison equated r (drop at q) at)
@@ -121,7 +121,7 @@ module _ (q : List ℕ) where
       valued-after _ (repeat-valued (amountAt q) (Amount q) 4 (amount refusal.Amount) (amount-valued refusal.Amount) r
       (at + layout.comparisonCoefficients) l) (λ s l.
       valued-after _ (amount-valued refusal.Amount (behind 4 r (at + layout.comparisonCoefficients)) l) (λ u l.
-      rw (sym e) (given refl l (record { within = omega (arith, e); coefficients = s; bound = u })))))
+      rw (sym e) (given refl l (record { within = omega (arith, e); relation = t; coefficients = s; bound = u })))))
 
   comparisons-valued : (k : ℕ) (equated : Bool) (r at : ℕ) → at ≤ length q
       → Valued q (comparisonsAt q r k at) (Each (SoundComparison q r) (layout.comparisonBytes r) k at)

@@ -1,0 +1,17 @@
+pub mod WrittenBack
+pub mod Length
+pub mod Turned
+pub mod Splits
+pub mod ReadBack
+pub mod Solutions
+pub mod Kept
+pub mod Second
+pub mod Halves
+pub mod SameSolutions
+pub mod Opens
+pub mod Carrying
+pub mod Range
+pub mod CarriedModel
+pub mod CarriedBack
+pub mod Rows
+pub mod Places
