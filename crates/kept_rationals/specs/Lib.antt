@@ -1,0 +1,3 @@
+pub mod Alone
+pub mod Clause
+pub mod Kept
