@@ -1,3 +1,4 @@
 pub mod HandedBack
 pub mod Previewed
 pub mod Editions
+pub mod Carried

@@ -1,5 +1,6 @@
 -- What the calls promise, with either limit of lines: the demands, said of the numbers that they return and of the bytes that they leave.
--- Each record stands in the `ensures` of its calls (src/calls.rt), beside the equation with document 01's definition.
+-- Each record stands in the `ensures` of its calls (src/calls.rt, src/calls_in.rt, src/carrying.rt), beside the equation with the
+-- definition.
 use mathlib.Core.Path.{_≡_}
 use mathlib.Core.Logic.{_↔_}
 use mathlib.Core.List.{List}
@@ -11,12 +12,17 @@ use Rattle.rules_types.specs.declared.answers.Checked.{Checked}
 use Rattle.rules_types.specs.declared.answers.Checked.the-variants.{Accepted, Fails, Refused}
 use Rattle.rules_types.specs.declared.answers.Evidence.{Evidence}
 use Rattle.rules_types.specs.declared.answers.Evidence.the-variants.{OfProof, OfModel}
+use Rattle.rules_types.specs.declared.answers.Converted.{Converted}
+use Rattle.rules_types.specs.declared.answers.Converted.the-variants as converted
+use Rattle.rules_types.specs.declared.answers.Carried.{Carried}
+use Rattle.rules_types.specs.declared.answers.Carried.the-variants as carried
 use Rattle.rules_types.specs.declared.limits.Limits.{Limits}
 use Rattle.rules_types.specs.declared.terms.Edition.the-variants.{First, Second}
 use Rattle.rules_types.specs.declared.terms.Terms.{Terms}
 use Rattle.rules_types.specs.Answers.{refusalNumber, verdictNumber, answerValue}
 use Rattle.rules.specs.Problem.{Problem, inEdition}
 use Rattle.rules.specs.Calls.{sound, read, Solving, proofCheckedIn, modelCheckedIn}
+use Rattle.rules.specs.Convert.{Converting, Carrying}
 use Rattle.theory_bytes.specs.Bytes.{AllBytes}
 use Rattle.promises.specs.Words.{Comes, IsRefused, FullSize}
 use Rattle.promises.specs.Handing.{Hands}
@@ -25,6 +31,7 @@ use Rattle.promises.specs.Demand1.{Demand1}
 use Rattle.promises.specs.Demand2.{Demand2}
 use Rattle.promises.specs.Demand3.{Demand3}
 use Rattle.promises.specs.Editions.{Editions, on, Other}
+use Rattle.promises.specs.CarriedOver.{Converts, CarriesBack}
 use Rattle.jemuling.specs.declared.told.Told.{Told}
 use Rattle.jemuling.specs.declared.told.SolvedTold.{SolvedTold}
 
@@ -43,6 +50,16 @@ pub record TellsChecked (told : Told) (says : Checked) : Type 0 where
 pub record TellsPart (told : Told) (part : Evidence) : Type 0 where
   pub ofProof : (n : ℕ) → ((told .number ≡ 69) × (told .value ≡ n)) ↔ (part ≡ OfProof n)
   pub ofModel : (n : ℕ) → ((told .number ≡ 70) × (told .value ≡ n)) ↔ (part ≡ OfModel n)
+
+pub record TellsConverted (told : Told) (says : Converted) : Type 0 where
+  pub length : (n : ℕ) → ((told .number ≡ 71) × (told .value ≡ n)) ↔ (says ≡ converted.Length n)
+  pub refused : (f : Refusal) (place : ℕ)
+      → ((told .number ≡ refusalNumber f) × (told .value ≡ place)) ↔ (says ≡ converted.Refused f place)
+
+pub record TellsCarried (told : Told) (says : Carried) : Type 0 where
+  pub done : (told .number ≡ 72) ↔ (says ≡ carried.Done)
+  pub refused : (f : Refusal) (place : ℕ) → ((told .number ≡ refusalNumber f) × (told .value ≡ place)) ↔ (says ≡ carried.Refused f place)
+  pub value : says ≡ carried.Done → told .value ≡ 0
 
 -- ---- the calls; a lent slice holds bytes, so what the demands say of bytes holds of it
 -- `jemuling_solve`, `jemuling_preview_solve`: `lentProof` and `lentModel` are the buffers before it, `proof` and `model` what it left in
@@ -111,3 +128,22 @@ pub record SheetCheckedIn (limits : Limits) (edition : ℕ) (input model : List 
   pub kept : edition ≡ 2 → told .number ≡ 67 → modelCheckedIn limits 1 input model ≡ Accepted
   pub refused : (told .number ≡ 19) ↔ Other edition
   pub other : Other edition → told ≡ record { number = 19; value = 0 }
+
+-- ---- 02, (vi): the calls that carry a problem over and a model back; they name no edition
+-- `jemuling_convert`: `lent` is the buffer before it, `output` what it left in it
+pub record ProblemConverted (input lent : List ℕ) (told : Told) (output : List ℕ) : Type 0 where
+  pub bytes : AllBytes input
+  pub bytesLeft : AllBytes output
+  pub ours : Converting
+  pub tells : TellsConverted told (ours .converted)
+  pub leaves : output ≡ ours .output
+  pub converts : Converts input lent ours
+
+-- `jemuling_carry_back`: `lent` is the target before it, `target` what it left in it
+pub record ModelCarriedBack (input model lent : List ℕ) (told : Told) (target : List ℕ) : Type 0 where
+  pub bytes : AllBytes input
+  pub bytesLeft : AllBytes target
+  pub ours : Carrying
+  pub tells : TellsCarried told (ours .carried)
+  pub leaves : target ≡ ours .model
+  pub carries : CarriesBack input model lent ours

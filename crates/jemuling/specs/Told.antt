@@ -5,7 +5,10 @@ use Rattle.rules_types.specs.declared.answers.Answer.{Answer}
 use Rattle.rules_types.specs.declared.answers.Solved.{Solved}
 use Rattle.rules_types.specs.declared.answers.Checked.{Checked}
 use Rattle.rules_types.specs.declared.answers.Evidence.{Evidence}
+use Rattle.rules_types.specs.declared.answers.Converted.{Converted}
+use Rattle.rules_types.specs.declared.answers.Carried.{Carried}
 use Rattle.rules_types.specs.Answers.{refusalNumber, answerNumber, answerValue, checkedNumber, checkedValue, evidenceNumber, evidenceLength}
+use Rattle.rules_types.specs.Answers.{convertedNumber, convertedValue, carriedNumber, carriedValue}
 use Rattle.jemuling.specs.declared.told.Told.{Told}
 use Rattle.jemuling.specs.declared.told.SolvedTold.{SolvedTold}
 
@@ -23,3 +26,9 @@ checkedTold c = record { number = checkedNumber c; value = checkedValue c }
 
 unfoldable pub evidenceTold : Evidence → Told
 evidenceTold e = record { number = evidenceNumber e; value = evidenceLength e }
+
+unfoldable pub convertedTold : Converted → Told
+convertedTold c = record { number = convertedNumber c; value = convertedValue c }
+
+unfoldable pub carriedTold : Carried → Told
+carriedTold c = record { number = carriedNumber c; value = carriedValue c }

@@ -1,6 +1,8 @@
 // Answers as numbers.
 use rules_types::answers::Answer;
+use rules_types::answers::Carried;
 use rules_types::answers::Checked;
+use rules_types::answers::Converted;
 use rules_types::answers::Evidence;
 use rules_types::answers::Refusal;
 use rules_types::answers::Solved;
@@ -8,6 +10,7 @@ use rules_types::answers::Verdict;
 ghost use mathlib.Core.Path.{_≡_};
 ghost use Rattle.rules_types.specs.Answers.{verdictNumber};
 ghost use Rattle.jemuling.specs.Told.{refusedTold, answerTold, checkedTold, evidenceTold, solvedTold};
+ghost use Rattle.jemuling.specs.Told.{convertedTold, carriedTold};
 
 // An answer's number and value.
 #[repr(C)]
@@ -96,5 +99,29 @@ pub fn evidence_told(e: Evidence) -> Told
             number: 70,
             value: n,
         },
+    }
+}
+
+pub fn converted_told(c: Converted) -> Told
+    ensures { λ t. ⌜ t ≡ convertedTold c ⌝ }
+{
+    match c {
+        Converted::Length(n) => Told {
+            number: 71,
+            value: n,
+        },
+        Converted::Refused(f, place) => refused_told(f, place),
+    }
+}
+
+pub fn carried_told(c: Carried) -> Told
+    ensures { λ t. ⌜ t ≡ carriedTold c ⌝ }
+{
+    match c {
+        Carried::Done => Told {
+            number: 72,
+            value: 0,
+        },
+        Carried::Refused(f, place) => refused_told(f, place),
     }
 }

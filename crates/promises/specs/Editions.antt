@@ -5,13 +5,13 @@ use mathlib.Core.Bool.{Bool, not}
 use mathlib.Core.Logic.{_↔_, _⊎_, inl, inr, ⊎-elim}
 use mathlib.Core.List.{List, [], _∷_, _++_}
 use mathlib.Core.Option.{some}
-use Prim.Native.Nat.{ℕ, suc, _+_, _-_, _/_, _≤_, _<_}
+use Prim.Native.Nat.{ℕ, _+_, _-_, _/_, _≤_, _<_}
 use native.Mathlib.Omega.{arith}
 use borrow.Author.Tests.{ne-eqb}
 use lib.IntN.{pos}
 use lib.Signed.{leZ}
 use lib.Dec.{T, ltb, nltb→le}
-use lib.ListN.{length, getElem?, take, drop, length-append}
+use lib.ListN.{length, getElem?, drop, length-append}
 use Rattle.rules_types.specs.declared.answers.Refusal.{Refusal}
 use Rattle.rules_types.specs.declared.answers.Refusal.the-variants as refusal
 use Rattle.rules_types.specs.declared.answers.Verdict.{Verdict}
@@ -26,7 +26,7 @@ use Rattle.rules_types.specs.declared.terms.Terms.{Terms}
 use Rattle.rules_types.specs.Limits as limit
 use Rattle.rules_types.specs.Answers.{refusalNumber}
 use Rattle.rules_types.specs.Terms.{editionNamed}
-use Rattle.rules.specs.Lists.{all, tabulate}
+use Rattle.rules.specs.Lists.{tabulate}
 use Rattle.rules.specs.Problem.{Clause, Problem, nonNegative, added, inEdition, Read, fault, got}
 use Rattle.rules.specs.Meaning.{Assignment, clauseHolds, Satisfies}
 use Rattle.rules.specs.Lines.{Line}
@@ -37,9 +37,9 @@ use Rattle.rules.specs.Checker.{followedLines, checkProof}
 use Rattle.rules.specs.Calls.{Reading, faulty, sound, read, wholeSteps, said, solve, proofChecked, modelChecked}
 use Rattle.rules.specs.Calls.{solveIn, proofCheckedIn, modelCheckedIn}
 use Rattle.theory_lists.specs.Tests.{split, is-true, is-false}
-use Rattle.theory_lists.specs.All.{All, all-append, append-all, all-yes, yes-all, any-left}
-use Rattle.theory_lists.specs.Places.{element-left, element-right, element-all}
-use Rattle.theory_lists.specs.Tabulated.{length-tabulate, element-tabulate, all-tabulate}
+use Rattle.theory_lists.specs.All.{any-left}
+use Rattle.theory_lists.specs.Places.{element-left, element-right}
+use Rattle.theory_lists.specs.Tabulated.{length-tabulate, element-tabulate}
 use Rattle.theory_bytes.specs.Bytes.{AllBytes}
 use Rattle.theory_layout.specs.Offsets.{StatesModel}
 use Rattle.theory_splitting.specs.WellRead.{posed-well-formed}
@@ -49,6 +49,7 @@ use Rattle.theory_checks.specs.ProofChecked.{checked-proof}
 use Rattle.theory_checks.specs.ModelChecked.{model-checked-satisfies}
 use Rattle.theory_checks.specs.EndsEmpty.{end-unrefused}
 use Rattle.theory_layout.specs.Models.{model-refusal}
+use Rattle.theory_conversion.specs.Second.{NotBelowZero, satisfies-second}
 use Rattle.theory_reading.specs.Numbers.{Named, to-13, is-18, fault-named}
 use Rattle.theory_reading.specs.Theorems.{names-first}
 use Rattle.promises.specs.Words.{Comes, IsRefused, LimitMet, Refutes, WritesAssignment}
@@ -57,10 +58,6 @@ use Rattle.promises.specs.Total.{BeforeCourse, total}
 use Rattle.promises.specs.Demand1.{untouched}
 
 -- ---- what the second edition is, of a problem as it was read
--- "a share below zero is no share"
-abbrev pub NotBelowZero : ℕ → Assignment → Type 0
-NotBelowZero r χ = (f : ℕ) → f < r → T (leZ (pos 0) (χ .numerators f))
-
 -- clause n states that rational variable f is ≥ 0, of every choice, and has no literal
 pub record Bounds (p : Problem) (n f : ℕ) : Type 0 where
   pub clause : Clause
@@ -71,7 +68,7 @@ pub record Bounds (p : Problem) (n f : ℕ) : Type 0 where
 pub record Editions (p : Problem) : Type 0 where
   -- the first is the problem as written
   pub first : inEdition First p ≡ p
-  -- ""Satisfies" is meant per edition"
+  -- ""Satisfies" is meant per edition", and "a share below zero is no share"
   pub satisfies : (χ : Assignment) → Satisfies χ (inEdition Second p) ↔ (Satisfies χ p × NotBelowZero (p .rationals) χ)
   -- "after clause n - 1, clauses n to n + r - 1 state that figure 0, 1 and so on is ≥ 0"
   pub count : length (inEdition Second p .clauses) ≡ length (p .clauses) + p .rationals
@@ -90,25 +87,6 @@ module _ (p : Problem) where
   more = tabulate (p .rationals) nonNegative
 
   module _ (few : p .rationals ≤ limit.rationals) where
-    satisfies : (χ : Assignment) → Satisfies χ (inEdition Second p) ↔ (Satisfies χ p × NotBelowZero (p .rationals) χ)
-    unfolding added
-    satisfies χ = (
-      λ s. let a = append-all Holds (p .clauses) more (all-yes (clauseHolds χ) (p .clauses ++ more) (s .clauses)) in (
-        record { denominator = s .denominator; clauses = yes-all (clauseHolds χ) (p .clauses) (a .0) },
-        λ f h. subst T (holds-added χ f (omega arith))
-            (element-all Holds more f (nonNegative f) (element-tabulate (p .rationals) nonNegative f h) (a .1)),
-      ),
-      λ h. record {
-        denominator = h .0 .denominator;
-        clauses = yes-all (clauseHolds χ) (p .clauses ++ more)
-            (all-append Holds (p .clauses) more (all-yes (clauseHolds χ) (p .clauses) (h .0 .clauses))
-            (all-tabulate Holds (p .rationals) nonNegative (λ f l. subst T (sym (holds-added χ f (omega arith))) (h .1 f l))));
-      },
-    )
-      where
-        Holds : Clause → Type 0
-        Holds c = T (clauseHolds χ c)
-
     bounds : (f : ℕ) → f < p .rationals → Bounds (inEdition Second p) (n + f) f
     unfolding added nonNegative
     bounds f h = record {
@@ -130,7 +108,7 @@ module _ (p : Problem) where
     unfolding added
     editions = record {
       first = posed-first p;
-      satisfies = satisfies;
+      satisfies = satisfies-second p few;
       count = omega (arith, length-append (p .clauses) more, length-tabulate (p .rationals) nonNegative);
       written = λ c h. sym (element-left (p .clauses) more c h);
       bounds = bounds;

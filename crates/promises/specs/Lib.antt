@@ -19,6 +19,13 @@ pub mod Denominator
 pub mod Total
 pub mod Demand1
 pub mod Editions
+pub mod CarriedOver
+pub mod Halves
+pub mod CarriedOverKept
+pub mod OneNew
+pub mod CarriedBackAnswers
+pub mod CarriedBackRead
+pub mod CarriedBackKept
 pub mod Demand3
 pub mod HandedBack
 pub mod Demand2
