@@ -48,6 +48,20 @@
  * 2, and a sheet that is accepted in edition 2 is accepted in edition 1.
  * Neither holds the other way round.
  *
+ * A first-edition question, an old one, is carried over to the second by
+ * converting it, and a sheet of the new question is carried back. Converting
+ * keeps a figure where a clause of its own says that it is not negative: one
+ * without literals whose only condition, as it is written, is a negative
+ * multiple of this figure alone with relation 1 or 2 and a bound of at most 0
+ * (-x <= 0, -7x < 0, -x <= -3; not x >= 0 with relation 4, nor -x = 0). Any
+ * other figure becomes two, its halves: they stand side by side in its place,
+ * with coefficients c and -c for its c, so that the figure is the first less
+ * the second. All else is copied, byte for byte: marks, literals, relations,
+ * bounds, and the clauses in their order. The new question has a solution in
+ * edition 2 exactly if the old one has one in edition 1, and open marks stay
+ * the same. A sheet of the new question goes back by subtraction, over the same
+ * marks and denominator. Neither call names an edition.
+ *
  * A question, a book and a sheet are bytes that the caller owns and lends for
  * the time of one call. No call keeps a pointer or any state, allocates,
  * prints or stops the process; every call ends, for bytes of every kind and
@@ -66,9 +80,9 @@
  *
  * Beside what it is lent, a call takes stack and no other memory. Beyond its
  * caller's, in bytes as measured on x86-64, solving takes at most 1,664, the
- * check of a book 2,560, the check of a sheet 768, and handing back 64, for a
- * preview too. Solving is lent question, book and sheet alone, and holds no
- * array over 1,024 bytes.
+ * check of a book 2,560, the check of a sheet 896, converting 448, carrying back
+ * 768, and handing back 64, for a preview too. Solving is lent question, book
+ * and sheet alone, and holds no array over 1,024 bytes.
  *
  * Link with libjemuling.a; it needs memset of the C library and nothing else.
  */
@@ -133,10 +147,14 @@ enum {
     JEMULING_SHEET = 2,       /* a sheet has under 64 bytes; 0 */
     JEMULING_CLAIM = 16,      /* a book to check has not 64 to 65,536 bytes by 64s, a preview's not 64 to 16,384; its
                                  length */
-    JEMULING_SLIP = 17,       /* a sheet to check has another count of marks or figures than the question, a mark in no
-                                 literal of the question that is not 2, a mark in one that is not 0 or 1, a
-                                 denominator outside 1 to 1,000,000,000, or a numerator beyond 1,000,000,000 in size;
-                                 first byte of the first such field */
+    JEMULING_SLIP = 17,       /* a sheet to check, or to carry back, has another count of marks or figures than the
+                                 question (carrying back: than the new one), a mark in no literal of the question that
+                                 is not 2, a mark in one that is not 0 or 1, a denominator outside 1 to 1,000,000,000,
+                                 or a numerator beyond 1,000,000,000 in size; first byte of the first such field */
+    /* Converting and carrying back, after the question's faults: no byte is altered. */
+    JEMULING_SPLIT = 20,      /* the new question would have more than 8 figures; 0 */
+    JEMULING_SPACE = 21,      /* the new question has over 32,768 bytes, or more than the buffer for it; 0 */
+    JEMULING_BACK = 22,       /* a numerator carried back is beyond 1,000,000,000 in size; the first such old figure */
     /* A verdict; `value` is the count of the book's lines. */
     JEMULING_AGREES = 64,     /* the marks and figures on the sheet satisfy the question, with either value for an
                                  open mark */
@@ -150,7 +168,10 @@ enum {
                                  edition 2 */
     /* What is handed back. */
     JEMULING_OF_BOOK = 69,    /* the first `value` bytes of the book */
-    JEMULING_OF_SHEET = 70    /* the first `value` bytes of the sheet */
+    JEMULING_OF_SHEET = 70,   /* the first `value` bytes of the sheet */
+    /* An old question is carried over, or a sheet of the new one back. */
+    JEMULING_CONVERTED = 71,  /* the new question is written; `value` is its length */
+    JEMULING_CARRIED = 72     /* the sheet is written; 0 */
 };
 
 /* A number from above, and its value. */
@@ -281,6 +302,50 @@ jemuling_told jemuling_hand_back(uint64_t number, size_t lines,
 jemuling_told jemuling_preview_hand_back(uint64_t number, size_t lines,
                                          const uint8_t *book, size_t book_length,
                                          const uint8_t *sheet, size_t sheet_length);
+
+/*
+ * Carries a first-edition question over to the second edition: writes the new
+ * question, as the head of this file says, to `target`. Says a fault of the
+ * question, 3 to 13 or 18, with its place; else JEMULING_SPLIT; else
+ * JEMULING_SPACE; else JEMULING_CONVERTED with the new question's length. A
+ * target of 32,768 bytes is enough for every result.
+ *
+ * After JEMULING_CONVERTED the first `value` bytes of the target are the new
+ * question, and the bytes past them keep their content. After a refusal no byte
+ * of the target is altered. The new question is read without fault; it has a
+ * solution in edition 2 exactly if the old one has one in edition 1, so it is
+ * for jemuling_solve_in and the checks with JEMULING_SECOND_EDITION. Converting
+ * a question of which every figure is kept gives its own bytes.
+ */
+jemuling_told jemuling_convert(const uint8_t *question, size_t question_length,
+                               uint8_t *target, size_t target_length);
+
+/*
+ * Carries a sheet of the new question back to the old one. Takes the old
+ * question, from which the new one follows and so need not be kept; the sheet
+ * of the new one; and a target for that of the old. Says a fault of the old
+ * question, 3 to 13 or 18, with its place; else JEMULING_SPLIT; else
+ * JEMULING_SHEET if sheet or target has under 64 bytes; else JEMULING_SLIP
+ * with the place of the first field at fault on the new sheet, which must have
+ * the new question's count of figures, and the marks and open marks that both
+ * questions have; its bytes after the last numerator are not read; else
+ * JEMULING_BACK with the number of the first old figure whose numerator is too
+ * large; else JEMULING_CARRIED. Never JEMULING_SPACE: it writes no question.
+ *
+ * After JEMULING_CARRIED the first 64 bytes of the target are a sheet of the
+ * old question: marks and denominator as on the new sheet, then of each old
+ * figure its numerator, that of a figure that was kept or the first half's less
+ * the second's, then zeros. Bytes beyond 64 keep their content. After a refusal
+ * no byte of the target is altered.
+ *
+ * It does not ask whether the sheet satisfies the new question, the check does:
+ * a sheet that jemuling_check_sheet_in accepts in the second edition is always
+ * carried back, to one that is accepted of the old question in the first. One
+ * with a half below 0, which that check does not accept, may be JEMULING_BACK.
+ */
+jemuling_told jemuling_carry_back(const uint8_t *question, size_t question_length,
+                                  const uint8_t *sheet, size_t sheet_length,
+                                  uint8_t *target, size_t target_length);
 
 #ifdef __cplusplus
 }

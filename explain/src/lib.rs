@@ -1,5 +1,5 @@
-//! What the two programs share: the library's calls of one limit of lines, 1,024 or a preview's 256,
-//! and the options by which limit and edition are named.
+//! What the programs share: the library's calls of one limit of lines, 1,024 or a preview's 256, the
+//! options by which limit and edition are named, and refusals in words.
 
 use jemuling::{preview, Answer, Checked, Part, Solved, BOOK_BYTES, FIRST_EDITION, PREVIEW_BYTES};
 
@@ -47,4 +47,27 @@ pub fn options<'a>(words: &'a [&'a str]) -> Option<(Calls, u64, &'a [&'a str])> 
 fn edition(word: &str) -> Option<u64> {
     let is_number = !word.is_empty() && word.bytes().all(|byte| byte.is_ascii_digit());
     is_number.then(|| word.parse().unwrap_or(u64::MAX))
+}
+
+/// Why a question is refused, with full-size buffers; a full book (15) is said by the calls' limit.
+pub fn reason(number: u8) -> &'static str {
+    match number {
+        3 => "the question has over 32,768 bytes",
+        4 => "the question ends before a field is complete",
+        5 => "more than 16 marks",
+        6 => "more than 8 figures",
+        7 => "more than 256 clauses",
+        8 => "more than 32 literals, or a mark that the question does not have",
+        9 => "more than 8 conditions",
+        10 => "a relation other than 1 (at most), 2 (below), 3 (equal) and 4 (at least)",
+        11 => "an amount beyond 1,000,000,000 in size",
+        12 => "bytes follow the last clause",
+        13 => "more than 16 links",
+        14 => "an amount beyond 1,000,000,000 in size arose; that many lines were held",
+        18 => "a second relation 3 (equal) in one clause",
+        19 => "an edition other than 1 and 2",
+        20 => "the new question would have more than 8 figures",
+        21 => "the new question has over 32,768 bytes",
+        _ => "no refusal with full-size buffers",
+    }
 }

@@ -1,6 +1,6 @@
 //! An answer in words.
 
-use explain::Calls;
+use explain::{reason, Calls};
 use jemuling::{
     check_sheet_in, Answer, Checked, Part, Refusal, Solved, Verdict, LINE_BYTES, SECOND_EDITION,
     SHEET_BYTES,
@@ -85,33 +85,12 @@ fn answer(Solved { answer, pairs }: Solved, full: &'static str) -> String {
             format!("{verdict} (lines of the book: {lines}, pairs tried: {pairs})")
         }
         Answer::Refused(Refusal { number, place }) => {
-            let why = reason(number, full);
+            let why = if number == 15 { full } else { reason(number) };
             match number {
                 14 | 15 => format!("refused, {number} at {place}: {why} (pairs tried: {pairs})"),
                 _ => format!("refused, {number} at {place}: {why}"),
             }
         }
-    }
-}
-
-fn reason(number: u8, full: &'static str) -> &'static str {
-    match number {
-        3 => "the question has over 32,768 bytes",
-        4 => "the question ends before a field is complete",
-        5 => "more than 16 marks",
-        6 => "more than 8 figures",
-        7 => "more than 256 clauses",
-        8 => "more than 32 literals, or a mark that the question does not have",
-        9 => "more than 8 conditions",
-        10 => "a relation other than 1 (at most), 2 (below), 3 (equal) and 4 (at least)",
-        11 => "an amount beyond 1,000,000,000 in size",
-        12 => "bytes follow the last clause",
-        13 => "more than 16 links",
-        14 => "an amount beyond 1,000,000,000 in size arose; that many lines were held",
-        15 => full,
-        18 => "a second relation 3 (equal) in one clause",
-        19 => "an edition other than 1 and 2",
-        _ => "no refusal of solving with full-size buffers",
     }
 }
 

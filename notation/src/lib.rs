@@ -12,6 +12,7 @@
 //! ```
 
 mod book;
+mod carried_over;
 mod clause;
 mod command;
 mod decode;
@@ -30,6 +31,7 @@ mod sum;
 mod token;
 
 pub use book::explain_book;
+pub use carried_over::CarriedOver;
 pub use command::{names_for, question_bytes, run, text, words};
 pub use decode::decode;
 pub use encode::encode;

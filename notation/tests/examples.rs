@@ -8,7 +8,7 @@ use std::fs;
 
 #[test]
 fn every_example_gives_its_question() {
-    assert_eq!(texts().len(), 19);
+    assert_eq!(texts().len(), 20);
     for file in texts() {
         let text = parse(&fs::read_to_string(&file).unwrap()).unwrap();
         let question = fs::read(file.with_extension("question")).unwrap();
@@ -26,7 +26,7 @@ fn every_question_has_its_text() {
             questions += 1;
         }
     }
-    assert_eq!(questions, 19);
+    assert_eq!(questions, 20);
 }
 
 #[test]
@@ -73,6 +73,7 @@ fn they_are_answered_as_the_papers_say() {
         ("open", "agrees 6 3"),
         ("payment", "agrees 35 37"),
         ("payment_missing", "cannot 29 29"),
+        ("refund", "agrees 8 6"),
     ];
     assert_eq!(answers.len(), texts().len());
     for (name, answer) in answers {

@@ -25,7 +25,7 @@ pub const FIRST_EDITION: u64 = 1;
 /// n + 1 and so on state that figure 0, 1 and so on is at least 0.
 pub const SECOND_EDITION: u64 = 2;
 
-/// A refusal by its number, 1 to 19, and its place; the header says what each number means.
+/// A refusal by its number, 1 to 22, and its place; the header says what each number means.
 #[derive(Clone, Copy, Debug, PartialEq, Eq)]
 pub struct Refusal {
     pub number: u8,
@@ -33,7 +33,8 @@ pub struct Refusal {
 }
 
 impl Refusal {
-    /// Whether the question itself is at fault: 3 to 13, and 18. 19 is for an edition that is none.
+    /// Whether the question itself is at fault: 3 to 13, and 18. 19 is for an edition that is none, 20
+    /// to 22 for a question or a sheet that cannot be carried over or back.
     pub fn is_fault(&self) -> bool {
         matches!(self.number, 3..=13 | 18)
     }
@@ -65,6 +66,20 @@ pub struct Solved {
 pub enum Checked {
     Accepted,
     Fails(usize),
+    Refused(Refusal),
+}
+
+/// What converting answers: the new question's length, or a refusal.
+#[derive(Clone, Copy, Debug, PartialEq, Eq)]
+pub enum Converted {
+    Length(usize),
+    Refused(Refusal),
+}
+
+/// What carrying back answers: done, or a refusal.
+#[derive(Clone, Copy, Debug, PartialEq, Eq)]
+pub enum Carried {
+    Done,
     Refused(Refusal),
 }
 
@@ -178,6 +193,20 @@ extern "C" {
         sheet: *const u8,
         sheet_length: usize,
     ) -> Told;
+    fn jemuling_convert(
+        question: *const u8,
+        question_length: usize,
+        target: *mut u8,
+        target_length: usize,
+    ) -> Told;
+    fn jemuling_carry_back(
+        question: *const u8,
+        question_length: usize,
+        sheet: *const u8,
+        sheet_length: usize,
+        target: *mut u8,
+        target_length: usize,
+    ) -> Told;
 }
 
 /// A call for solving, one for the check of a book or of a sheet, both also with an edition before the
@@ -195,6 +224,8 @@ const UNWRITTEN: u64 = 66;
 const ACCEPTED: u64 = 67;
 const FAILS: u64 = 68;
 const OF_SHEET: u64 = 70;
+const CONVERTED: u64 = 71;
+const CARRIED: u64 = 72;
 
 /// Solves a question. The buffers are lent for the call, and hold afterwards what the header says:
 /// after "agrees" the sheet has [`NO`], [`YES`] or [`OPEN`] for each mark, [`OPEN`] exactly for those
@@ -240,6 +271,54 @@ pub fn check_sheet_in(edition: u64, question: &[u8], sheet: &[u8]) -> Checked {
 /// 1,024 lines, nothing: a part of the book without bytes.
 pub fn hand_back<'a>(answer: Answer, book: &'a [u8], sheet: &'a [u8]) -> Part<'a> {
     hand_back_by(jemuling_hand_back, answer, book, sheet)
+}
+
+/// Carries a first-edition question over to the second edition: a figure that a clause of its own
+/// says is not negative is kept, any other becomes two, the first less the second. The new question is
+/// the first [`Converted::Length`] bytes of the target, of which [`QUESTION_BYTES`] are enough for
+/// every result; the bytes past it keep their content, all of them after a refusal: a fault of the
+/// question, else 20 (over 8 figures result), else 21 (over 32,768 bytes, or over the target's). It has
+/// a solution in [`SECOND_EDITION`] exactly if the old one has one in [`FIRST_EDITION`].
+pub fn convert(question: &[u8], target: &mut [u8]) -> Converted {
+    // SAFETY: the call reads the question and writes the target within their lengths, and keeps no
+    // pointer; a slice lent mutably does not overlap another.
+    let told = unsafe {
+        jemuling_convert(
+            question.as_ptr(),
+            question.len(),
+            target.as_mut_ptr(),
+            target.len(),
+        )
+    };
+    match told.number {
+        CONVERTED => Converted::Length(told.value),
+        number => Converted::Refused(refusal(number, told.value)),
+    }
+}
+
+/// Carries a sheet of the question that [`convert`] makes of this old one back to the old one: into the
+/// target's first [`SHEET_BYTES`], the same marks and denominator, and of each old figure its
+/// numerator, as it is or the first half's less the second's. A refusal alters no byte: a fault of the
+/// old question, else 20, else 2 (either sheet too short), else 17 (against the new question), else 22
+/// (a numerator out of range, at the first such old figure). A sheet that [`check_sheet_in`] accepts of
+/// the new question in [`SECOND_EDITION`] is always carried back, to one that is accepted of the old
+/// question in [`FIRST_EDITION`]; whether it satisfies is not asked here.
+pub fn carry_back(question: &[u8], sheet: &[u8], target: &mut [u8]) -> Carried {
+    // SAFETY: as for `convert`, with a sheet that is read besides.
+    let told = unsafe {
+        jemuling_carry_back(
+            question.as_ptr(),
+            question.len(),
+            sheet.as_ptr(),
+            sheet.len(),
+            target.as_mut_ptr(),
+            target.len(),
+        )
+    };
+    match told.number {
+        CARRIED => Carried::Done,
+        number => Carried::Refused(refusal(number, told.value)),
+    }
 }
 
 /// The calls with a preview's book: 256 lines, [`PREVIEW_BYTES`](crate::PREVIEW_BYTES); a longer one
@@ -391,7 +470,7 @@ fn checked(told: Told) -> Checked {
     }
 }
 
-/// The library's refusals are 1 to 19; a number that is none of its own would come out as 255.
+/// The library's refusals are 1 to 22; a number that is none of its own would come out as 255.
 fn refusal(number: u64, place: usize) -> Refusal {
     Refusal {
         number: u8::try_from(number).unwrap_or(u8::MAX),
