@@ -1,7 +1,8 @@
 /*
  * Calls the library from C on document 01's examples, on = and at least, on open marks, and about a preview's sizes: right books and
  * sheets, wrong ones, and solving; what has a limit of lines with either. All of it by the calls that name no edition, and by those that
- * name one, in edition 1; then what edition 2 answers otherwise, its largest question, and other editions.
+ * name one, in edition 1; then what edition 2 answers otherwise, its largest question, and other editions; and at last a question carried
+ * over to edition 2, and its sheet back.
  */
 #include <stdio.h>
 #include <string.h>
@@ -417,6 +418,140 @@ static void other_editions(void)
     }
 }
 
+/* Converts with a target of so many bytes, of which no other is altered; the question written is compared with this one, if one is. */
+static void converts(const char *name, const unsigned char *question, size_t length, size_t target_length, uint64_t number, size_t value,
+                     const unsigned char *result)
+{
+    static unsigned char target[2 * JEMULING_QUESTION_BYTES + 1];
+    memset(target, 0xab, sizeof target);
+    expect(name, jemuling_convert(question, length, target, target_length), number, value);
+    size_t written = number == JEMULING_CONVERTED ? value : 0;
+    size_t wrong = others(target + written, sizeof target - written, 0xab);
+    if (result)
+        wrong += memcmp(target, result, written) != 0;
+    expect("the question written, and bytes behind it", (jemuling_told){ 0, wrong }, 0, 0);
+}
+
+/* The same of carrying a sheet back. */
+static void carries(const char *name, const unsigned char *question, size_t length, const unsigned char *sheet, size_t sheet_length,
+                    size_t target_length, uint64_t number, size_t value, const unsigned char *result)
+{
+    static unsigned char target[2 * JEMULING_SHEET_BYTES];
+    memset(target, 0xab, sizeof target);
+    expect(name, jemuling_carry_back(question, length, sheet, sheet_length, target, target_length), number, value);
+    size_t written = number == JEMULING_CARRIED ? JEMULING_SHEET_BYTES : 0;
+    size_t wrong = others(target + written, sizeof target - written, 0xab);
+    if (result)
+        wrong += memcmp(target, result, written) != 0;
+    expect("the sheet written, and bytes behind it", (jemuling_told){ 0, wrong }, 0, 0);
+}
+
+/* Four figures, all of them split: 256 clauses with a mark in both signs, three conditions, and literals up to a length once converted. */
+static size_t long_question(unsigned char *question, size_t converted)
+{
+    size_t length = 4, rest = converted - 4 - 256 * (2 + 2 + 3 * 37);
+    memcpy(question, (unsigned char[]){ 16, 4, 0, 1 }, length);
+    for (int i = 0; i < 256; i++) {
+        size_t more = rest < 30 ? rest : 30;
+        question[length++] = (unsigned char)(2 + more);
+        question[length++] = 1;
+        question[length++] = 129;
+        memset(question + length, 2, more);
+        length += more;
+        rest -= more;
+        question[length++] = 3;
+        for (int j = 0; j < 3; j++) {
+            unsigned char condition[21] = { 1, (unsigned char)i, 0, 0, 0, 1, [9] = (unsigned char)j, [13] = 7, [17] = 9 };
+            memcpy(question + length, condition, sizeof condition);
+            length += sizeof condition;
+        }
+    }
+    return length;
+}
+
+static void converting(void)
+{
+    static unsigned char question[JEMULING_QUESTION_BYTES + 1];
+    static const unsigned char five[] = { 0, 5, 0, 0 }, four[] = { 0, 4, 0, 0 }, eight[] = { 0, 8, 0, 0 };
+    size_t length = sizeof new_question;
+    expect("its numbers", (jemuling_told){ JEMULING_CONVERTED, JEMULING_CARRIED }, 71, 72);
+    expect("20 and 21", (jemuling_told){ JEMULING_SPLIT, JEMULING_SPACE }, 20, 21);
+    expect("22", (jemuling_told){ JEMULING_BACK, 0 }, 22, 0);
+    for (size_t room = 0; room <= length + 2; room++)
+        converts("x + y at most -5; -x at most 0", old_question, sizeof old_question, room,
+                 room < length ? JEMULING_SPACE : JEMULING_CONVERTED, room < length ? 0 : length, new_question);
+    converts("no figure", example_8_question, sizeof example_8_question, sizeof example_8_question, JEMULING_CONVERTED,
+             sizeof example_8_question, example_8_question);
+    converts("four figures", four, sizeof four, 4, JEMULING_CONVERTED, 4, eight);
+    converts("five figures", five, sizeof five, 4, JEMULING_SPLIT, 0, NULL);
+    expect("five figures, no target", jemuling_convert(five, sizeof five, NULL, 0), JEMULING_SPLIT, 0);
+    expect("no target", jemuling_convert(four, sizeof four, NULL, 0), JEMULING_SPACE, 0);
+    expect("no question", jemuling_convert(NULL, 0, NULL, 0), JEMULING_SHORT, 0);
+    converts("no question", NULL, 0, 64, JEMULING_SHORT, 0, NULL);
+    converts("two =", double_question, sizeof double_question, 64, JEMULING_DOUBLE, 15, NULL);
+    converts("a long question", question, sizeof question, sizeof question, JEMULING_LONG, JEMULING_QUESTION_BYTES, NULL);
+    for (size_t converted = JEMULING_QUESTION_BYTES - 1; converted <= JEMULING_QUESTION_BYTES + 1; converted++) {
+        length = long_question(question, converted);
+        for (size_t room = JEMULING_QUESTION_BYTES - 2; room <= JEMULING_QUESTION_BYTES + 2; room++) {
+            int fits = converted <= room && converted <= JEMULING_QUESTION_BYTES;
+            converts("a long result", question, length, room, fits ? JEMULING_CONVERTED : JEMULING_SPACE, fits ? converted : 0, NULL);
+        }
+    }
+}
+
+/* The new question's verdict in edition 2 is the old one's in edition 1; its sheet is carried back to one that the check accepts. */
+static void carrying_back(void)
+{
+    static const unsigned char five[] = { 0, 5, 0, 0 }, four[] = { 0, 4, 0, 0 };
+    static unsigned char question[JEMULING_QUESTION_BYTES + 1], book[JEMULING_BOOK_BYTES];
+    unsigned char sheet[JEMULING_SHEET_BYTES], old[JEMULING_SHEET_BYTES], longer[JEMULING_SHEET_BYTES + 2];
+    jemuling_solved said = jemuling_solve_in(JEMULING_SECOND_EDITION, new_question, sizeof new_question, book, sizeof book, sheet,
+                                             sizeof sheet);
+    expect("the new question", (jemuling_told){ said.number, 0 }, JEMULING_AGREES, 0);
+    expect("its sheet", (jemuling_told){ 0, (size_t)memcmp(sheet, new_sheet, sizeof sheet) }, 0, 0);
+    expect("its sheet back", jemuling_carry_back(old_question, sizeof old_question, sheet, sizeof sheet, old, sizeof old),
+           JEMULING_CARRIED, 0);
+    expect("the old question's", jemuling_check_sheet(old_question, sizeof old_question, old, sizeof old), JEMULING_ACCEPTED, 0);
+    memcpy(longer, new_sheet, sizeof new_sheet);
+    memset(longer + 18, 0xee, sizeof longer - 18);
+    for (size_t length = 62; length <= 66; length++) {
+        for (size_t room = 62; room <= 66; room++) {
+            int full = length >= 64 && room >= 64;
+            carries("0, 0, 5", old_question, sizeof old_question, longer, length, room, full ? JEMULING_CARRIED : JEMULING_SHEET, 0,
+                    old_sheet);
+        }
+    }
+    carries("an open mark", open_question, sizeof open_question, new_open_sheet, 64, 64, JEMULING_CARRIED, 0, old_open_sheet);
+    carries("figures of the old question", old_question, sizeof old_question, old_sheet, 64, 64, JEMULING_SLIP, 1, NULL);
+    memcpy(sheet, new_open_sheet, sizeof sheet);
+    sheet[3] = JEMULING_NO;
+    carries("an open mark as no", open_question, sizeof open_question, sheet, 64, 64, JEMULING_SLIP, 3, NULL);
+    carries("five figures", five, sizeof five, NULL, 0, 0, JEMULING_SPLIT, 0, NULL);
+    carries("four figures", four, sizeof four, NULL, 0, 0, JEMULING_SHEET, 0, NULL);
+    carries("no question", NULL, 0, NULL, 0, 0, JEMULING_SHORT, 0, NULL);
+    carries("two =", double_question, sizeof double_question, NULL, 0, 0, JEMULING_DOUBLE, 15, NULL);
+    expect("nothing lent", jemuling_carry_back(NULL, 0, NULL, 0, NULL, 0), JEMULING_SHORT, 0);
+    expect("no sheet and target", jemuling_carry_back(four, sizeof four, NULL, 0, NULL, 0), JEMULING_SHEET, 0);
+    /* 1,000,000,000 less -1, and less 0, as each of four figures */
+    for (size_t figure = 0; figure < 4; figure++) {
+        memset(sheet, 0, sizeof sheet);
+        memcpy(sheet, (unsigned char[]){ 0, 8, 1 }, 3);
+        memcpy(sheet + 6 + 8 * figure, (unsigned char[]){ 0x00, 0xca, 0x9a, 0x3b }, 4);
+        carries("at the range", four, sizeof four, sheet, 64, 64, JEMULING_CARRIED, 0, NULL);
+        memset(sheet + 10 + 8 * figure, 0xff, 4);
+        carries("beyond the range", four, sizeof four, sheet, 64, 64, JEMULING_BACK, figure, NULL);
+        sheet[6 + 8 * figure] = 1;
+        carries("a half beyond", four, sizeof four, sheet, 64, 64, JEMULING_SLIP, 6 + 8 * figure, NULL);
+    }
+    /* its conversion is too long, which carrying back does not ask */
+    size_t length = long_question(question, JEMULING_QUESTION_BYTES + 1);
+    memset(sheet, 0, sizeof sheet);
+    memset(sheet + 1, JEMULING_OPEN, 16);
+    memcpy(sheet, (unsigned char[]){ 16, JEMULING_OPEN, 0, 0 }, 4);
+    memcpy(sheet + 17, (unsigned char[]){ 8, 1 }, 2);
+    carries("a question that cannot be converted", question, length, sheet, 64, 64, JEMULING_CARRIED, 0, NULL);
+}
+
 int main(void)
 {
     for (limit = STANDARD; limit < LIMITS; limit++) {
@@ -436,6 +571,10 @@ int main(void)
         largest_question();
         other_editions();
     }
+    limit = STANDARD;
+    edition = 0;
+    converting();
+    carrying_back();
     printf("%d passed, %d failed\n", passed, failed);
     return failed != 0;
 }

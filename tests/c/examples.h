@@ -1,4 +1,5 @@
-/* Questions of document 01's examples and of requests (i), (iv), (v), with the book or the sheet that the second solver writes for each. */
+/* Questions of document 01's examples and of requests (i), (iv) to (vi), with the book, sheet or question that the second solver writes for
+   each. */
 #ifndef EXAMPLES_H
 #define EXAMPLES_H
 
@@ -232,6 +233,38 @@ static const unsigned char negative_book[] = {
     0, 0, 0, 0, 0, 0, 0, 0, 0, 0, 0, 0, 0, 0, 0, 0,
     0, 0, 0, 0, 0, 0, 0, 0, 0, 0, 0, 0, 0, 0, 0, 0,
     0, 0, 0, 0, 0, 0, 0, 0, 0, 0, 0, 0, 0, 0, 0, 0,
+};
+
+/*
+ * 02's request (vi): x + y at most -5, -x at most 0, of which x is kept; the question in edition 2; a sheet of it, 0, 0, 5, and the sheet
+ * that this is carried back to. a or x at most 5, b or not b, with a mark c in no clause (open_question) in edition 2, a sheet and its own.
+ */
+static const unsigned char old_question[] = {
+    0, 2, 2, 0, 0, 1, 1, 1, 0, 0, 0, 1, 0, 0, 0, 251,
+    255, 255, 255, 0, 1, 1, 255, 255, 255, 255, 0, 0, 0, 0, 0, 0,
+    0, 0,
+};
+
+static const unsigned char new_question[] = {
+    0, 3, 2, 0, 0, 1, 1, 1, 0, 0, 0, 1, 0, 0, 0, 255,
+    255, 255, 255, 251, 255, 255, 255, 0, 1, 1, 255, 255, 255, 255, 0, 0,
+    0, 0, 0, 0, 0, 0, 0, 0, 0, 0,
+};
+
+static const unsigned char new_sheet[JEMULING_SHEET_BYTES] = {
+    0, 3, 1, 0, 0, 0, 0, 0, 0, 0, 0, 0, 0, 0, 5,
+};
+
+static const unsigned char old_sheet[JEMULING_SHEET_BYTES] = {
+    0, 2, 1, 0, 0, 0, 0, 0, 0, 0, 251, 255, 255, 255,
+};
+
+static const unsigned char new_open_sheet[JEMULING_SHEET_BYTES] = {
+    3, 1, 0, 2, 2, 7, 0, 0, 0, 3, 0, 0, 0, 9,
+};
+
+static const unsigned char old_open_sheet[JEMULING_SHEET_BYTES] = {
+    3, 1, 0, 2, 1, 7, 0, 0, 0, 250, 255, 255, 255,
 };
 
 #endif

@@ -1,7 +1,7 @@
 /*
  * The stack that each call takes beyond its caller's, measured on the vectors: a call runs on a stack painted before, and the paint that is
- * gone afterwards is counted. Takes the files of the vectors: solve, check_book, check_sheet. README.md and the header say the most, for a
- * preview's calls and for those that name an edition, too.
+ * gone afterwards is counted. Takes the files of the vectors: solve, check_book, check_sheet, convert, carry_back. README.md and the header
+ * say the most, for a preview's calls and for those that name an edition, too.
  */
 #define _POSIX_C_SOURCE 200809L
 #include <pthread.h>
@@ -15,7 +15,8 @@
 #define PAINTED (256 * 1024)
 #define ROW (1024 * 1024)
 
-enum { NOTHING, SOLVING, BOOK, SHEET, BACK, CALLS };
+/* In the order of the files; handing back has none. */
+enum { NOTHING, SOLVING, BOOK, SHEET, CONVERTING, CARRYING, BACK, CALLS };
 
 static const struct {
     const char *name;
@@ -23,11 +24,14 @@ static const struct {
 } said[CALLS] = {
     [SOLVING] = { "solving", 1664 },
     [BOOK] = { "the check of a book", 2560 },
-    [SHEET] = { "the check of a sheet", 768 },
+    [SHEET] = { "the check of a sheet", 896 },
+    [CONVERTING] = { "converting", 448 },
+    [CARRYING] = { "carrying back", 768 },
     [BACK] = { "handing back", 64 },
 };
 
 static unsigned char question[JEMULING_QUESTION_BYTES + 1], book[JEMULING_BOOK_BYTES], sheet[JEMULING_SHEET_BYTES];
+static unsigned char target[JEMULING_QUESTION_BYTES];
 static size_t question_length, book_length;
 static jemuling_solved solved;
 static jemuling_told told;
@@ -65,6 +69,12 @@ static void *called(void *call)
             told = jemuling_check_sheet_in(JEMULING_SECOND_EDITION, question, question_length, sheet, sizeof sheet);
         else
             told = jemuling_check_sheet(question, question_length, sheet, sizeof sheet);
+        break;
+    case CONVERTING:
+        told = jemuling_convert(question, question_length, target, sizeof target);
+        break;
+    case CARRYING:
+        told = jemuling_carry_back(question, question_length, sheet, sizeof sheet, target, sizeof target);
         break;
     case BACK:
         told = with[limit].hand_back(solved.number, solved.value, book, with[limit].bytes, sheet, sizeof sheet);
@@ -130,7 +140,7 @@ static void file(const char *name, int call)
         question_length = field(&at, question, sizeof question);
         if (call == BOOK)
             book_length = field(&at, book, sizeof book);
-        if (call == SHEET)
+        if (call == SHEET || call == CARRYING)
             field(&at, sheet, sizeof sheet);
         measure(call);
         if (call != SOLVING)
@@ -154,16 +164,32 @@ static int within(int call)
     return bytes > 0 && bytes <= said[call].most && times >= 100;
 }
 
-/* Both limits: the check of a sheet has none, handing back no file and no edition. */
+/* Whether there is such a call: the check of a sheet has no limit, handing back no edition, converting and carrying back neither. */
+static int is_call(int call)
+{
+    switch (call) {
+    case SHEET:
+        return limit == STANDARD;
+    case CONVERTING:
+    case CARRYING:
+        return limit == STANDARD && naming == UNNAMED;
+    case BACK:
+        return naming == UNNAMED;
+    default:
+        return 1;
+    }
+}
+
+/* Both limits, on the files. */
 static void measured(int count, char **names, int *passed, int *failed)
 {
     for (limit = STANDARD; limit < LIMITS; limit++) {
         for (int call = SOLVING; call < CALLS; call++) {
-            if (call != BACK && call < count && (call != SHEET || limit == STANDARD))
+            if (call != BACK && call < count && is_call(call))
                 file(names[call], call);
         }
         for (int call = SOLVING; call < CALLS; call++) {
-            if ((call == SHEET && limit == PREVIEW) || (call == BACK && naming == NAMED))
+            if (!is_call(call))
                 continue;
             if (within(call))
                 (*passed)++;

@@ -1,6 +1,7 @@
 /*
  * Runs the calls on the inputs of a file (see inputs.py) and prints a line for each: what the call said, and after solving what it left in
- * the lent buffers and what is handed back. With a second file, solving's books and sheets go there.
+ * the lent buffers and what is handed back; after converting and carrying back what it left in the target, which is the book's buffer. With
+ * a second file, solving's books and sheets go there.
  */
 #include <ctype.h>
 #include <stdint.h>
@@ -14,6 +15,9 @@
 
 /* An input that takes longer than this many seconds does not end. */
 #define PATIENCE 3
+
+/* Bytes behind a target that are looked at, too. */
+#define BEHIND 256
 
 struct input {
     uint32_t call, question, book, sheet;
@@ -90,6 +94,17 @@ int main(int argc, char **argv)
         case 'N':
             take(sheet, sizeof sheet, in.sheet, inputs);
             told(jemuling_check_sheet_in(in.number, question, in.question, sheet, in.sheet));
+            break;
+        case 'O':
+            memset(book, 0xab, in.book + BEHIND);
+            told(jemuling_convert(question, in.question, book, in.book));
+            printf(" %llx", hash(book, in.book + BEHIND));
+            break;
+        case 'R':
+            take(sheet, sizeof sheet, in.sheet, inputs);
+            memset(book, 0xab, in.book + BEHIND);
+            told(jemuling_carry_back(question, in.question, sheet, in.sheet, book, in.book));
+            printf(" %llx", hash(book, in.book + BEHIND));
             break;
         case 'H':
             told(with[limit].hand_back(in.number, in.lines, book, in.book, sheet, in.sheet));

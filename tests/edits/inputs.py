@@ -4,13 +4,14 @@ Every run makes the same ones."""
 from itertools import product
 from struct import pack, unpack_from
 
-BOOK, PREVIEW, SHEET, LINE = 65536, 16384, 64, 64
+BOOK, PREVIEW, SHEET, LINE, QUESTION = 65536, 16384, 64, 64, 32768
 MOST = 1_000_000_000
 
 
 class Input:
     """One call with its arguments: S solves, B checks a book, M a sheet, H hands back; T, C and N do what S, B and M do in the edition that
-    their number names; s, b, h, t and c are the preview's. Of buffers to write, the lengths alone."""
+    their number names; s, b, h, t and c are the preview's; O carries a question over, and R a sheet back, to a target in the book's place.
+    Of buffers to write, the lengths alone."""
 
     def __init__(self, name, call, question=b"", book=b"", sheet=b"", number=0, lines=0):
         self.name, self.call, self.question = name, call, bytes(question)
@@ -24,6 +25,14 @@ class Input:
 
 def solving(name, question, book=BOOK + 16, sheet=SHEET + 16):
     return Input(name, "S", question, book, sheet)
+
+
+def over(name, question, target=1000):
+    return Input(f"carried over: {name}", "O", question, target)
+
+
+def back(name, question, given, target=SHEET + 16):
+    return Input(f"carried back: {name}", "R", question, target, given)
 
 
 def preview(given):
@@ -370,6 +379,106 @@ def editions():
                     for clauses in ([], [alone(1, [1] * r, 9)], [alone(4, [1] * r, 9)]):
                         name = f"sheet: {r} figures, {len(clauses)} clauses, {numerators}"
                         yield naming(2, Input(name, "M", question(0, r, clauses), b"", sheet([], 2, numerators)))
+
+
+# ---- carried over to edition 2, and back
+
+def of_conversion(folder):
+    for name, asked, length, *_ in rows(f"{folder}/convert.txt"):
+        yield over(name, bytes.fromhex(asked), int(length))
+    for name, asked, given, length, *_ in rows(f"{folder}/carry_back.txt"):
+        yield back(name, bytes.fromhex(asked), bytes.fromhex(given), int(length))
+
+
+def about_figures():
+    """Clauses of one mark and two figures that keep a figure, or nearly do: with each relation, sign, bound and factor, beside a literal or
+    another condition."""
+    rows = [[-1], [0, -1], [1], [-1, 1], [1, -1], [-7], [], [-1, -1]]
+    for row, relation, bound in product(rows, (1, 2, 3, 4), (-1, 0, 1)):
+        yield f"{row} {relation} {bound}", alone(relation, row, bound)
+    own, true, false = (1, [-1], 0), (1, [], 0), (1, [], -1)
+    for literals in ([0], [128], [0, 128], [0, 0]):
+        yield f"literals {literals}", (literals, [own])
+    for conditions in ([own, own], [own, (1, [-1], -1)], [own, false], [false, own], [own, true], [own, (1, [1], -9)], [(1, [1], -9), own]):
+        yield f"conditions {conditions}", ([], conditions)
+    yield "an empty clause", ([], [])
+
+
+def long_question(r, length):
+    """Figures that are all split, in clauses that tidying drops, whose literals make up the length of the result."""
+    clauses = [([1, 129], [(1 + j % 2, [i - 128 + f for f in range(r)], j - i) for j in range(3)]) for i in range(256)]
+    rest = length - 4 - 256 * (4 + 3 * (5 + 8 * r))
+    for literals, _ in clauses:
+        more = min(rest, 30)
+        literals += [2] * more
+        rest -= more
+    return question(16, r, clauses)
+
+
+def conversion():
+    """Each of those clauses, alone and before or behind another; figures kept and split of every count, with sheets of every count; halves
+    about their range at each figure; targets and sheets of every length about their own; results about the limit."""
+    others = {"": [], "; x + 3y <= 5": [alone(1, [1, 3], 5)], "; -y <= 0": [alone(1, [0, -1], 0)], "; a": [([0], [])]}
+    for (i, clause), (j, other) in product(about_figures(), others.items()):
+        marks = [2] if not any(literals for literals, _ in (clause, *other)) else [1]
+        for order, clauses in (("", [clause, *other]), (", turned round", [*other, clause])):
+            asked = question(1, 2, clauses)
+            yield over(f"{i}{j}{order}", asked)
+            for count in (2, 3, 4):
+                yield back(f"{i}{j}{order}, {count} figures", asked, sheet(marks, 6, [3, 10, 2, 4][:count]))
+    # each set of figures kept, by a clause for each, with a sum of all before them
+    for r in range(1, 9):
+        for kept in range(2 ** r):
+            if r > 4 and (kept * 2654435761 >> 7) % 8:
+                continue
+            own = [alone(1 + i % 2, [0] * i + [-1 - i], -i) for i in range(r) if kept >> i & 1]
+            asked = question(2, r, [([1], [(4, list(range(1, r + 1)), -7)])] + own)
+            name = f"{r} figures, {[i for i in range(r) if kept >> i & 1]} kept"
+            yield over(name, asked)
+            for count in {r, min(8, 2 * r - len(own)), 8}:
+                yield back(f"{name}, {count} figures", asked, sheet([2, 1], 9, [5, 100, 3, 1000, 20, 300, 4, 7][:count]))
+    # lengths
+    asked = question(0, 2, [alone(1, [1, 1], -5), alone(1, [-1], 0)])
+    for length in range(64):
+        yield over(f"x + y <= -5; -x <= 0, a target of {length}", asked, length)
+    given = sheet([], 4, [2, 6, 8])
+    for lent, to in product((0, 17, 18, 62, 63, 64, 65, 80), repeat=2):
+        yield back(f"a sheet of {lent}, a target of {to}", asked, (given[:18] + bytes([7]) * 62)[:lent], to)
+    for r, length in ((4, QUESTION - 1), (4, QUESTION), (4, QUESTION + 1), (5, QUESTION + 4000)):
+        for target in (length - 1, length, QUESTION, BOOK):
+            yield over(f"{r} figures, {length} bytes, a target of {target}", long_question(r, length), target)
+        yield back(f"{r} figures, {length} bytes", long_question(r, length), sheet([2, 1, 1] + [2] * 13, 1, [9, 1, 8, 2, 7, 3, 6, 4]))
+    # halves about their range
+    pairs = [(MOST, 0), (0, MOST), (MOST, -1), (-1, MOST), (-MOST, 1), (-MOST, -MOST), (MOST, -MOST), (MOST + 1, 0), (0, -MOST - 1)]
+    for own in ([], [alone(1, [0, -1], 0)]):
+        asked = question(1, 4, own)
+        for first, second in product(range(4), repeat=2):
+            for one, other in product(pairs, repeat=2):
+                figures = [one if i == first else other if i == second else (7, 3) for i in range(4)]
+                numerators = [amount for i, pair in enumerate(figures) for amount in (pair[:1] if own and i == 1 else pair)]
+                yield back(f"figures {figures}, {len(own)} kept", asked, sheet([2], 3, numerators))
+    # a sheet with every byte changed
+    asked = question(3, 3, [([0, 130], [(1, [1, 1, 1], 5)]), alone(1, [0, -1], 0)])
+    right = sheet([1, 2, 0], 6, [4, 2, 8, 10, 12])
+    for place, value in product(range(SHEET), (0, 1, 2, 3, 5, 127, 128, 255)):
+        changed = bytearray(right)
+        changed[place] = value
+        yield back(f"byte {place} is {value}", asked, bytes(changed))
+    # faults of the question come first, with 20, 21, 2 and 17 behind
+    fine = question(0, 5, [alone(1, [1], 5), ([], [(3, [1], 1), (4, [1], 2)])])
+    for length in range(len(fine) + 1):
+        yield over(f"five figures, {length} bytes", fine[:length], 9)
+        yield back(f"five figures, {length} bytes", fine[:length], b"", 9)
+    for place, value in product(range(len(fine)), (3, 9, 33, 255)):
+        changed = bytearray(fine)
+        changed[place] = value
+        yield over(f"five figures, byte {place} is {value}", bytes(changed), 9)
+        yield back(f"five figures, byte {place} is {value}", bytes(changed), bytes(64), 9)
+    for name, random in (("question", Random(3)), ("question of four relations", Stated(4))):
+        for i in range(300):
+            asked = random.problem()
+            yield over(f"random {name} {i}", asked)
+            yield over(f"random {name} {i}, damaged", random.damaged(asked), random.between(0, 200))
 
 
 # ---- by the preview's calls

@@ -2,7 +2,7 @@
 //! package, and the calls for tests alone, whose declarations repeat those of `crates/test_calls`.
 
 use jemuling::Refusal;
-use reference::{Answer, Checked, Limit, Part, Verdict};
+use reference::{Answer, Carried, Checked, Converted, Limit, Part, Verdict};
 
 pub fn solve(question: &[u8], book: &mut [u8], sheet: &mut [u8]) -> Answer {
     solve_within(Limit::STANDARD, question, book, sheet)
@@ -119,6 +119,22 @@ pub fn hand_back_within<'a>(
     match part {
         jemuling::Part::Book(part) => Part::Book(part),
         jemuling::Part::Sheet(part) => Part::Sheet(part),
+    }
+}
+
+pub fn convert(question: &[u8], target: &mut [u8]) -> Converted {
+    match jemuling::convert(question, target) {
+        jemuling::Converted::Length(length) => Converted::Length(length),
+        jemuling::Converted::Refused(Refusal { number, place }) => {
+            Converted::Refused { number, place }
+        }
+    }
+}
+
+pub fn carry_back(question: &[u8], sheet: &[u8], target: &mut [u8]) -> Carried {
+    match jemuling::carry_back(question, sheet, target) {
+        jemuling::Carried::Done => Carried::Done,
+        jemuling::Carried::Refused(Refusal { number, place }) => Carried::Refused { number, place },
     }
 }
 

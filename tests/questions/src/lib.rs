@@ -1,6 +1,7 @@
 //! Questions for the test programs. Nothing here uses a solver.
 
 pub mod batches;
+pub mod conversion;
 pub mod diamonds;
 pub mod editions;
 pub mod largest;

@@ -110,10 +110,10 @@ fn loaded(clause: u16, part: u16, parts: &[ClausePart]) -> Option<Step> {
 
 /// A choice as a sheet writes it: one denominator for all numerators. An open mark is in no clause, so
 /// either value would do; it counts as no.
-struct Model {
+pub struct Model {
     booleans: u32,
     denominator: i128,
-    numerators: [i128; MAX_RATIONALS],
+    pub numerators: [i128; MAX_RATIONALS],
 }
 
 /// Checks that every clause, as written, holds under the choice on a sheet.
@@ -146,7 +146,7 @@ pub fn check_sheet_in(edition: u64, question: &[u8], sheet: &[u8]) -> Checked {
 
 /// Reads a sheet laid out by the problem's counts, or names its first bad field. The last field
 /// ends at byte 54 at most.
-fn read_model(problem: &Problem, sheet: &[u8]) -> Result<Model, Fault> {
+pub fn read_model(problem: &Problem, sheet: &[u8]) -> Result<Model, Fault> {
     let slip = |good: bool, place: usize| match good {
         true => Ok(()),
         false => Err(Fault { number: 17, place }),

@@ -1,10 +1,11 @@
-//! The second solver: document 01 with 02's requests (i), (iii), (iv), (v), (vii) and (viii), written
-//! once more, in plain Rust and from their text alone, to judge the proved one from outside. Every call
-//! here takes any bytes and buffers of any length; one that names no limit of lines takes 1,024, and one
-//! that names no edition the first.
+//! The second solver: document 01 with 02's requests (i) and (iii) to (viii), written once
+//! more, in plain Rust and from their text alone, to judge the proved one from outside. Every call here
+//! takes any bytes and buffers of any length; one that names no limit of lines takes 1,024, and one that
+//! names no edition the first.
 
 pub mod big;
 mod checker;
+mod conversion;
 mod covering;
 mod editions;
 mod elimination;
@@ -18,6 +19,7 @@ mod readings;
 
 pub use checker::{check_book, check_book_in, check_book_within};
 pub use checker::{check_sheet, check_sheet_in, Checked};
+pub use conversion::{carry_back, convert, Carried, Converted};
 pub use covering::Dropping;
 pub use elimination::{Limit, Order, Rules, Search};
 pub use evidence::{hand_back, hand_back_within, Part};

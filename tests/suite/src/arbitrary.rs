@@ -75,7 +75,7 @@ fn bytes(random: &mut Random, length: i64) -> Vec<u8> {
 }
 
 /// Random bytes, or a right question with some bytes changed and cut or lengthened at its end.
-fn question(random: &mut Random) -> Vec<u8> {
+pub fn question(random: &mut Random) -> Vec<u8> {
     if random.once_in(4) {
         let length = random.between(0, 40);
         return bytes(random, length);

@@ -76,7 +76,7 @@ fn problems(solver: Solver, wanted: Verdict, random: &mut Random) -> Vec<(Proble
 }
 
 /// Calls the test with each place and the bytes changed there: each bit turned, and all.
-fn for_each_change(bytes: &[u8], mut test: impl FnMut(usize, &[u8]) -> Outcome) -> Outcome {
+pub fn for_each_change(bytes: &[u8], mut test: impl FnMut(usize, &[u8]) -> Outcome) -> Outcome {
     let mut damaged = bytes.to_vec();
     for place in 0..bytes.len() {
         for change in [1, 2, 4, 8, 16, 32, 64, 128, 255] {

@@ -8,6 +8,10 @@ mod batches;
 mod buffers;
 mod checks;
 mod consistency;
+mod conversion;
+mod conversion_cases;
+mod conversion_laws;
+mod conversion_random;
 mod damage;
 mod earlier;
 mod edition_cases;
@@ -55,6 +59,7 @@ fn main() -> ExitCode {
     relations::run(&mut sums);
     open::run(&mut sums);
     editions::run(&mut sums);
+    conversion::run(&mut sums);
     earlier::run(&mut sums);
     batches::run(&mut sums);
     program::run(&mut sums);

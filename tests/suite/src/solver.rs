@@ -3,7 +3,7 @@
 
 use crate::report::Group;
 use questions::problem::Problem;
-use reference::{Answer, Checked, Limit, Part, SECOND_EDITION};
+use reference::{Answer, Carried, Checked, Converted, Limit, Part, SECOND_EDITION};
 
 #[derive(Clone, Copy)]
 enum Code {
@@ -139,6 +139,21 @@ impl Solver {
         match self.code {
             Code::Second => reference::hand_back_within(self.limit, answer, book, sheet),
             Code::Proved => proved::hand_back_within(self.limit, answer, book, sheet),
+        }
+    }
+
+    /// Converting and carrying back name no edition, and have no limit of lines.
+    pub fn convert(self, question: &[u8], target: &mut [u8]) -> Converted {
+        match self.code {
+            Code::Second => reference::convert(question, target),
+            Code::Proved => proved::convert(question, target),
+        }
+    }
+
+    pub fn carry_back(self, question: &[u8], sheet: &[u8], target: &mut [u8]) -> Carried {
+        match self.code {
+            Code::Second => reference::carry_back(question, sheet, target),
+            Code::Proved => proved::carry_back(question, sheet, target),
         }
     }
 }

@@ -1,11 +1,12 @@
 //! The vectors beside the suite: every line of every file is a case, and a line that cannot be
 //! read is a failure.
 
-use crate::buffers::{book_length, ends_course, solve_filled, BOOK_LENGTH, PREVIEW_LENGTH};
+use crate::buffers::{book_length, ends_course, solve_filled};
+use crate::buffers::{BOOK_LENGTH, PREVIEW_LENGTH, SHEET_LENGTH};
 use crate::preview::{full, held, pairs};
 use crate::report::{demand, equal, Outcome, Sums};
 use crate::solver::Solver;
-use reference::{Answer, Checked, Part, Verdict};
+use reference::{Answer, Carried, Checked, Converted, Part, Verdict};
 use std::path::Path;
 
 /// The fewest cases that a file has.
@@ -68,6 +69,8 @@ fn run_in_1(solver: Solver, sums: &mut Sums) {
         run_file(solver, "buffers.txt", buffers_case, sums);
         run_file(solver, "editions.txt", editions_case, sums);
         run_file(solver, "hand_back.txt", hand_back_case, sums);
+        run_file(solver, "convert.txt", convert_case, sums);
+        run_file(solver, "carry_back.txt", carry_back_case, sums);
     }
 }
 
@@ -287,6 +290,63 @@ fn hand_back_case(solver: Solver, fields: &Fields) -> Outcome {
     let expected = expected.ok_or("malformed")?;
     let part = solver.hand_back(&answer, &book, &sheet);
     equal("part", &expected, &part)
+}
+
+/// name, question, target's length, new question's length and bytes or a refusal; behind the result the
+/// target is kept, after a refusal all of it.
+fn convert_case(solver: Solver, fields: &Fields) -> Outcome {
+    let (question, room, rest) = match fields {
+        [_, question, room, rest @ ..] => (question, room, rest),
+        _ => return Err("malformed".into()),
+    };
+    let mut target = numbered(number(room)?);
+    let mut after = target.clone();
+    let expected = match *rest {
+        ["converted", length, new] => {
+            let length = number(length)?;
+            let result = after.get_mut(..length).ok_or("malformed")?;
+            let new = bytes(new)?;
+            equal("stored length", &length, &new.len())?;
+            result.copy_from_slice(&new);
+            Converted::Length(length)
+        }
+        ["refused", fault, place] => Converted::Refused {
+            number: number(fault)?,
+            place: number(place)?,
+        },
+        _ => return Err("malformed".into()),
+    };
+    let said = solver.convert(&bytes(question)?, &mut target);
+    equal("converting", &expected, &said)?;
+    demand(target == after, "another target")
+}
+
+/// name, old question, new question's sheet, target's length, the target's 64 bytes or a refusal; the
+/// target's other bytes are kept, after a refusal all of them.
+fn carry_back_case(solver: Solver, fields: &Fields) -> Outcome {
+    let (question, sheet, room, rest) = match fields {
+        [_, question, sheet, room, rest @ ..] => (question, sheet, room, rest),
+        _ => return Err("malformed".into()),
+    };
+    let mut target = numbered(number(room)?);
+    let mut after = target.clone();
+    let expected = match *rest {
+        ["carried", old] => {
+            let result = after.get_mut(..SHEET_LENGTH).ok_or("malformed")?;
+            let old = bytes(old)?;
+            equal("stored length", &SHEET_LENGTH, &old.len())?;
+            result.copy_from_slice(&old);
+            Carried::Done
+        }
+        ["refused", fault, place] => Carried::Refused {
+            number: number(fault)?,
+            place: number(place)?,
+        },
+        _ => return Err("malformed".into()),
+    };
+    let said = solver.carry_back(&bytes(question)?, &bytes(sheet)?, &mut target);
+    equal("carrying back", &expected, &said)?;
+    demand(target == after, "another target")
 }
 
 /// Bytes that differ from place to place.
