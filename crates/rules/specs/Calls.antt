@@ -147,26 +147,23 @@ modelChecked terms input bytes =
     ]
 
 -- ---- 02, (v): calls that name the edition; 19, "any other edition, tested first in every call that names one, place 0"
+module _ {A : Type 0} where
+  unfoldable pub inNamed : Limits → ℕ → A → (Terms → A) → A
+  inNamed limits edition refused call =
+      elim (editionNamed edition) [ Unknown ↦ refused | Known e ↦ call (record { limits = limits; edition = e }) ]
+
 unfoldable pub solveIn : Limits → ℕ → List ℕ → List ℕ → List ℕ → Solving
 solveIn limits edition input proof model =
-    elim (editionNamed edition) [
-      | Unknown ↦ record { solved = said (faulted refusal.Edition 0); proof = proof; model = model }
-      | Known e ↦ solve (record { limits = limits; edition = e }) input proof model
-    ]
+    inNamed limits edition (record { solved = said (faulted refusal.Edition 0); proof = proof; model = model })
+    (λ terms. solve terms input proof model)
 
 unfoldable pub proofCheckedIn : Limits → ℕ → List ℕ → List ℕ → Checked
 proofCheckedIn limits edition input proof =
-    elim (editionNamed edition) [
-      | Unknown ↦ checked.Refused refusal.Edition 0
-      | Known e ↦ proofChecked (record { limits = limits; edition = e }) input proof
-    ]
+    inNamed limits edition (checked.Refused refusal.Edition 0) (λ terms. proofChecked terms input proof)
 
 unfoldable pub modelCheckedIn : Limits → ℕ → List ℕ → List ℕ → Checked
 modelCheckedIn limits edition input bytes =
-    elim (editionNamed edition) [
-      | Unknown ↦ checked.Refused refusal.Edition 0
-      | Known e ↦ modelChecked (record { limits = limits; edition = e }) input bytes
-    ]
+    inNamed limits edition (checked.Refused refusal.Edition 0) (λ terms. modelChecked terms input bytes)
 
 -- ---- handing back
 -- "the sheet's 64 bytes after "agrees" and the used lines of the book after "cannot agree"; otherwise, or with a buffer that 1 or 2

@@ -24,7 +24,7 @@ use Rattle.rules.specs.Readings.{isStrict, turns, signed, readAs, readin
 use Rattle.rules.specs.Normalize.{membersOf, reduced, settled, settledAll, normalClause, settledLine, normalLine}
 use Rattle.rules.specs.Split.{chain, parts, readingParts, readingSplits, allParts, allSplits, partsOf, splitsOf, overSplit}
 use Rattle.rules.specs.Resolve.{combination, combinationOf, oneOf, resolvent, resolve}
-use Rattle.rules.specs.Steps.{Origin, header, headerBytes, relationByte, mask, row, lineBytes, encodeStep, encodeProof}
+use Rattle.rules.specs.Steps.{Origin, header, headerBytes, relationByte, mask, row, lineBytes, encodeStep, encodeProof, stepAt}
 use Rattle.rules.specs.Elimination.{orderBy, remaining, rationalsAfter, orderAfter, roundOf, overflows, limited, unlimited}
 use Rattle.rules.specs.Elimination.{placed, asTight, drops, covered, select, pairUp, sideOf, roundPairs, partSteps, loadable}
 use Rattle.rules.specs.Elimination.{loadableOf, add, load, tried, tryAll}
@@ -37,7 +37,7 @@ use Rattle.rules.specs.Model.{occurs, isOpen, booleanByte, isBooleanByte
 use Rattle.rules.specs.Checker.{pairable, derived, variableNamed, resolventNamed, lineAmong, statedLine, followed, checkProof}
 use Rattle.rules.specs.Checker.{followedLines, endsEmpty, withEmptyEnd, checkClauses}
 use Rattle.rules.specs.Calls.{Outcome, faulted, stopped, decided, withinSplits, read, noModel, concluded, outcome, lent, said}
-use Rattle.rules.specs.Calls.{proofAfter, modelAfter, solve, wholeSteps, proofChecked, modelChecked, solveIn}
+use Rattle.rules.specs.Calls.{proofAfter, modelAfter, solve, wholeSteps, proofChecked, modelChecked, inNamed, solveIn}
 use Rattle.rules.specs.Calls.{proofCheckedIn, modelCheckedIn, evidence, evidenceBytes}
 use Rattle.rules.specs.Print.{ascii, digitsWithin, decimal, signedDecimal, printLine, printStep, printProof, printModel, printRefusal}
 use Rattle.rules.specs.Print.{printed}
@@ -53,14 +53,15 @@ unfolding any all filter concat same tabulate put gcdWithin gcd gcdAll lcm sum s
     allSplits noBooleans including excluding union meet someYes aLiteralHolds
     theConstraintHolds lineHolds coefficient positively negatively contains noConstraint isEmpty subset membersOf reduced settled
     settledAll normalClause settledLine normalLine chain parts partsOf splitsOf overSplit combination combinationOf oneOf resolvent
-    resolve header headerBytes relationByte mask row lineBytes encodeStep encodeProof orderBy remaining rationalsAfter orderAfter roundOf
+    resolve header headerBytes relationByte mask row lineBytes encodeStep encodeProof stepAt orderBy remaining rationalsAfter orderAfter
+    roundOf
     overflows limited unlimited placed asTight drops covered select pairUp sideOf roundPairs partSteps loadable loadableOf add load tried
     tryAll without count costOf cost cheapest pick rounds eliminate chosenRounds otherRounds chosenRun elimination orderOf reduce quotient
     less midpoint plus beyond tighter value boundOf boundsOf gather tightest rationalValue withoutBoolean booleanValue withRational
     withBoolean assign exceeds start walkFrom walk occurs isOpen booleanByte isBooleanByte encodeModel tooLarge written model pairable
     derived variableNamed resolventNamed lineAmong statedLine followed followedLines endsEmpty withEmptyEnd checkProof checkClauses
     withinSplits read noModel
-    concluded outcome lent said proofAfter modelAfter solve wholeSteps proofChecked modelChecked editionNamed solveIn proofCheckedIn
+    concluded outcome lent said proofAfter modelAfter solve wholeSteps proofChecked modelChecked editionNamed inNamed solveIn proofCheckedIn
     modelCheckedIn evidence evidenceBytes ascii digitsWithin decimal signedDecimal printLine printStep printProof printModel
     printRefusal printed stepsOf pairsOf needs listed triedResolvents
     roundResolvents resolvents refusalNumber verdictNumber answerNumber answerValue checkedNumber checkedValue evidenceNumber

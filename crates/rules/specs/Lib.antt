@@ -16,6 +16,7 @@ pub mod Model
 pub mod Checker
 pub mod Calls
 pub mod Convert
+pub mod Trim
 pub mod Print
 pub mod Write
 pub mod Written
@@ -24,5 +25,6 @@ pub mod Equalities
 pub mod OpenVariables
 pub mod Editions
 pub mod Conversions
+pub mod ShortProofs
 pub mod Examples
 pub mod Traps

@@ -4,7 +4,7 @@ use mathlib.Core.List.{List, [], _∷_, _++_}
 use mathlib.Core.Option.{Option, none, some}
 use Prim.Native.Nat.{ℕ, _+_, _*_}
 use lib.IntN.{ℤ, pos}
-use lib.ListN.{replicate}
+use lib.ListN.{replicate, take, drop}
 use Rattle.rules_types.specs.Limits as limit
 use Rattle.rules.specs.Bytes.{toBytes, amountBytes, padded}
 use Rattle.rules.specs.Problem.{Constraint}
@@ -62,3 +62,7 @@ encodeStep s = padded limit.stepBytes (headerBytes (header (s .origin)) ++ lineB
 unfoldable pub encodeProof : List Step → List ℕ
 encodeProof [] = []
 encodeProof (s ∷ ss) = encodeStep s ++ encodeProof ss
+
+-- the bytes of step i of a proof
+unfoldable pub stepAt : List ℕ → ℕ → List ℕ
+stepAt proof i = take limit.stepBytes (drop (limit.stepBytes * i) proof)

@@ -1,4 +1,4 @@
--- The numbers and values of every answer. A refusal's number is document 01's, or 02's; the words that have none there take 64 to 72,
+-- The numbers and values of every answer. A refusal's number is document 01's, or 02's; the words that have none there take 64 to 73,
 -- above every refusal of documents 01 and 02 (docs/DECISIONS.md).
 use Prim.Native.Nat.{ℕ}
 use Rattle.rules_types.specs.declared.answers.Refusal.{Refusal}
@@ -18,6 +18,8 @@ use Rattle.rules_types.specs.declared.answers.Converted.{Converted}
 use Rattle.rules_types.specs.declared.answers.Converted.the-variants as converted
 use Rattle.rules_types.specs.declared.answers.Carried.{Carried}
 use Rattle.rules_types.specs.declared.answers.Carried.the-variants as carried
+use Rattle.rules_types.specs.declared.answers.Trimmed.{Trimmed}
+use Rattle.rules_types.specs.declared.answers.Trimmed.the-variants as trimmed
 use Rattle.rules_types.specs.declared.answers.Evidence.the-variants.{OfProof, OfModel}
 
 -- its word in document 01, or 02, after each
@@ -96,3 +98,14 @@ carriedNumber (carried.Refused f p) = refusalNumber f
 unfoldable pub carriedValue : Carried → ℕ
 carriedValue carried.Done = 0
 carriedValue (carried.Refused f p) = p
+
+-- trimmed, with the steps that are left; the first line that fails, as a check says it
+unfoldable pub trimmedNumber : Trimmed → ℕ
+trimmedNumber (trimmed.Steps n) = 73
+trimmedNumber (trimmed.Fails n) = 68
+trimmedNumber (trimmed.Refused f p) = refusalNumber f
+
+unfoldable pub trimmedValue : Trimmed → ℕ
+trimmedValue (trimmed.Steps n) = n
+trimmedValue (trimmed.Fails n) = n
+trimmedValue (trimmed.Refused f p) = p

@@ -111,3 +111,10 @@ pub enum Carried {
     Done,
     Refused(Refusal, usize),
 }
+
+// What trimming a proof returns: the steps of the short one, the first step that fails, or a refusal with its place.
+pub enum Trimmed {
+    Steps(usize),
+    Fails(usize),
+    Refused(Refusal, usize),
+}

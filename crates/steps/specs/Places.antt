@@ -8,11 +8,8 @@ use lib.ListN.{take-append-drop}
 use lib.Seq.{drop-drop, drop-at, take-all, length-take-le, take-append-le, drop-append-le, take-append-seam, drop-append-add}
 use Rattle.rules_types.specs.Limits.{stepBytes}
 use Rattle.rules.specs.Bytes.{fromBytes, fieldAt}
+unfoldable pub use Rattle.rules.specs.Steps.{stepAt}
 use Rattle.fields.specs.Field.{stored, length-stored}
-
--- the bytes of step i
-unfoldable pub stepAt : List ℕ → ℕ → List ℕ
-stepAt s i = take stepBytes (drop (stepBytes * i) s)
 
 -- the bytes hold step i, whatever it is
 abbrev pub HasStep : List ℕ → ℕ → Type 0
