@@ -1,17 +1,18 @@
--- What the check takes for a line of a proof follows: a claim true of the loadable lines, and of every resolvent of lines of which it
--- is true, is true of every line that the check accepts.
+-- What the check takes for a line of a proof follows: a claim true of the loadable line with its bytes, and of every resolvent of lines
+-- of which it is true, is true of every line that the check accepts.
 use mathlib.Core.Path.{_≡_, refl}
 use mathlib.Core.Bool.{Bool, true, false, cond, _&&_}
 use mathlib.Core.Logic.{⊎-elim}
 use mathlib.Core.List.{List, [], _∷_}
 use mathlib.Core.Option.{Option, none, some}
 use Prim.Native.Nat.{ℕ, zero, suc}
-use lib.Dec.{T, eqb}
+use lib.Dec.{T, eqb, eqb→eq}
 use lib.ListN.{getElem?}
 use mir.Facts.{and-yes}
 use Rattle.rules_types.specs.Layout as layout
 use Rattle.theory_lists.specs.Tests.{split, is-true, is-false}
 use Rattle.theory_lists.specs.All.{All}
+use Rattle.theory_lists.specs.Equal.{same-yes}
 use Rattle.rules.specs.Lists.{same}
 use Rattle.rules.specs.Bytes.{fieldAt}
 use Rattle.rules.specs.Lines.{Line, Variable, positively, negatively}
@@ -31,12 +32,17 @@ module _ (P : Line → Type 0) where
   abbrev StepSo : Step → Type 0
   StepSo s = P (s .line)
 
-  among : (ss : List Step) (bytes : List ℕ) → All StepSo ss → DroppedOr P (lineAmong ss bytes)
+  -- where these are its bytes
+  abbrev SoWritten : List ℕ → Step → Type 0
+  SoWritten bytes s = encodeStep s ≡ bytes → P (s .line)
+
+  among : (ss : List Step) (bytes : List ℕ) → All (SoWritten bytes) ss → DroppedOr P (lineAmong ss bytes)
   unfolding lineAmong
   among [] bytes h = tt
   among (s ∷ ss) bytes h =
       let S = same eqb (encodeStep s) bytes in
-      ⊎-elim (λ t. rw (is-true S t, lineAmong) (h .0)) (λ t. rw (is-false S t, lineAmong) (among ss bytes (h .1))) (split S)
+      ⊎-elim (λ t. rw (is-true S t, lineAmong) (h .0 (same-yes eqb eqb→eq (encodeStep s) bytes t)))
+      (λ t. rw (is-false S t, lineAmong) (among ss bytes (h .1))) (split S)
 
   element : (ls : List Line) (i : ℕ) → All P ls → DroppedOr P (getElem? ls i)
   element [] i h = tt
@@ -77,12 +83,13 @@ module _ (P : Line → Type 0) where
         (derived-so v first second (element earlier (fieldAt layout.stepFirst 2 bytes) h)
         (element earlier (fieldAt layout.stepSecond 2 bytes) h)) (λ l p. p))
 
-    pub stated-so : (parts : List Step) (earlier : List Line) (bytes : List ℕ) → All StepSo parts → All P earlier
+    pub stated-so : (parts : List Step) (earlier : List Line) (bytes : List ℕ) → All (SoWritten bytes) parts → All P earlier
         → DroppedOr P (statedLine parts earlier bytes)
     unfolding statedLine
     stated-so parts earlier bytes h k = by (lineAmong parts bytes) refl (among parts bytes h)
       where
         by : (o : Option Line) → lineAmong parts bytes ≡ o → DroppedOr P o → DroppedOr P (statedLine parts earlier bytes)
         by none e r = rw (e, statedLine)
-            (dropped-then StepSo P _ (resolventNamed earlier bytes) (resolvent-so earlier bytes k) (λ s p. among (s ∷ []) bytes (p, tt)))
+            (dropped-then StepSo P _ (resolventNamed earlier bytes) (resolvent-so earlier bytes k)
+            (λ s p. among (s ∷ []) bytes (λ q. p, tt)))
         by (some l) e r = rw (e, statedLine) r

@@ -1,5 +1,6 @@
 pub mod Follows
 pub mod EndsEmpty
+pub mod Core
 pub mod Refutation
 pub mod ProofChecked
 pub mod ModelChecked

@@ -1,9 +1,10 @@
--- The call that checks a proof: where it says accepted, the problem that was read has no satisfying assignment, whatever the terms.
+-- The call that checks a proof: where it says accepted, the problem that was read has no satisfying assignment, whatever the terms; nor
+-- do the clauses alone that the proof loads.
 use mathlib.Core.Path.{_≡_, refl}
 use mathlib.Core.Bool.{Bool}
 use mathlib.Core.Logic.{⊎-elim}
 use mathlib.Core.List.{List}
-use Prim.Native.Nat.{ℕ}
+use Prim.Native.Nat.{ℕ, _≤_}
 use native.Mathlib.Omega.{arith}
 use lib.ListN.{length}
 use Rattle.rules_types.specs.declared.answers.Refusal.{Refusal}
@@ -16,6 +17,7 @@ use Rattle.rules.specs.Meaning.{Assignment, Satisfies}
 use Rattle.rules.specs.Checker.{checkProof}
 use Rattle.rules.specs.Calls.{Reading, faulty, sound, read, wholeSteps, proofChecked}
 use Rattle.theory_splitting.specs.WellRead.{posed-well-formed}
+use Rattle.theory_checks.specs.Core.{LoadedHold, accepted-core}
 use Rattle.theory_checks.specs.Refutation.{accepted-proof-refutes}
 
 -- the problem that was read, and that its check accepts the proof
@@ -44,10 +46,18 @@ checked-proof terms input proof a = by (read input) refl
 pub same-problem : (r : Reading) (p q : Problem) → r ≡ sound p → r ≡ sound q → p ≡ q
 same-problem r p q e f = cc
 
-pub proof-checked-refutes : (terms : Terms) (input proof : List ℕ) → proofChecked terms input proof ≡ checked.Accepted → (p : Problem)
-    → read input ≡ sound p → (χ : Assignment)
-    → Satisfies χ (inEdition (terms .edition) p) → ⊥
-proof-checked-refutes terms input proof a p e =
-    let c = checked-proof terms input proof a in
-    accepted-proof-refutes (inEdition (terms .edition) p) (posed-well-formed (terms .edition) input p e) proof
-    (rw (same-problem (read input) p (c .problem) e (c .reads)) (c .accepted))
+module _ (terms : Terms) (input proof : List ℕ) (a : proofChecked terms input proof ≡ checked.Accepted) (p : Problem)
+    (e : read input ≡ sound p) where
+  posed-accepted : checkProof (inEdition (terms .edition) p) proof ≡ checked.Accepted
+  posed-accepted =
+      let c = checked-proof terms input proof a in
+      rw (same-problem (read input) p (c .problem) e (c .reads)) (c .accepted)
+
+  pub proof-checked-refutes : (χ : Assignment) → Satisfies χ (inEdition (terms .edition) p) → ⊥
+  proof-checked-refutes =
+      accepted-proof-refutes (inEdition (terms .edition) p) (posed-well-formed (terms .edition) input p e) proof posed-accepted
+
+  -- nor is there an assignment under which the clauses hold that the proof loads
+  pub proof-checked-core : (χ : Assignment) → 1 ≤ χ .denominator → LoadedHold proof (inEdition (terms .edition) p) χ → ⊥
+  proof-checked-core =
+      accepted-core (inEdition (terms .edition) p) (posed-well-formed (terms .edition) input p e) proof posed-accepted

@@ -12,6 +12,7 @@ pub mod PartsChosen
 pub mod PartsForm
 pub mod SplitReading
 pub mod SplitReadings
+pub mod SplitClauses
 pub mod SplitProblem
 pub mod Readers
 pub mod Occurs

@@ -6,8 +6,10 @@ use mathlib.Core.List.{List, [], _∷_, _++_, map}
 use Prim.Native.Nat.{ℕ, suc, _+_, _≤_, _<_}
 use native.Mathlib.Omega.{arith}
 use lib.Dec.{T}
+use lib.ListN.{take}
 use Rattle.rules_types.specs.Limits as limit
-use Rattle.theory_lists.specs.All.{All, all-append, append-all, all-yes, yes-all, mapped-all, all-mapped, map-append}
+use Rattle.theory_lists.specs.All.{All, all-map, all-append, append-all, all-yes, yes-all, mapped-all, all-mapped, map-append}
+use Rattle.theory_lists.specs.Places.{element-all}
 use Rattle.rules.specs.Problem.{Clause, Problem}
 use Rattle.rules.specs.Readings.{Disjunction, readings}
 use Rattle.rules.specs.Meaning.{Assignment, clauseHolds, Satisfies}
@@ -17,13 +19,14 @@ use Rattle.rules.specs.Steps.{Step}
 use Rattle.rules.specs.Elimination.{partSteps, loadable, loadableOf}
 use Rattle.theory_splitting.specs.WellFormed.{WellFormedClause, WellFormedReading, splitsIn, WellFormed}
 use Rattle.theory_splitting.specs.NormalClause.{readingHolds}
-use Rattle.theory_splitting.specs.Readings.{clause-readings, readings-formed}
+use Rattle.theory_splitting.specs.Readings.{readings-formed}
 use Rattle.theory_resolution.specs.Choosing.{choosing}
 use Rattle.theory_splitting.specs.PartsChosen.{Chosen}
 use Rattle.theory_splitting.specs.PartsForm.{LineForm}
 use Rattle.theory_splitting.specs.SplitReading.{AllHold}
-use Rattle.theory_splitting.specs.SplitReadings.{splits-append, parts-append, all-each, all-form, readings-keep, all-chosen}
-use Rattle.theory_splitting.specs.SplitReadings.{all-given}
+use Rattle.theory_splitting.specs.SplitReadings.{splits-append, parts-append, all-each, all-form, readings-keep, all-given}
+use Rattle.theory_splitting.specs.SplitClauses.{clause-read, clauses-chosen}
+use Rattle.theory_splitting.specs.Named.{PartAmong, loadable-parts}
 
 -- every step's line holds
 abbrev pub StepsHold : Assignment → List Step → Type 0
@@ -58,17 +61,13 @@ module _ (b r : ℕ) where
   all-formed (x ∷ xs) w =
       all-append (WellFormedReading b r) (readings x) (readingsOf xs) (readings-formed b r x (w .0)) (all-formed xs (w .1))
 
-  -- "a clause holds exactly if each of its readings does"
-  all-read : (χ : Assignment) (xs : List Clause) → All (WellFormedClause b r) xs
-      → All (λ x. T (clauseHolds χ x)) xs ↔ All (λ d. T (readingHolds χ d)) (readingsOf xs)
-  all-read χ [] w = (λ h. tt, λ h. tt)
-  all-read χ (x ∷ xs) w =
-      let e = clause-readings χ x (w .0 .single) in (
-        λ h. all-append (λ d. T (readingHolds χ d)) (readings x) (readingsOf xs) (all-yes (readingHolds χ) (readings x) (subst T e (h .0)))
-            (all-read χ xs (w .1) .0 (h .1)),
-        λ h. let t = append-all (λ d. T (readingHolds χ d)) (readings x) (readingsOf xs) h in
-            (subst T (sym e) (yes-all (readingHolds χ) (readings x) (t .0)), all-read χ xs (w .1) .1 (t .1)),
-      )
+  -- a clause holds if each of its readings does
+  all-read : (χ : Assignment) (xs : List Clause) → All (WellFormedClause b r) xs → All (λ d. T (readingHolds χ d)) (readingsOf xs)
+      → All (λ x. T (clauseHolds χ x)) xs
+  all-read χ [] w h = tt
+  all-read χ (x ∷ xs) w h =
+      let t = append-all (λ d. T (readingHolds χ d)) (readings x) (readingsOf xs) h in
+      (clause-read b r χ x (w .0) .1 (t .0), all-read χ xs (w .1) (t .1))
 
 -- ---- a problem
 module _ (p : Problem) (w : WellFormed p) where
@@ -100,12 +99,22 @@ module _ (p : Problem) (w : WellFormed p) where
       (all-form (p .booleans) (p .rationals) (λ i. i < limit.allBooleans) (p .booleans) ds formed (omega arith)
       (λ i l. omega (arith, w .booleans)) (λ i h l. omega (arith, few)))
 
-  -- its loadable lines hold exactly if the parts of its readings do
-  steps-hold : (ψ : Assignment) → StepsHold ψ (loadableOf p) ↔ AllHold ψ (allParts (p .booleans) ds)
-  steps-hold ψ = (
-    λ h. subst (AllHold ψ) lines (all-mapped (λ l. T (lineHolds ψ l)) (λ s. s .line) (loadableOf p) h),
-    of-parts (λ l. T (lineHolds ψ l)),
-  )
+  -- some values of the split variables make every part hold whose clause does, whether the other clauses hold or not
+  pub splitting-holds : (χ : Assignment) → 1 ≤ χ .denominator
+      → Chosen χ (p .booleans) (p .booleans + splitsIn (p .clauses))
+      (λ ψ. (s : Step) (h : PartAmong 0 (p .booleans) (p .clauses) s) → T (clauseHolds χ (h .clause)) → T (lineHolds ψ (s .line)))
+  splitting-holds χ d =
+      let c = clauses-chosen (p .booleans) (p .rationals) χ d (p .booleans) (p .clauses) (w .clauses) (omega arith)
+      (omega (arith, w .booleans, w .splits)) in
+      record {
+        values = c .values;
+        before = c .before;
+        after = c .after;
+        holds = λ s h t.
+            element-all (λ l. T (lineHolds (choosing (c .values) χ) l))
+            (partsOf (p .booleans + splitsIn (take (h .number) (p .clauses))) (h .clause)) (h .part .part) (s .line) (h .part .at)
+            (c .holds (h .number) (h .clause) (h .at) t);
+      }
 
   pub splitting-keeps : (χ : Assignment) → 1 ≤ χ .denominator → Satisfies χ p
       ↔ Chosen χ (p .booleans) (p .booleans + splitsIn (p .clauses)) (λ ψ. StepsHold ψ (loadableOf p))
@@ -113,19 +122,22 @@ module _ (p : Problem) (w : WellFormed p) where
       let b = p .booleans in
       let r = p .rationals in
       let xs = p .clauses in (
-        λ h. let c = all-chosen b r χ d b ds formed (omega arith) few
-            (all-read b r χ xs (w .clauses) .0 (all-yes (clauseHolds χ) xs (h .clauses))) in record {
-              values = c .values;
-              before = c .before;
-              after = λ i l. c .after i (omega (arith, all-splits xs));
-              holds = steps-hold (choosing (c .values) χ) .1 (c .holds);
-            },
+        λ h. let c = splitting-holds χ d in record {
+          values = c .values;
+          before = c .before;
+          after = c .after;
+          holds =
+              all-map (PartAmong 0 b xs) (λ s. T (lineHolds (choosing (c .values) χ) (s .line))) (loadableOf p)
+              (λ s m. c .holds s m (element-all (λ x. T (clauseHolds χ x)) xs (m .number) (m .clause) (m .at)
+              (all-yes (clauseHolds χ) xs (h .clauses)))) (loadable-parts p);
+        },
         λ c. record {
           denominator = d;
           clauses =
               let ψ = choosing (c .values) χ in
-              yes-all (clauseHolds χ) xs (all-read b r χ xs (w .clauses) .1
+              yes-all (clauseHolds χ) xs (all-read b r χ xs (w .clauses)
               (readings-keep b r ψ (χ .booleans) b (λ i l. sym (c .before i l)) ds formed (omega arith)
-              (all-given b r ψ d (omega (arith, w .booleans)) b ds formed (steps-hold ψ .0 (c .holds)))));
+              (all-given b r ψ d (omega (arith, w .booleans)) b ds formed
+              (subst (AllHold ψ) lines (all-mapped (λ l. T (lineHolds ψ l)) (λ s. s .line) (loadableOf p) (c .holds))))));
         },
       )

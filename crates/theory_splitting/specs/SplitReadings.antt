@@ -71,7 +71,7 @@ module _ (b r : ℕ) where
         (d .literals) (λ l m. a (l .boolean) (omega arith)) (t .0 .literals))) (t .1))
         (all-both (WellFormedReading b r) (λ d. T (readingHolds χ d)) ds w h)
 
-    lines-keep : (ls : List Line) → All (LineForm (λ i. i < k)) ls → AllHold χ ls → AllHold (choosing g χ) ls
+    pub lines-keep : (ls : List Line) → All (LineForm (λ i. i < k)) ls → AllHold χ ls → AllHold (choosing g χ) ls
     lines-keep ls f h =
         all-map (λ l. LineForm (λ i. i < k) l × T (lineHolds χ l)) (λ l. T (lineHolds (choosing g χ) l)) ls
         (λ l t. subst T (line-choosing χ g l (λ i m. a i (t .0 .positive i m)) (λ i m. a i (t .0 .negative i m))) (t .1))
