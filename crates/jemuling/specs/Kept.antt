@@ -14,7 +14,7 @@ use Rattle.rules_types.specs.declared.terms.Edition.the-variants.{First, Second
 use Rattle.rules_types.specs.declared.terms.Named.the-variants.{Known, Unknown}
 use Rattle.rules_types.specs.declared.terms.Terms.{Terms}
 use Rattle.rules_types.specs.Limits as limit
-use Rattle.rules_types.specs.Answers.{refusalNumber, answerNumber, answerValue, checkedNumber, checkedValue, evidenceNumber, evidenceLength}
+use Rattle.rules_types.specs.Answers.{refusalNumber, answerNumber, answerValue, checkedNumber, checkedValue}
 use Rattle.rules_types.specs.Terms.{editionNamed}
 use Rattle.rules.specs.Problem.{Problem}
 use Rattle.rules.specs.Calls.{sound, read, Solving, solve, proofChecked, modelChecked, solveIn, proofCheckedIn, modelCheckedIn, evidence}
@@ -23,8 +23,8 @@ use Rattle.promises.specs.Numbers.{verdict-exactly, refusal-exactly, accepted-e
 use Rattle.promises.specs.Numbers.{of-model-exactly}
 use Rattle.promises.specs.Handing.{hands}
 use Rattle.promises.specs.Editions.{Editions, editions, on, Other, solve-not, proof-not, model-not, proof-kept, model-kept}
-use Rattle.promises.specs.Editions.{named-first, named-second, named-other, solve-known, solve-unknown, proof-known, proof-unknown}
-use Rattle.promises.specs.Editions.{model-known, model-unknown}
+use Rattle.promises.specs.Editions.{named-first, named-second, named-other, nineteen-exactly, solve-known, solve-unknown}
+use Rattle.promises.specs.Editions.{proof-known, proof-unknown, model-known, model-unknown}
 use Rattle.theory_splitting.specs.WellRead.{posed-well-formed}
 use Rattle.promises.specs.Checks.{checks-proof, checks-model}
 use Rattle.promises.specs.Demand1.{demand1}
@@ -109,7 +109,7 @@ part-handed limits number lines proof model told t =
 
 -- ---- the calls that name an edition
 -- what the second edition asks
-editions-of : (input : List ℕ) (p : Problem) → read input ≡ sound p → Editions p
+pub editions-of : (input : List ℕ) (p : Problem) → read input ≡ sound p → Editions p
 editions-of input p e = editions p (posed-well-formed First input p e .rationals)
 
 pub delivered-in : (limits : Limits) → limits .steps ≤ limit.mostSteps → (edition : ℕ) (input lentProof lentModel : List ℕ)
@@ -124,13 +124,7 @@ delivered-in limits few edition input lentProof lentModel told proof model are l
       first = λ e. by First (named-first edition e);
       second = λ e. by Second (named-second edition e);
       editions = editions-of input;
-      refused = (
-        λ n. (
-          λ e. not-refused First (named-first edition e) n,
-          λ e. not-refused Second (named-second edition e) n,
-        ),
-        λ h. ap (λ (x : SolvedTold). x .number) (left h .0),
-      );
+      refused = nineteen-exactly edition (told .number) not-refused (λ h. ap (λ (x : SolvedTold). x .number) (left h .0));
       other = left;
     }
   where
@@ -178,10 +172,7 @@ module _ {edition : ℕ} {told : Told} {in-edition : Edition → Checked} (k : I
   known-told e h n = k .unrefused e (told .value) (tells-in e h .refused EditionRefused (told .value) .0 (n, refl))
 
   refused-told : (told .number ≡ 19) ↔ Other edition
-  refused-told = (
-    λ n. (λ e. known-told First (named-first edition e) n, λ e. known-told Second (named-second edition e) n),
-    λ h. ap (λ (x : Told). x .number) (other-told h),
-  )
+  refused-told = nineteen-exactly edition (told .number) known-told (λ h. ap (λ (x : Told). x .number) (other-told h))
 
 pub book-checked-in : (limits : Limits) → limits .steps ≤ limit.mostSteps → (edition : ℕ) (input proof : List ℕ) (told : Told)
     → AllBytes input → AllBytes proof → told ≡ checkedTold (proofCheckedIn limits edition input proof)

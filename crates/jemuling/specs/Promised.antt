@@ -1,6 +1,6 @@
 -- What the calls promise, with either limit of lines: the demands, said of the numbers that they return and of the bytes that they leave.
--- Each record stands in the `ensures` of its calls (src/calls.rt, src/calls_in.rt, src/carrying.rt), beside the equation with the
--- definition.
+-- Each record stands in the `ensures` of its calls (src/calls.rt, src/calls_in.rt, src/carrying.rt, src/shortening.rt), beside the
+-- equation with the definition.
 use mathlib.Core.Path.{_≡_}
 use mathlib.Core.Logic.{_↔_}
 use mathlib.Core.List.{List}
@@ -16,6 +16,8 @@ use Rattle.rules_types.specs.declared.answers.Converted.{Converted}
 use Rattle.rules_types.specs.declared.answers.Converted.the-variants as converted
 use Rattle.rules_types.specs.declared.answers.Carried.{Carried}
 use Rattle.rules_types.specs.declared.answers.Carried.the-variants as carried
+use Rattle.rules_types.specs.declared.answers.Trimmed.{Trimmed}
+use Rattle.rules_types.specs.declared.answers.Trimmed.the-variants as trimmed
 use Rattle.rules_types.specs.declared.limits.Limits.{Limits}
 use Rattle.rules_types.specs.declared.terms.Edition.the-variants.{First, Second}
 use Rattle.rules_types.specs.declared.terms.Terms.{Terms}
@@ -23,6 +25,7 @@ use Rattle.rules_types.specs.Answers.{refusalNumber, verdictNumber, answerValue
 use Rattle.rules.specs.Problem.{Problem, inEdition}
 use Rattle.rules.specs.Calls.{sound, read, Solving, proofCheckedIn, modelCheckedIn}
 use Rattle.rules.specs.Convert.{Converting, Carrying}
+use Rattle.rules.specs.Trim.{Trimming}
 use Rattle.theory_bytes.specs.Bytes.{AllBytes}
 use Rattle.promises.specs.Words.{Comes, IsRefused, FullSize}
 use Rattle.promises.specs.Handing.{Hands}
@@ -32,6 +35,7 @@ use Rattle.promises.specs.Demand2.{Demand2}
 use Rattle.promises.specs.Demand3.{Demand3}
 use Rattle.promises.specs.Editions.{Editions, on, Other}
 use Rattle.promises.specs.CarriedOver.{Converts, CarriesBack}
+use Rattle.promises.specs.Trimming.{Shortens}
 use Rattle.jemuling.specs.declared.told.Told.{Told}
 use Rattle.jemuling.specs.declared.told.SolvedTold.{SolvedTold}
 
@@ -60,6 +64,11 @@ pub record TellsCarried (told : Told) (says : Carried) : Type 0 where
   pub done : (told .number ≡ 72) ↔ (says ≡ carried.Done)
   pub refused : (f : Refusal) (place : ℕ) → ((told .number ≡ refusalNumber f) × (told .value ≡ place)) ↔ (says ≡ carried.Refused f place)
   pub value : says ≡ carried.Done → told .value ≡ 0
+
+pub record TellsTrimmed (told : Told) (says : Trimmed) : Type 0 where
+  pub steps : (n : ℕ) → ((told .number ≡ 73) × (told .value ≡ n)) ↔ (says ≡ trimmed.Steps n)
+  pub fails : (n : ℕ) → ((told .number ≡ 68) × (told .value ≡ n)) ↔ (says ≡ trimmed.Fails n)
+  pub refused : (f : Refusal) (place : ℕ) → ((told .number ≡ refusalNumber f) × (told .value ≡ place)) ↔ (says ≡ trimmed.Refused f place)
 
 -- ---- the calls; a lent slice holds bytes, so what the demands say of bytes holds of it
 -- `jemuling_solve`, `jemuling_preview_solve`: `lentProof` and `lentModel` are the buffers before it, `proof` and `model` what it left in
@@ -147,3 +156,21 @@ pub record ModelCarriedBack (input model lent : List ℕ) (told : Told) (target 
   pub tells : TellsCarried told (ours .carried)
   pub leaves : target ≡ ours .model
   pub carries : CarriesBack input model lent ours
+
+-- ---- 02, (xi): the call that writes a short book; `lent` is the target before it, `target` what it left in it
+pub record BookShortened (terms : Terms) (input proof lent : List ℕ) (told : Told) (target : List ℕ) : Type 0 where
+  pub bytes : AllBytes input
+  pub bytesLeft : AllBytes target
+  pub ours : Trimming
+  pub tells : TellsTrimmed told (ours .trimmed)
+  pub leaves : target ≡ ours .target
+  pub shortens : Shortens terms input proof lent ours
+
+-- `jemuling_shorten_book_in`
+pub record BookShortenedIn (limits : Limits) (edition : ℕ) (input proof lent : List ℕ) (told : Told) (target : List ℕ) : Type 0 where
+  pub first : edition ≡ 1 → BookShortened (on limits First) input proof lent told target
+  pub second : edition ≡ 2 → BookShortened (on limits Second) input proof lent told target
+  pub editions : (p : Problem) → read input ≡ sound p → Editions p
+  pub refused : (told .number ≡ 19) ↔ Other edition
+  -- "alter no byte"
+  pub other : Other edition → (told ≡ record { number = 19; value = 0 }) × (target ≡ lent)

@@ -7,8 +7,9 @@ use Rattle.rules_types.specs.declared.answers.Checked.{Checked}
 use Rattle.rules_types.specs.declared.answers.Evidence.{Evidence}
 use Rattle.rules_types.specs.declared.answers.Converted.{Converted}
 use Rattle.rules_types.specs.declared.answers.Carried.{Carried}
+use Rattle.rules_types.specs.declared.answers.Trimmed.{Trimmed}
 use Rattle.rules_types.specs.Answers.{refusalNumber, answerNumber, answerValue, checkedNumber, checkedValue, evidenceNumber, evidenceLength}
-use Rattle.rules_types.specs.Answers.{convertedNumber, convertedValue, carriedNumber, carriedValue}
+use Rattle.rules_types.specs.Answers.{convertedNumber, convertedValue, carriedNumber, carriedValue, trimmedNumber, trimmedValue}
 use Rattle.jemuling.specs.declared.told.Told.{Told}
 use Rattle.jemuling.specs.declared.told.SolvedTold.{SolvedTold}
 
@@ -32,3 +33,6 @@ convertedTold c = record { number = convertedNumber c; value = convertedValue c 
 
 unfoldable pub carriedTold : Carried → Told
 carriedTold c = record { number = carriedNumber c; value = carriedValue c }
+
+unfoldable pub trimmedTold : Trimmed → Told
+trimmedTold t = record { number = trimmedNumber t; value = trimmedValue t }

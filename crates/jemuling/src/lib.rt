@@ -4,4 +4,5 @@ pub mod calls_in;
 pub mod carrying;
 pub mod in_edition;
 pub mod on_terms;
+pub mod shortening;
 pub mod told;

@@ -6,11 +6,12 @@ use rules_types::answers::Converted;
 use rules_types::answers::Evidence;
 use rules_types::answers::Refusal;
 use rules_types::answers::Solved;
+use rules_types::answers::Trimmed;
 use rules_types::answers::Verdict;
 ghost use mathlib.Core.Path.{_≡_};
 ghost use Rattle.rules_types.specs.Answers.{verdictNumber};
 ghost use Rattle.jemuling.specs.Told.{refusedTold, answerTold, checkedTold, evidenceTold, solvedTold};
-ghost use Rattle.jemuling.specs.Told.{convertedTold, carriedTold};
+ghost use Rattle.jemuling.specs.Told.{convertedTold, carriedTold, trimmedTold};
 
 // An answer's number and value.
 #[repr(C)]
@@ -123,5 +124,18 @@ pub fn carried_told(c: Carried) -> Told
             value: 0,
         },
         Carried::Refused(f, place) => refused_told(f, place),
+    }
+}
+
+pub fn trimmed_told(t: Trimmed) -> Told
+    ensures { λ told. ⌜ told ≡ trimmedTold t ⌝ }
+{
+    match t {
+        Trimmed::Steps(n) => Told {
+            number: 73,
+            value: n,
+        },
+        Trimmed::Fails(n) => checked_told(Checked::Fails(n)),
+        Trimmed::Refused(f, place) => refused_told(f, place),
     }
 }

@@ -1,8 +1,9 @@
 -- What the checks answer, for a problem, a proof and a model of arbitrary bytes; they write nothing.
-use mathlib.Core.Path.{_≡_}
-use mathlib.Core.Logic.{_↔_}
+use mathlib.Core.Path.{_≡_, refl, sym, _∙_}
+use mathlib.Core.Bool.{Bool}
+use mathlib.Core.Logic.{_↔_, ⊎-elim}
 use mathlib.Core.List.{List}
-use Prim.Native.Nat.{ℕ, _≤_, _<_}
+use Prim.Native.Nat.{ℕ, _/_, _≤_, _<_}
 use lib.Dec.{T}
 use lib.ListN.{length}
 use Rattle.rules_types.specs.declared.answers.Refusal.{Refusal}
@@ -15,7 +16,8 @@ use Rattle.rules.specs.Problem.{Problem, inEdition}
 use Rattle.rules.specs.Meaning.{Assignment}
 use Rattle.rules.specs.Elimination.{loadableOf}
 use Rattle.rules.specs.Model.{isOpen}
-use Rattle.rules.specs.Calls.{faulty, sound, read, proofChecked, modelChecked}
+use Rattle.rules.specs.Calls.{Reading, faulty, sound, read, wholeSteps, proofChecked, modelChecked}
+use Rattle.theory_lists.specs.Tests.{split, clash}
 use Rattle.theory_bytes.specs.Bytes.{AllBytes}
 use Rattle.theory_layout.specs.Offsets.{StatesModel, FirstBadField}
 use Rattle.theory_splitting.specs.Occurs.{open-exactly}
@@ -25,7 +27,7 @@ use Rattle.promises.specs.Words.{WholeLines, Refutes, InNoClause, OpenVa
 use Rattle.promises.specs.Checked.{model-exactly, accepted-opens, model-short-refused, model-field-refused, proof-refused}
 use Rattle.promises.specs.Checked.{model-refused}
 use Rattle.promises.specs.Failing.{ClauseFails, LineFails, model-fails}
-use Rattle.promises.specs.Whole.{accepted-lines, failing-line, refused-length}
+use Rattle.promises.specs.Whole.{whole-lines, lines-whole, accepted-lines, failing-line, whole-unrefused, refused-length}
 
 -- "The check tests question faults (3 to 13), then 16"
 pub record ChecksProof (terms : Terms) (input proof : List ℕ) (says : Checked) : Type 0 where
@@ -71,6 +73,35 @@ checks-proof terms few input proof are =
       fails = λ p e. failing-line terms input p e proof are few;
       refutes = λ p e a. proof-checked-refutes terms input proof a p e;
     }
+
+-- so one answer is promised of a proof: whoever keeps the promise says what the definition does
+pub one-answer : (terms : Terms) → terms .limits .steps ≤ limit.mostSteps → (input proof : List ℕ) → AllBytes proof → {says : Checked}
+    → ChecksProof terms input proof says → says ≡ proofChecked terms input proof
+one-answer terms few input proof are {says} x = by (read input) refl
+  where
+    ours : Checked
+    ours = proofChecked terms input proof
+
+    y : ChecksProof terms input proof ours
+    y = checks-proof terms few input proof are
+
+    whole : Bool
+    whole = wholeSteps (terms .limits) (length proof)
+
+    followed-by : (p : Problem) → read input ≡ sound p → T whole → (c : Checked) → ours ≡ c → says ≡ c
+    followed-by p e t Accepted d = x .accepted p e .1 (y .accepted p e .0 d)
+    followed-by p e t (Fails n) d =
+        let k = length proof / limit.stepBytes in
+        let w = whole-lines (terms .limits) (length proof) t in
+        x .fails p e k w n .1 (y .fails p e k w n .0 d)
+    followed-by p e t (Refused f place) d = absurd (whole-unrefused terms input p e proof t f place d)
+
+    by : (r : Reading) → read input ≡ r → says ≡ ours
+    by (faulty f place) e = x .faultyInput f place e ∙ sym (y .faultyInput f place e)
+    by (sound p) e = ⊎-elim (λ t. followed-by p e t ours refl)
+        (λ t. let never : (k : ℕ) → WholeLines (terms .limits) (length proof) k → ⊥ =
+        λ k w. clash whole (lines-whole (terms .limits) (length proof) k w) t in
+        x .proofLength p e (length proof) .1 (refl, never) ∙ sym (y .proofLength p e (length proof) .1 (refl, never))) (split whole)
 
 pub checks-model : (terms : Terms) (input bytes : List ℕ) → ChecksModel terms input bytes (modelChecked terms input bytes)
 checks-model terms input bytes =

@@ -1,7 +1,7 @@
 -- 02, (v): what the second edition asks of a choice, which clauses it has and what they load; what the checks of the two editions have to
 -- do with each other; and that none but another edition's number is refused with 19.
 use mathlib.Core.Path.{_≡_, refl, sym, ap, subst, _∙_}
-use mathlib.Core.Bool.{Bool, not}
+use mathlib.Core.Bool.{Bool, true, false, not}
 use mathlib.Core.Logic.{_↔_, _⊎_, inl, inr, ⊎-elim}
 use mathlib.Core.List.{List, [], _∷_, _++_}
 use mathlib.Core.Option.{some}
@@ -10,14 +10,16 @@ use native.Mathlib.Omega.{arith}
 use borrow.Author.Tests.{ne-eqb}
 use lib.IntN.{pos}
 use lib.Signed.{leZ}
-use lib.Dec.{T, ltb, nltb→le}
+use lib.Dec.{T, T-not, eqb, ltb, nltb→le, eqb→eq, eqb-refl}
 use lib.ListN.{length, getElem?, drop, length-append}
 use Rattle.rules_types.specs.declared.answers.Refusal.{Refusal}
 use Rattle.rules_types.specs.declared.answers.Refusal.the-variants as refusal
 use Rattle.rules_types.specs.declared.answers.Verdict.{Verdict}
 use Rattle.rules_types.specs.declared.answers.Answer.{Answer}
 use Rattle.rules_types.specs.declared.answers.Answer.the-variants.{Decided, Refused as RefusedAnswer}
-use Rattle.rules_types.specs.declared.answers.Checked.the-variants.{Accepted, Refused}
+use Rattle.rules_types.specs.declared.answers.Checked.{Checked}
+use Rattle.rules_types.specs.declared.answers.Checked.the-variants.{Accepted, Fails, Refused}
+use Rattle.rules_types.specs.declared.answers.Trimmed.the-variants as trimmed
 use Rattle.rules_types.specs.declared.limits.Limits.{Limits}
 use Rattle.rules_types.specs.declared.terms.Edition.{Edition}
 use Rattle.rules_types.specs.declared.terms.Edition.the-variants.{First, Second}
@@ -33,9 +35,9 @@ use Rattle.rules.specs.Lines.{Line}
 use Rattle.rules.specs.Steps.{Step}
 use Rattle.rules.specs.Elimination.{loadableOf}
 use Rattle.rules.specs.Model.{isOpen, model}
-use Rattle.rules.specs.Checker.{followedLines, checkProof}
 use Rattle.rules.specs.Calls.{Reading, faulty, sound, read, wholeSteps, said, solve, proofChecked, modelChecked}
-use Rattle.rules.specs.Calls.{solveIn, proofCheckedIn, modelCheckedIn}
+use Rattle.rules.specs.Calls.{inNamed, solveIn, proofCheckedIn, modelCheckedIn}
+use Rattle.rules.specs.Trim.{trimChecked, trim, trimIn}
 use Rattle.theory_lists.specs.Tests.{split, is-true, is-false}
 use Rattle.theory_lists.specs.All.{any-left}
 use Rattle.theory_lists.specs.Places.{element-left, element-right}
@@ -47,13 +49,13 @@ use Rattle.theory_splitting.specs.Editions.{posed-first, holds-added, open-pose
 use Rattle.theory_checks.specs.LinesFollow.{LinesFollow}
 use Rattle.theory_checks.specs.ProofChecked.{checked-proof}
 use Rattle.theory_checks.specs.ModelChecked.{model-checked-satisfies}
-use Rattle.theory_checks.specs.EndsEmpty.{end-unrefused}
 use Rattle.theory_layout.specs.Models.{model-refusal}
 use Rattle.theory_conversion.specs.Second.{NotBelowZero, satisfies-second}
 use Rattle.theory_reading.specs.Numbers.{Named, to-13, is-18, fault-named}
 use Rattle.theory_reading.specs.Theorems.{names-first}
 use Rattle.promises.specs.Words.{Comes, IsRefused, LimitMet, Refutes, WritesAssignment}
 use Rattle.promises.specs.Checked.{proof-exactly, model-exactly, never-refused, proof-refused, model-refused}
+use Rattle.promises.specs.Whole.{whole-unrefused}
 use Rattle.promises.specs.Total.{BeforeCourse, total}
 use Rattle.promises.specs.Demand1.{untouched}
 
@@ -199,25 +201,47 @@ module _ (terms : Terms) (input : List ℕ) (are : AllBytes input) where
       before : (f : Refusal) → BeforeCourse f → refusalNumber f ≡ 19 → ⊥
       before f b e = ⊎-elim (λ h. omega (arith, h .1)) (λ h. omega (arith, h)) b
 
-  pub proof-not : (proof : List ℕ) (place : ℕ) → proofChecked terms input proof ≡ Refused refusal.Edition place → ⊥
-  unfolding proofChecked checkProof refusalNumber
-  proof-not proof place a = by (read input) refl
+  -- which refusals a proof has: a fault of the problem, or its own length
+  pub proof-refusal : (proof : List ℕ) (f : Refusal) (place : ℕ) → proofChecked terms input proof ≡ Refused f place
+      → Named f ⊎ (f ≡ refusal.ProofLength)
+  unfolding proofChecked
+  proof-refusal proof f place a = by (read input) refl
     where
       whole : Bool
       whole = wholeSteps (terms .limits) (length proof)
 
-      by : (r : Reading) → read input ≡ r → ⊥
-      by (faulty f at) e =
-          let b = sym (proof-refused input f at e terms proof) ∙ a in
-          let is : f ≡ refusal.Edition = cc in
-          fault-not input are at (e ∙ ap (λ (g : Refusal). faulty g at) is)
+      by : (r : Reading) → read input ≡ r → Named f ⊎ (f ≡ refusal.ProofLength)
+      by (faulty g at) e =
+          let b = sym (proof-refused input g at e terms proof) ∙ a in
+          let is : g ≡ f = cc in
+          inl (subst Named is (fault-named input g at (names-first input are g at .0 e)))
       by (sound q) e = ⊎-elim
-          (λ t. end-unrefused (followedLines (inEdition (terms .edition) q) proof) refusal.Edition place
-          (rw (e, proofChecked, is-true whole t) at a))
-          (λ t. let b : Refused refusal.ProofLength (length proof) ≡ Refused refusal.Edition place =
-          rw (e, proofChecked, is-false whole t) at a in
-          let is : refusal.ProofLength ≡ refusal.Edition = cc in omega (arith, ap refusalNumber is))
+          (λ t. absurd (whole-unrefused terms input q e proof t f place a))
+          (λ t. let b : Refused refusal.ProofLength (length proof) ≡ Refused f place =
+          rw (e, proofChecked, is-false whole t) at a in inr (cc))
           (split whole)
+
+  pub proof-not : (proof : List ℕ) (place : ℕ) → proofChecked terms input proof ≡ Refused refusal.Edition place → ⊥
+  unfolding refusalNumber
+  proof-not proof place a = ⊎-elim (λ n. named-less refusal.Edition n refl) (λ e. omega (arith, ap refusalNumber e))
+      (proof-refusal proof refusal.Edition place a)
+
+  pub trim-not : (proof target : List ℕ) (place : ℕ) → trim terms input proof target .trimmed ≡ trimmed.Refused refusal.Edition place → ⊥
+  unfolding trim trimChecked refusalNumber
+  trim-not proof target place a = by (ltb (length target) (limit.proofBytes (terms .limits))) refl
+    where
+      said-by : (c : Checked) → proofChecked terms input proof ≡ c
+          → trimChecked (terms .limits) c proof target .trimmed ≡ trimmed.Refused refusal.Edition place → ⊥
+      said-by Accepted e b = let z : _≡_ {A = ℕ} 0 1 = cc in omega arith
+      said-by (Fails n) e b = let z : _≡_ {A = ℕ} 0 1 = cc in omega arith
+      said-by (Refused f at) e b =
+          let is : f ≡ refusal.Edition = cc in proof-not proof at (e ∙ ap (λ (g : Refusal). Refused g at) is)
+
+      by : (t : Bool) → ltb (length target) (limit.proofBytes (terms .limits)) ≡ t → ⊥
+      by true e =
+          let b : trimmed.Refused refusal.ShortProof 0 ≡ trimmed.Refused refusal.Edition place = rw (e, trim) at a in
+          let is : refusal.ShortProof ≡ refusal.Edition = cc in omega (arith, ap refusalNumber is)
+      by false e = said-by (proofChecked terms input proof) refl (rw (e, trim) at a)
 
   pub model-not : (bytes : List ℕ) (place : ℕ) → modelChecked terms input bytes ≡ Refused refusal.Edition place → ⊥
   unfolding modelChecked refusalNumber
@@ -259,6 +283,12 @@ module _ (terms : Terms) (input : List ℕ) (are : AllBytes input) where
 abbrev pub Other : ℕ → Type 0
 Other n = (n ≡ 1 → ⊥) × (n ≡ 2 → ⊥)
 
+pub either-edition : (n : ℕ) → (Other n → ⊥) → (n ≡ 1) ⊎ (n ≡ 2)
+either-edition n h =
+    let never : (k : ℕ) → T (not (eqb n k)) → n ≡ k → ⊥ = λ k t e. T-not (eqb n k) t (rw e (eqb-refl k)) in
+    ⊎-elim (λ t. inl (eqb→eq n 1 t))
+    (λ t. ⊎-elim (λ u. inr (eqb→eq n 2 u)) (λ u. absurd (h (never 1 t, never 2 u))) (split (eqb n 2))) (split (eqb n 1))
+
 pub named-first : (n : ℕ) → n ≡ 1 → editionNamed n ≡ Known First
 unfolding editionNamed
 named-first n e = ap editionNamed e
@@ -271,33 +301,51 @@ pub named-other : (n : ℕ) → Other n → editionNamed n ≡ Unknown
 unfolding editionNamed
 named-other n h = rw (ne-eqb n 1 (h .0), ne-eqb n 2 (h .1))
 
+-- 19 comes exactly for those: no edition gives it, and they do
+pub nineteen-exactly : (n number : ℕ) → ((e : Edition) → editionNamed n ≡ Known e → number ≡ 19 → ⊥) → (Other n → number ≡ 19)
+    → (number ≡ 19) ↔ Other n
+nineteen-exactly n number never other =
+    (λ e. (λ f. never First (named-first n f) e, λ f. never Second (named-second n f) e), other)
+
 module _ (limits : Limits) (n : ℕ) (input : List ℕ) where
   module _ (proof model : List ℕ) where
     pub solve-known : (e : Edition) → editionNamed n ≡ Known e
         → solveIn limits n input proof model ≡ solve (on limits e) input proof model
-    unfolding solveIn
-    solve-known e h = rw (h, solveIn)
+    unfolding solveIn inNamed
+    solve-known e h = rw (h, solveIn, inNamed)
 
     -- nothing is altered, and there are no pairs to report
     pub solve-unknown : editionNamed n ≡ Unknown → solveIn limits n input proof model ≡ untouched refusal.Edition 0 proof model
-    unfolding solveIn said
-    solve-unknown h = rw (h, solveIn)
+    unfolding solveIn inNamed said
+    solve-unknown h = rw (h, solveIn, inNamed)
 
   module _ (bytes : List ℕ) where
     pub proof-known : (e : Edition) → editionNamed n ≡ Known e
         → proofCheckedIn limits n input bytes ≡ proofChecked (on limits e) input bytes
-    unfolding proofCheckedIn
-    proof-known e h = rw (h, proofCheckedIn)
+    unfolding proofCheckedIn inNamed
+    proof-known e h = rw (h, proofCheckedIn, inNamed)
 
     pub proof-unknown : editionNamed n ≡ Unknown → proofCheckedIn limits n input bytes ≡ Refused refusal.Edition 0
-    unfolding proofCheckedIn
-    proof-unknown h = rw (h, proofCheckedIn)
+    unfolding proofCheckedIn inNamed
+    proof-unknown h = rw (h, proofCheckedIn, inNamed)
 
     pub model-known : (e : Edition) → editionNamed n ≡ Known e
         → modelCheckedIn limits n input bytes ≡ modelChecked (on limits e) input bytes
-    unfolding modelCheckedIn
-    model-known e h = rw (h, modelCheckedIn)
+    unfolding modelCheckedIn inNamed
+    model-known e h = rw (h, modelCheckedIn, inNamed)
 
     pub model-unknown : editionNamed n ≡ Unknown → modelCheckedIn limits n input bytes ≡ Refused refusal.Edition 0
-    unfolding modelCheckedIn
-    model-unknown h = rw (h, modelCheckedIn)
+    unfolding modelCheckedIn inNamed
+    model-unknown h = rw (h, modelCheckedIn, inNamed)
+
+  module _ (proof target : List ℕ) where
+    pub trim-known : (e : Edition) → editionNamed n ≡ Known e
+        → trimIn limits n input proof target ≡ trim (on limits e) input proof target
+    unfolding trimIn inNamed
+    trim-known e h = rw (h, trimIn, inNamed)
+
+    -- nothing is written
+    pub trim-unknown : editionNamed n ≡ Unknown
+        → trimIn limits n input proof target ≡ record { trimmed = trimmed.Refused refusal.Edition 0; target = target }
+    unfolding trimIn inNamed
+    trim-unknown h = rw (h, trimIn, inNamed)

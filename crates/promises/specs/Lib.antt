@@ -20,6 +20,8 @@ pub mod Total
 pub mod Demand1
 pub mod Editions
 pub mod CarriedOver
+pub mod Trimming
+pub mod Reduced
 pub mod Halves
 pub mod CarriedOverKept
 pub mod OneNew
@@ -30,4 +32,7 @@ pub mod Demand3
 pub mod HandedBack
 pub mod Demand2
 pub mod Checks
+pub mod TrimmingAnswers
+pub mod TrimmingKept
+pub mod OneShort
 pub mod Preview

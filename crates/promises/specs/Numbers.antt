@@ -21,9 +21,12 @@ use Rattle.rules_types.specs.declared.answers.Converted.{Converted}
 use Rattle.rules_types.specs.declared.answers.Converted.the-variants as converted
 use Rattle.rules_types.specs.declared.answers.Carried.{Carried}
 use Rattle.rules_types.specs.declared.answers.Carried.the-variants as carried
+use Rattle.rules_types.specs.declared.answers.Trimmed.{Trimmed}
+use Rattle.rules_types.specs.declared.answers.Trimmed.the-variants as trimmed
 use Rattle.rules_types.specs.declared.answers.Evidence.the-variants.{OfProof, OfModel}
 use Rattle.rules_types.specs.Answers.{refusalNumber, verdictNumber, answerNumber, checkedNumber, checkedValue, evidenceNumber}
 use Rattle.rules_types.specs.Answers.{evidenceLength, convertedNumber, convertedValue, carriedNumber, carriedValue}
+use Rattle.rules_types.specs.Answers.{trimmedNumber, trimmedValue}
 use Rattle.promises.specs.Words.{Comes, IsRefused}
 
 -- ---- refusals have different numbers: the refusal comes back from its number
@@ -197,3 +200,32 @@ uncarried-exactly c f place = (by c, λ e. (ap carriedNumber e, ap carriedValue 
     by : (c : Carried) → (carriedNumber c ≡ refusalNumber f) × (carriedValue c ≡ place) → c ≡ carried.Refused f place
     by carried.Done e = absurd (omega (arith, refusal-below f, e .0))
     by (carried.Refused g p) e = λ i. carried.Refused (refusals-differ g f (e .0) i) (e .1 i)
+
+-- ---- of trimming: the steps that are left, the first line that fails, a refusal with its place
+pub steps-exactly : (t : Trimmed) (n : ℕ) → ((trimmedNumber t ≡ 73) × (trimmedValue t ≡ n)) ↔ (t ≡ trimmed.Steps n)
+unfolding trimmedNumber trimmedValue
+steps-exactly t n = (by t, λ e. (ap trimmedNumber e, ap trimmedValue e))
+  where
+    by : (t : Trimmed) → (trimmedNumber t ≡ 73) × (trimmedValue t ≡ n) → t ≡ trimmed.Steps n
+    by (trimmed.Steps m) e = ap trimmed.Steps (e .1)
+    by (trimmed.Fails m) e = absurd (omega (arith, e .0))
+    by (trimmed.Refused f p) e = absurd (omega (arith, refusal-below f, e .0))
+
+pub trimmed-fails-exactly : (t : Trimmed) (n : ℕ) → ((trimmedNumber t ≡ 68) × (trimmedValue t ≡ n)) ↔ (t ≡ trimmed.Fails n)
+unfolding trimmedNumber trimmedValue
+trimmed-fails-exactly t n = (by t, λ e. (ap trimmedNumber e, ap trimmedValue e))
+  where
+    by : (t : Trimmed) → (trimmedNumber t ≡ 68) × (trimmedValue t ≡ n) → t ≡ trimmed.Fails n
+    by (trimmed.Steps m) e = absurd (omega (arith, e .0))
+    by (trimmed.Fails m) e = ap trimmed.Fails (e .1)
+    by (trimmed.Refused f p) e = absurd (omega (arith, refusal-below f, e .0))
+
+pub trimmed-refused-exactly : (t : Trimmed) (f : Refusal) (place : ℕ)
+    → ((trimmedNumber t ≡ refusalNumber f) × (trimmedValue t ≡ place)) ↔ (t ≡ trimmed.Refused f place)
+unfolding trimmedNumber trimmedValue
+trimmed-refused-exactly t f place = (by t, λ e. (ap trimmedNumber e, ap trimmedValue e))
+  where
+    by : (t : Trimmed) → (trimmedNumber t ≡ refusalNumber f) × (trimmedValue t ≡ place) → t ≡ trimmed.Refused f place
+    by (trimmed.Steps n) e = absurd (omega (arith, refusal-below f, e .0))
+    by (trimmed.Fails n) e = absurd (omega (arith, refusal-below f, e .0))
+    by (trimmed.Refused g p) e = λ i. trimmed.Refused (refusals-differ g f (e .0) i) (e .1 i)

@@ -8,6 +8,7 @@ use native.Mathlib.Omega.{arith}
 use lib.Dec.{T, eqb, leb, leb→le, eqb→eq}
 use lib.ListN.{length}
 use mir.Facts.{and-yes, yes-and, yes-leb, yes-eqb}
+use Rattle.rules_types.specs.declared.answers.Refusal.{Refusal}
 use Rattle.rules_types.specs.declared.answers.Refusal.the-variants.{ProofLength}
 use Rattle.rules_types.specs.declared.answers.Checked.the-variants.{Accepted, Fails, Refused}
 use Rattle.rules_types.specs.declared.limits.Limits.{Limits}
@@ -25,7 +26,7 @@ use Rattle.promises.specs.Checked.{proof-exactly, proof-length-refused}
 use Rattle.promises.specs.Failing.{LineFails, proof-fails}
 
 module _ (limits : Limits) (n : ℕ) where
-  whole-lines : T (wholeSteps limits n) → WholeLines limits n (n / limit.stepBytes)
+  pub whole-lines : T (wholeSteps limits n) → WholeLines limits n (n / limit.stepBytes)
   unfolding wholeSteps
   whole-lines t =
       let a = and-yes (leb limit.stepBytes n && leb n (limit.proofBytes limits)) (eqb (n % limit.stepBytes) 0) t in
@@ -35,7 +36,7 @@ module _ (limits : Limits) (n : ℕ) where
       let even : n % limit.stepBytes ≡ 0 = eqb→eq (n % limit.stepBytes) 0 (a .1) in
       record { count = omega arith; some = omega arith; few = omega arith }
 
-  lines-whole : (k : ℕ) → WholeLines limits n k → T (wholeSteps limits n)
+  pub lines-whole : (k : ℕ) → WholeLines limits n k → T (wholeSteps limits n)
   unfolding wholeSteps
   lines-whole k h =
       let c = h .count in
@@ -47,7 +48,7 @@ module _ (limits : Limits) (n : ℕ) where
       yes-and (leb limit.stepBytes n && leb n (limit.proofBytes limits)) (eqb (n % limit.stepBytes) 0)
       (yes-and (leb limit.stepBytes n) (leb n (limit.proofBytes limits)) (yes-leb least) (yes-leb most)) (yes-eqb even)
 
-  lines-are : (k : ℕ) → WholeLines limits n k → n / limit.stepBytes ≡ k
+  pub lines-are : (k : ℕ) → WholeLines limits n k → n / limit.stepBytes ≡ k
   lines-are k h = let c = h .count in omega arith
 
 -- ---- the call, for a problem read without fault, in its edition
@@ -76,13 +77,18 @@ module _ (terms : Terms) (input : List ℕ) (q : Problem) (e : read input ≡ so
         rw (lines-are limits (length bytes) k h)
         at (proof-fails terms input q e few bytes are (is-true whole (lines-whole limits (length bytes) k h)) m)
 
+  -- bytes of whole lines are not refused
+  pub whole-unrefused : T whole → (f : Refusal) (place : ℕ) → proofChecked terms input bytes ≡ Refused f place → ⊥
+  unfolding proofChecked checkProof
+  whole-unrefused t f place a = end-unrefused (followedLines p bytes) f place (rw (e, proofChecked, is-true whole t) at a)
+
   pub refused-length : (place : ℕ) → proofChecked terms input bytes ≡ Refused ProofLength place
       ↔ ((place ≡ length bytes) × ((k : ℕ) → WholeLines limits (length bytes) k → ⊥))
-  unfolding proofChecked checkProof
+  unfolding proofChecked
   refused-length place =
       ⊎-elim
       (λ t. (
-        λ a. absurd (end-unrefused (followedLines p bytes) ProofLength place (rw (e, proofChecked, is-true whole t) at a)),
+        λ a. absurd (whole-unrefused t ProofLength place a),
         λ h. absurd (h .1 (length bytes / limit.stepBytes) (whole-lines limits (length bytes) t)),
       ))
       (λ t. (
