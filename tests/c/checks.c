@@ -1,8 +1,8 @@
 /*
  * Calls the library from C on document 01's examples, on = and at least, on open marks, and about a preview's sizes: right books and
  * sheets, wrong ones, and solving; what has a limit of lines with either. All of it by the calls that name no edition, and by those that
- * name one, in edition 1; then what edition 2 answers otherwise, its largest question, and other editions; and at last a question carried
- * over to edition 2, and its sheet back.
+ * name one, in edition 1; then what edition 2 answers otherwise, its largest question, and other editions; then a question carried over to
+ * edition 2, and its sheet back; and at last short books.
  */
 #include <stdio.h>
 #include <string.h>
@@ -552,6 +552,151 @@ static void carrying_back(void)
     carries("a question that cannot be converted", question, length, sheet, 64, 64, JEMULING_CARRIED, 0, NULL);
 }
 
+/* Copies of a question and a book, which no call may alter, and the bytes lent with them. */
+static unsigned char lent_question[JEMULING_QUESTION_BYTES + 2], lent_book[JEMULING_BOOK_BYTES + 2 * JEMULING_LINE_BYTES];
+
+/*
+ * Shortens with a target of so many bytes: after a short book, which is compared with this one, the rest of the target's 65,536 bytes is 0;
+ * all others are as they were, and so are question and book.
+ */
+static void shortens(const char *name, const unsigned char *question, size_t length, const unsigned char *book, size_t book_length,
+                     size_t target_length, uint64_t number, size_t value, const unsigned char *result)
+{
+    static unsigned char target[JEMULING_BOOK_BYTES + 5000];
+    memset(lent_question, 0xcd, sizeof lent_question);
+    memset(lent_book, 0xef, sizeof lent_book);
+    memset(target, 0xab, sizeof target);
+    if (length)
+        memcpy(lent_question, question, length);
+    if (book_length)
+        memcpy(lent_book, book, book_length);
+    expect(name, jemuling_shorten_book_in(edition, lent_question, length, lent_book, book_length, target, target_length), number, value);
+    size_t used = number == JEMULING_SHORTENED ? JEMULING_LINE_BYTES * value : 0, written = used ? JEMULING_BOOK_BYTES : 0;
+    size_t wrong = others(target + used, written - used, 0) + others(target + written, sizeof target - written, 0xab);
+    if (used)
+        wrong += memcmp(target, result, used) != 0;
+    expect("the short book, and bytes behind it", (jemuling_told){ 0, wrong }, 0, 0);
+    wrong = others(lent_question + length, sizeof lent_question - length, 0xcd)
+            + others(lent_book + book_length, sizeof lent_book - book_length, 0xef);
+    if (length)
+        wrong += memcmp(lent_question, question, length) != 0;
+    if (book_length)
+        wrong += memcmp(lent_book, book, book_length) != 0;
+    expect("question and book", (jemuling_told){ 0, wrong }, 0, 0);
+}
+
+#define SHORTENS(name, question, book, lines, result) \
+    shortens(name, question, sizeof question, book, sizeof book, JEMULING_BOOK_BYTES, JEMULING_SHORTENED, lines, result)
+#define REFUSES(name, question, length, book, book_length, target_length, number, value) \
+    shortens(name, question, length, book, book_length, target_length, number, value, NULL)
+
+/* The examples' books, of which all lines are needed; a second reading that is not, and an end that comes again by another line. */
+static void short_books(void)
+{
+    unsigned char book[5 * JEMULING_LINE_BYTES], expected[3 * JEMULING_LINE_BYTES];
+    SHORTENS("example 2", example_2_question, example_2_book, 1, example_2_book);
+    SHORTENS("example 4", example_4_question, example_4_book, 3, example_4_book);
+    SHORTENS("example 7", example_7_question, example_7_book, 5, example_7_book);
+    SHORTENS("example 8", example_8_question, example_8_book, 3, example_8_book);
+    memcpy(expected, at_least_book, 64);
+    memcpy(expected + 64, at_least_book + 2 * 64, 2 * 64);
+    expected[2 * 64 + 4] = 1;
+    SHORTENS("an = and at least", at_least_question, at_least_book, 3, expected);
+    /* the lower bound and the end once more: the second of each stays; line 3's clause, 1, stays as it is */
+    memcpy(book, example_4_book, 3 * 64);
+    memcpy(book + 3 * 64, example_4_book + 64, 2 * 64);
+    book[4 * 64 + 4] = 3;
+    SHORTENS("lines behind an empty one", example_4_question, book, 3, example_4_book);
+    memcpy(book + 4 * 64, example_4_book + 2 * 64, 64);
+    SHORTENS("the end once more", example_4_question, book, 3, example_4_book);
+    shortens("behind the end", example_4_question, sizeof example_4_question, book, 4 * 64, JEMULING_BOOK_BYTES, JEMULING_FAILS, 4, NULL);
+    if (edition == JEMULING_SECOND_EDITION)
+        SHORTENS("x at most -1", negative_question, negative_book, 3, negative_book);
+    else
+        REFUSES("x at most -1", negative_question, sizeof negative_question, negative_book, sizeof negative_book, JEMULING_BOOK_BYTES,
+                JEMULING_FAILS, 1);
+}
+
+/* A clause for each choice of eight marks, which fails for that alone: 511 lines, all of them needed. */
+static size_t all_choices(unsigned char *question)
+{
+    size_t length = 4;
+    memcpy(question, (unsigned char[]){ 8, 0, 0, 1 }, length);
+    for (int choice = 0; choice < 256; choice++) {
+        question[length++] = 8;
+        for (int mark = 0; mark < 8; mark++)
+            question[length++] = (unsigned char)(mark + (choice >> mark & 1) * 128);
+        question[length++] = 0;
+    }
+    return length;
+}
+
+/* Long books: one of 511 lines, which stays; the same behind so many lines that nobody needs; and 1,024 ends. */
+static void long_short_books(void)
+{
+    static unsigned char question[4 + 256 * 10], book[JEMULING_BOOK_BYTES], longer[JEMULING_BOOK_BYTES], sheet[JEMULING_SHEET_BYTES];
+    static const unsigned char zeros[JEMULING_BOOK_BYTES];
+    size_t length = all_choices(question), lines = 511;
+    jemuling_solved said = jemuling_solve(question, length, book, sizeof book, sheet, sizeof sheet);
+    expect("all choices of eight marks", ANSWER(said), JEMULING_CANNOT, lines);
+    shortens("all lines needed", question, length, book, 64 * lines, JEMULING_BOOK_BYTES, JEMULING_SHORTENED, lines, book);
+    for (size_t more = 1; more <= 513; more += 128) {
+        for (size_t i = 0; i < more + lines; i++) {
+            unsigned char *line = longer + 64 * i;
+            memcpy(line, i < more ? book : book + 64 * (i - more), 64);
+            for (size_t at = 2; i >= more && line[0] != 0 && at <= 4; at += 2) {
+                size_t parent = (size_t)(line[at] + 256 * line[at + 1]) + more;
+                line[at] = (unsigned char)(parent % 256);
+                line[at + 1] = (unsigned char)(parent / 256);
+            }
+        }
+        shortens("behind other lines", question, length, longer, 64 * (more + lines), JEMULING_BOOK_BYTES, JEMULING_SHORTENED, lines, book);
+        shortens("no end", question, length, longer, 64 * (more + lines - 1), JEMULING_BOOK_BYTES, JEMULING_FAILS, more + lines - 1, NULL);
+    }
+    SHORTENS("1,024 ends", example_2_question, zeros, 1, zeros);
+}
+
+/* 19, then 1, then the question's faults, then 16, then the line that fails. */
+static void not_shortened(void)
+{
+    static const size_t rooms[] = { 0, 1, 64, 16384, 65535, 65536, 65537, 70000 };
+    static unsigned char longest[JEMULING_QUESTION_BYTES + 1];
+    const size_t full = JEMULING_BOOK_BYTES, length = sizeof example_7_question;
+    int known = edition == JEMULING_FIRST_EDITION || edition == JEMULING_SECOND_EDITION;
+    for (size_t i = 0; i < sizeof rooms / sizeof *rooms; i++) {
+        uint64_t before = !known ? JEMULING_EDITION : rooms[i] < full ? JEMULING_BOOK : 0;
+        shortens("example 7", example_7_question, length, example_7_book, sizeof example_7_book, rooms[i],
+                 before ? before : JEMULING_SHORTENED, before ? 0 : 5, example_7_book);
+        REFUSES("two =", double_question, sizeof double_question, NULL, 0, rooms[i], before ? before : JEMULING_DOUBLE, before ? 0 : 15);
+        REFUSES("a long question", longest, sizeof longest, NULL, 0, rooms[i], before ? before : JEMULING_LONG,
+                before ? 0 : JEMULING_QUESTION_BYTES);
+        REFUSES("no question", NULL, 0, example_7_book, sizeof example_7_book, rooms[i], before ? before : JEMULING_SHORT, 0);
+        REFUSES("no book", example_7_question, length, NULL, 0, rooms[i], before ? before : JEMULING_CLAIM, 0);
+        REFUSES("a byte short", example_7_question, length, example_7_book, sizeof example_7_book - 1, rooms[i],
+                before ? before : JEMULING_CLAIM, before ? 0 : sizeof example_7_book - 1);
+        REFUSES("no end", example_7_question, length, example_7_book, sizeof example_7_book - 64, rooms[i],
+                before ? before : JEMULING_FAILS, before ? 0 : 4);
+        REFUSES("another question's book", example_8_question, sizeof example_8_question, example_7_book, sizeof example_7_book, rooms[i],
+                before ? before : JEMULING_FAILS, 0);
+    }
+    expect("nothing lent", jemuling_shorten_book_in(edition, NULL, 0, NULL, 0, NULL, 0), known ? JEMULING_BOOK : JEMULING_EDITION, 0);
+}
+
+static void shortening(void)
+{
+    static const uint64_t unknown[] = { 0, 3, 257, 258, (UINT64_C(1) << 32) + 1, UINT64_C(1) << 63, UINT64_MAX };
+    expect("its number", (jemuling_told){ JEMULING_SHORTENED, 0 }, 73, 0);
+    for (edition = JEMULING_FIRST_EDITION; edition <= JEMULING_SECOND_EDITION; edition++) {
+        short_books();
+        long_short_books();
+        not_shortened();
+    }
+    for (size_t i = 0; i < sizeof unknown / sizeof *unknown; i++) {
+        edition = unknown[i];
+        not_shortened();
+    }
+}
+
 int main(void)
 {
     for (limit = STANDARD; limit < LIMITS; limit++) {
@@ -575,6 +720,7 @@ int main(void)
     edition = 0;
     converting();
     carrying_back();
+    shortening();
     printf("%d passed, %d failed\n", passed, failed);
     return failed != 0;
 }

@@ -1,7 +1,7 @@
 /*
  * The stack that each call takes beyond its caller's, measured on the vectors: a call runs on a stack painted before, and the paint that is
- * gone afterwards is counted. Takes the files of the vectors: solve, check_book, check_sheet, convert, carry_back. README.md and the header
- * say the most, for a preview's calls and for those that name an edition, too.
+ * gone afterwards is counted. Takes the files of the vectors: solve, check_book, check_sheet, convert, carry_back, shorten_book. README.md
+ * and the header say the most, for a preview's calls and for those that name an edition, too.
  */
 #define _POSIX_C_SOURCE 200809L
 #include <pthread.h>
@@ -16,7 +16,7 @@
 #define ROW (1024 * 1024)
 
 /* In the order of the files; handing back has none. */
-enum { NOTHING, SOLVING, BOOK, SHEET, CONVERTING, CARRYING, BACK, CALLS };
+enum { NOTHING, SOLVING, BOOK, SHEET, CONVERTING, CARRYING, SHORTENING, BACK, CALLS };
 
 static const struct {
     const char *name;
@@ -27,11 +27,12 @@ static const struct {
     [SHEET] = { "the check of a sheet", 896 },
     [CONVERTING] = { "converting", 448 },
     [CARRYING] = { "carrying back", 768 },
+    [SHORTENING] = { "shortening a book", 2816 },
     [BACK] = { "handing back", 64 },
 };
 
 static unsigned char question[JEMULING_QUESTION_BYTES + 1], book[JEMULING_BOOK_BYTES], sheet[JEMULING_SHEET_BYTES];
-static unsigned char target[JEMULING_QUESTION_BYTES];
+static unsigned char target[JEMULING_BOOK_BYTES];
 static size_t question_length, book_length;
 static jemuling_solved solved;
 static jemuling_told told;
@@ -71,10 +72,13 @@ static void *called(void *call)
             told = jemuling_check_sheet(question, question_length, sheet, sizeof sheet);
         break;
     case CONVERTING:
-        told = jemuling_convert(question, question_length, target, sizeof target);
+        told = jemuling_convert(question, question_length, target, JEMULING_QUESTION_BYTES);
         break;
     case CARRYING:
-        told = jemuling_carry_back(question, question_length, sheet, sizeof sheet, target, sizeof target);
+        told = jemuling_carry_back(question, question_length, sheet, sizeof sheet, target, JEMULING_QUESTION_BYTES);
+        break;
+    case SHORTENING:
+        told = jemuling_shorten_book_in(JEMULING_SECOND_EDITION, question, question_length, book, book_length, target, sizeof target);
         break;
     case BACK:
         told = with[limit].hand_back(solved.number, solved.value, book, with[limit].bytes, sheet, sizeof sheet);
@@ -127,6 +131,25 @@ static size_t field(const char **at, unsigned char *bytes, size_t most)
     return n;
 }
 
+/* Whether there is such a call: the check of a sheet and shortening have no limit, shortening an edition always, handing back none,
+   converting and carrying back neither. */
+static int is_call(int call)
+{
+    switch (call) {
+    case SHEET:
+        return limit == STANDARD;
+    case CONVERTING:
+    case CARRYING:
+        return limit == STANDARD && naming == UNNAMED;
+    case SHORTENING:
+        return limit == STANDARD && naming == NAMED;
+    case BACK:
+        return naming == UNNAMED;
+    default:
+        return 1;
+    }
+}
+
 /* Every row of a file: its question, and the part that stands behind it. */
 static void file(const char *name, int call)
 {
@@ -138,7 +161,7 @@ static void file(const char *name, int call)
             continue;
         at++;
         question_length = field(&at, question, sizeof question);
-        if (call == BOOK)
+        if (call == BOOK || call == SHORTENING)
             book_length = field(&at, book, sizeof book);
         if (call == SHEET || call == CARRYING)
             field(&at, sheet, sizeof sheet);
@@ -148,6 +171,8 @@ static void file(const char *name, int call)
         measure(BACK);
         book_length = told.number == JEMULING_OF_BOOK ? told.value : with[limit].bytes;
         measure(BOOK);
+        if (is_call(SHORTENING))
+            measure(SHORTENING);
         if (limit == STANDARD)
             measure(SHEET);
     }
@@ -162,22 +187,6 @@ static int within(int call)
     printf("%s%s%s: %zu bytes of stack in %zu calls, %zu are said\n", said[call].name, with[limit].name,
            naming == NAMED ? ", edition 2" : "", bytes, times, said[call].most);
     return bytes > 0 && bytes <= said[call].most && times >= 100;
-}
-
-/* Whether there is such a call: the check of a sheet has no limit, handing back no edition, converting and carrying back neither. */
-static int is_call(int call)
-{
-    switch (call) {
-    case SHEET:
-        return limit == STANDARD;
-    case CONVERTING:
-    case CARRYING:
-        return limit == STANDARD && naming == UNNAMED;
-    case BACK:
-        return naming == UNNAMED;
-    default:
-        return 1;
-    }
 }
 
 /* Both limits, on the files. */

@@ -1,7 +1,7 @@
 /*
  * Runs the calls on the inputs of a file (see inputs.py) and prints a line for each: what the call said, and after solving what it left in
- * the lent buffers and what is handed back; after converting and carrying back what it left in the target, which is the book's buffer. With
- * a second file, solving's books and sheets go there.
+ * the lent buffers and what is handed back; after converting and carrying back what it left in the target, which is the book's buffer, and
+ * after shortening in the sheet's and in the book. With a second file, solving's books and sheets go there.
  */
 #include <ctype.h>
 #include <stdint.h>
@@ -105,6 +105,12 @@ int main(int argc, char **argv)
             memset(book, 0xab, in.book + BEHIND);
             told(jemuling_carry_back(question, in.question, sheet, in.sheet, book, in.book));
             printf(" %llx", hash(book, in.book + BEHIND));
+            break;
+        case 'K':
+            take(book, sizeof book, in.book, inputs);
+            memset(sheet, 0xab, in.sheet + BEHIND);
+            told(jemuling_shorten_book_in(in.number, question, in.question, book, in.book, sheet, in.sheet));
+            printf(" %llx %llx", hash(sheet, in.sheet + BEHIND), hash(book, in.book));
             break;
         case 'H':
             told(with[limit].hand_back(in.number, in.lines, book, in.book, sheet, in.sheet));

@@ -10,8 +10,9 @@ MOST = 1_000_000_000
 
 class Input:
     """One call with its arguments: S solves, B checks a book, M a sheet, H hands back; T, C and N do what S, B and M do in the edition that
-    their number names; s, b, h, t and c are the preview's; O carries a question over, and R a sheet back, to a target in the book's place.
-    Of buffers to write, the lengths alone."""
+    their number names; s, b, h, t and c are the preview's; O carries a question over, and R a sheet back, to a target in the book's place;
+    K writes the short book of one, in the edition that its number names, to a target in the sheet's place. Of buffers to write, the lengths
+    alone."""
 
     def __init__(self, name, call, question=b"", book=b"", sheet=b"", number=0, lines=0):
         self.name, self.call, self.question = name, call, bytes(question)
@@ -33,6 +34,10 @@ def over(name, question, target=1000):
 
 def back(name, question, given, target=SHEET + 16):
     return Input(f"carried back: {name}", "R", question, target, given)
+
+
+def short(name, question, book, target=BOOK + 16, edition=1):
+    return Input(f"short book: {name}", "K", question, bytes(book), target, edition)
 
 
 def preview(given):
@@ -479,6 +484,135 @@ def conversion():
             asked = random.problem()
             yield over(f"random {name} {i}", asked)
             yield over(f"random {name} {i}, damaged", random.damaged(asked), random.between(0, 200))
+
+
+# ---- short books
+
+def of_shortening(folder):
+    for name, asked, book, edition, length, *_ in rows(f"{folder}/shorten_book.txt"):
+        yield short(name, bytes.fromhex(asked), bytes.fromhex(book), int(length), int(edition))
+
+
+def chain(count, needed, turned):
+    """A question and a book of so many lines, of which those at these places, at least seven and the last among them, are needed: four
+    clauses, and results that each come from the one before as first parent, or if turned as second. All others repeat a clause."""
+    steps, sign = len(needed) - 6, -1 if turned else 1
+    conditions = [([sign], steps), ([-sign, sign], -1), ([sign, -sign], -1), ([-sign], 0), ([0, -sign], 0)]
+
+    def clause(i):
+        return line(0, 0, i, 0, 1, 0, 0, *conditions[i])
+
+    used = [0, 1, 2, 3 + (steps + 1) % 2]
+    book = [clause(i % 5) for i in range(count)]
+    for k, place in enumerate(needed):
+        if k < 4:
+            book[place] = clause(used[k])
+            continue
+        last = k == len(needed) - 1
+        parents = [needed[0 if k == 4 else k - 1], needed[3 if last else 1 + k % 2]]
+        # y <= steps - 1, x <= steps - 2 and so on; the last is empty
+        row = [0, sign] if k % 2 == 0 else [sign]
+        rest = (0, 0, 0) if last else (1, 0, 0, row, steps - k + 3)
+        book[place] = line(1, k % 2, *(parents[::-1] if turned else parents), *rest)
+    return question(0, 2, [alone(1, *condition) for condition in conditions]), b"".join(book)
+
+
+def choices(marks, before=0, behind=0):
+    """A clause for each choice of so many marks, which fails for that alone: all lines of its book are needed, but for so many that repeat
+    the first one before them, and in front of each level of results."""
+    def literals(mark, choice):
+        sides = [sum(1 << i for i in range(mark) if choice >> i & 1 == side) for side in (0, 1)]
+        return sides
+
+    asked = question(marks, 0, [([i + 128 * (choice >> i & 1) for i in range(marks)], []) for choice in range(2 ** marks)])
+    first = line(0, 0, 0, 0, 0, *literals(marks, 0))
+    book = [first] * before
+    level = list(range(before, before + 2 ** marks))
+    book += [line(0, 0, choice, 0, 0, *literals(marks, choice)) for choice in range(2 ** marks)]
+    for mark in range(marks - 1, -1, -1):
+        book += [first] * behind
+        start, half = len(book), 2 ** mark
+        book += [line(2, mark, level[i], level[i + half], 0, *literals(mark, i)) for i in range(half)]
+        level = list(range(start, start + half))
+    return asked, b"".join(book)
+
+
+def places(count):
+    """Places in a book of so many lines, the last among them: all, about the ends of words and bytes, and others."""
+    about = {0, 31, 32, 33, 63, 64, 65, 95, 96, 255, 256, 257, 511, 512, 1022}
+    yield "all", range(count)
+    yield "odd", range(1, count, 2)
+    yield "about ends of words", (i for i in range(count) if i in about)
+    yield "not about ends of words", (i for i in range(count) if i not in about)
+    yield "last of each word", range(31, count, 32)
+    yield "first of each word", range(0, count, 32)
+    yield "the first", range(min(count, 40))
+    yield "the last", range(max(count - 40, 0), count)
+    yield "one in three", (i for i in range(count) if (i * 2654435761 >> 9) % 3 == 0)
+
+
+def shortening():
+    """Chains and trees of every length about the ends of words, of which some lines are needed; ends that are loaded, that come twice, or
+    of which each has lines of its own; targets, editions and faults, each before the others; and a book with every byte changed."""
+    for count in (7, 8, 31, 32, 33, 34, 64, 65, 66, 97, 255, 256, 257, 300, 513, 1023, 1024):
+        for name, some in places(count):
+            needed = {*some, count - 1}
+            needed |= set(range(count)) if len(needed) < 7 and count < 14 else set(range(7 - len(needed)))
+            while len(needed) < 7:
+                needed.add(max(set(range(count)) - needed))
+            for turned in (False, True):
+                yield short(f"{count} lines, {name}{', turned' * turned}", *chain(count, sorted(needed), turned))
+    for marks in range(1, 9):
+        for before, behind in ((0, 0), (1, 0), (0, 1), (33, 3), (200, 30)):
+            yield short(f"all choices of {marks} marks, {before} before, {behind} behind", *choices(marks, before, behind))
+    # so many clauses, of which one is empty, by each of its copies and behind other lines
+    for clauses in (1, 2, 5, 40, 256):
+        for empty in sorted({0, 1, clauses // 2, clauses - 1} & set(range(clauses))):
+            asked = question(0, 1, [([], []) if i == empty else alone(1, [1], i) for i in range(clauses)])
+            loaded = [line(0, 0, i, 0, *((0,) if i == empty else (1, 0, 0, [1], i))) for i in range(clauses)]
+            for before in (0, 1, clauses):
+                book = b"".join(loaded[:before]) + loaded[empty]
+                yield short(f"{clauses} clauses, {empty} is empty, {before} lines before", asked, book)
+                yield short(f"{clauses} clauses, {empty} is empty, {before} lines before, twice", asked, book + book)
+    # x < 5; -x <= -5; a; not a: every two copies of each, and ends by either
+    asked = question(1, 1, [alone(2, [1], 5), alone(1, [-1], -5), ([0], []), ([128], [])])
+    by = [line(0, 0, 0, 0, 2, 0, 0, [1], 5), line(0, 0, 1, 0, 1, 0, 0, [-1], -5), line(0, 0, 2, 0, 0, 1), line(0, 0, 3, 0, 0, 0, 1)]
+    for copies in product((1, 2), repeat=4):
+        lines = [own for own, count in zip(by, copies) for _ in range(count)]
+        starts = [sum(copies[:i]) for i in range(4)]
+        for x, y, a, b in product(*(range(start, start + count) for start, count in zip(starts, copies))):
+            ends = [line(1, 0, x, y), line(2, 0, a, b)]
+            for order in ((0,), (1,), (0, 1), (1, 0), (0, 1, 0)):
+                book = b"".join(lines + [ends[i] for i in order])
+                yield short(f"copies {copies}, from {x} and {y}, {a} and {b}, ends {order}", asked, book)
+    book = b"".join([by[2], *by, line(1, 0, 1, 2), line(2, 0, 3, 4)])
+    for target in (0, 1, 63, 64, 16384, BOOK - 64, BOOK - 1, BOOK, BOOK + 1, BOOK + 64, 2 * BOOK):
+        for edition in (1, 2, 3):
+            for name, given in (("", book), (", no end", book[:-64]), (", empty", b""), (", a byte short", book[:-1])):
+                yield short(f"a target of {target}, edition {edition}{name}", asked, given, target, edition)
+                yield short(f"a target of {target}, edition {edition}{name}, a fault", asked + b"\0", given, target, edition)
+    for edition in EDITIONS:
+        yield short(f"edition {edition}", asked, book, BOOK, edition)
+    for place, change in product(range(len(book)), (1, 255)):
+        changed = bytearray(book)
+        changed[place] = (book[place] + change) % 256
+        yield short(f"byte {place} is {changed[place]}", asked, changed, BOOK)
+    # the end needs a clause of edition 2, and not
+    asked = question(0, 2, [alone(1, [1, 1], -1), alone(2, [1], 0)])
+    lines = [line(0, 0, 3, 0, 1, 0, 0, [0, -1], 0), line(0, 0, 2, 0, 1, 0, 0, [-1], 0), line(0, 0, 1, 0, 2, 0, 0, [1], 0), line(1, 0, 2, 1)]
+    for edition in (1, 2):
+        yield short(f"a clause of edition 2, edition {edition}", asked, b"".join(lines), BOOK, edition)
+
+
+def shortened(left):
+    """Books that solving left, in their edition; the first of many lines, too."""
+    long = 6
+    for given, number, book, _ in left:
+        if number == 65:
+            lines = len(book) // LINE
+            long -= lines > 64
+            if lines <= 64 or long >= 0:
+                yield short(f"of {given.name}", given.question, book, BOOK + 16, given.number if given.call == "T" else 1)
 
 
 # ---- by the preview's calls

@@ -2,7 +2,7 @@
 //! package, and the calls for tests alone, whose declarations repeat those of `crates/test_calls`.
 
 use jemuling::Refusal;
-use reference::{Answer, Carried, Checked, Converted, Limit, Part, Verdict};
+use reference::{Answer, Carried, Checked, Converted, Limit, Part, Shortened, Verdict};
 
 pub fn solve(question: &[u8], book: &mut [u8], sheet: &mut [u8]) -> Answer {
     solve_within(Limit::STANDARD, question, book, sheet)
@@ -135,6 +135,16 @@ pub fn carry_back(question: &[u8], sheet: &[u8], target: &mut [u8]) -> Carried {
     match jemuling::carry_back(question, sheet, target) {
         jemuling::Carried::Done => Carried::Done,
         jemuling::Carried::Refused(Refusal { number, place }) => Carried::Refused { number, place },
+    }
+}
+
+pub fn shorten_book_in(edition: u64, question: &[u8], book: &[u8], target: &mut [u8]) -> Shortened {
+    match jemuling::shorten_book_in(edition, question, book, target) {
+        jemuling::Shortened::Lines(lines) => Shortened::Lines(lines),
+        jemuling::Shortened::Fails(line) => Shortened::Fails(line),
+        jemuling::Shortened::Refused(Refusal { number, place }) => {
+            Shortened::Refused { number, place }
+        }
     }
 }
 

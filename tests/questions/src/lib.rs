@@ -9,5 +9,6 @@ pub mod marks;
 pub mod open;
 pub mod problem;
 pub mod random;
+pub mod reduced;
 pub mod relations;
 pub mod rows;

@@ -1,4 +1,4 @@
-//! The second solver: document 01 with 02's requests (i) and (iii) to (viii), written once
+//! The second solver: document 01 with 02's requests (i), (iii) to (viii) and (xi), written once
 //! more, in plain Rust and from their text alone, to judge the proved one from outside. Every call here
 //! takes any bytes and buffers of any length; one that names no limit of lines takes 1,024, and one that
 //! names no edition the first.
@@ -16,6 +16,7 @@ mod normalize;
 mod print;
 mod problem;
 mod readings;
+mod shortening;
 
 pub use checker::{check_book, check_book_in, check_book_within};
 pub use checker::{check_sheet, check_sheet_in, Checked};
@@ -25,6 +26,7 @@ pub use elimination::{Limit, Order, Rules, Search};
 pub use evidence::{hand_back, hand_back_within, Part};
 pub use print::print;
 pub use problem::{read, Fault, Problem};
+pub use shortening::{shorten_book_in, Shortened};
 
 use editions::Edition;
 use elimination::{eliminate, Elimination, End, Step, Variable, STEP_LENGTH};

@@ -63,15 +63,15 @@ fn check_vectors(sums: &mut Sums) {
 }
 
 /// A question with what solving it left, and whether there is something to check.
-struct Case {
-    question: Vec<u8>,
-    book: Vec<u8>,
+pub struct Case {
+    pub question: Vec<u8>,
+    pub book: Vec<u8>,
     sheet: Vec<u8>,
     verdict: Option<Verdict>,
 }
 
 /// One in three is solved in edition 2.
-fn case(random: &mut Random) -> Case {
+pub fn case(random: &mut Random) -> Case {
     let in_2 = random.once_in(3);
     let problem = match in_2 {
         true => editions::problem(random),
@@ -151,7 +151,7 @@ fn check_books(random: &mut Random, sums: &mut Sums) {
 
 /// A byte or more changed, parents swapped, lines moved, repeated or taken from another book, the
 /// end cut, a loaded line's piece or signs changed; or nothing.
-fn damage_book(random: &mut Random, book: &mut Vec<u8>, other: &[u8]) {
+pub fn damage_book(random: &mut Random, book: &mut Vec<u8>, other: &[u8]) {
     let lines = book.len() / LINE_LENGTH;
     let line = |random: &mut Random, lines: usize| random.between(0, lines as i64 - 1) as usize;
     if lines == 0 {

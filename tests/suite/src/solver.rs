@@ -3,7 +3,8 @@
 
 use crate::report::Group;
 use questions::problem::Problem;
-use reference::{Answer, Carried, Checked, Converted, Limit, Part, SECOND_EDITION};
+use reference::{Answer, Carried, Checked, Converted, Limit, Part, Shortened};
+use reference::{FIRST_EDITION, SECOND_EDITION};
 
 #[derive(Clone, Copy)]
 enum Code {
@@ -154,6 +155,15 @@ impl Solver {
         match self.code {
             Code::Second => reference::carry_back(question, sheet, target),
             Code::Proved => proved::carry_back(question, sheet, target),
+        }
+    }
+
+    /// Shortening names an edition, the first if none is, and has 1,024 lines.
+    pub fn shorten_book(self, question: &[u8], book: &[u8], target: &mut [u8]) -> Shortened {
+        let edition = self.edition.unwrap_or(FIRST_EDITION);
+        match self.code {
+            Code::Second => reference::shorten_book_in(edition, question, book, target),
+            Code::Proved => proved::shorten_book_in(edition, question, book, target),
         }
     }
 }

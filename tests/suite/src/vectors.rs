@@ -2,24 +2,25 @@
 //! read is a failure.
 
 use crate::buffers::{book_length, ends_course, solve_filled};
-use crate::buffers::{BOOK_LENGTH, PREVIEW_LENGTH, SHEET_LENGTH};
+use crate::buffers::{BOOK_LENGTH, LINE_LENGTH, PREVIEW_LENGTH, SHEET_LENGTH};
 use crate::preview::{full, held, pairs};
 use crate::report::{demand, equal, Outcome, Sums};
 use crate::solver::Solver;
-use reference::{Answer, Carried, Checked, Converted, Part, Verdict};
+use reference::{Answer, Carried, Checked, Converted, Part, Shortened, Verdict};
 use std::path::Path;
 
 /// The fewest cases that a file has.
 const FEWEST: usize = 20;
 
 /// The files of books and of sheets to check.
-pub const BOOKS: [&str; 6] = [
+pub const BOOKS: [&str; 7] = [
     "check_book.txt",
     "base_books.txt",
     "cheapest_books.txt",
     "preview/check_book.txt",
     "edition_2/check_book.txt",
     "edition_2/preview/check_book.txt",
+    "shorten_book.txt",
 ];
 pub const SHEETS: [&str; 2] = ["check_sheet.txt", "edition_2/check_sheet.txt"];
 
@@ -71,6 +72,7 @@ fn run_in_1(solver: Solver, sums: &mut Sums) {
         run_file(solver, "hand_back.txt", hand_back_case, sums);
         run_file(solver, "convert.txt", convert_case, sums);
         run_file(solver, "carry_back.txt", carry_back_case, sums);
+        run_file(solver, "shorten_book.txt", shorten_case, sums);
     }
 }
 
@@ -346,6 +348,37 @@ fn carry_back_case(solver: Solver, fields: &Fields) -> Outcome {
     };
     let said = solver.carry_back(&bytes(question)?, &bytes(sheet)?, &mut target);
     equal("carrying back", &expected, &said)?;
+    demand(target == after, "another target")
+}
+
+/// name, question, book, edition, target's length, short book's lines and bytes or what the check says; the
+/// target's other bytes are 0 to a full-size book's end and kept beyond, after any other answer all are.
+fn shorten_case(solver: Solver, fields: &Fields) -> Outcome {
+    let (question, book, edition, room, rest) = match fields {
+        [_, question, book, edition, room, rest @ ..] => (question, book, edition, room, rest),
+        _ => return Err("malformed".into()),
+    };
+    let mut target = numbered(number(room)?);
+    let mut after = target.clone();
+    let expected = match *rest {
+        ["shortened", lines, short] => {
+            let result = after.get_mut(..BOOK_LENGTH).ok_or("malformed")?;
+            let (lines, short) = (number(lines)?, bytes(short)?);
+            equal("stored length", &(lines * LINE_LENGTH), &short.len())?;
+            result.fill(0);
+            result[..short.len()].copy_from_slice(&short);
+            Shortened::Lines(lines)
+        }
+        ["fails", line] => Shortened::Fails(number(line)?),
+        ["refused", fault, place] => Shortened::Refused {
+            number: number(fault)?,
+            place: number(place)?,
+        },
+        _ => return Err("malformed".into()),
+    };
+    let solver = solver.naming(number(edition)?);
+    let said = solver.shorten_book(&bytes(question)?, &bytes(book)?, &mut target);
+    equal("shortening", &expected, &said)?;
     demand(target == after, "another target")
 }
 
