@@ -42,11 +42,11 @@
  * marks are those of the question as it is written, in either edition.
  *
  * A call whose name ends in _in names an edition, and tests it before all else;
- * the call of the same name without it is edition 1. Handing back names none:
- * it reads no question. To satisfy a question is to satisfy every clause of the
- * call's edition. A book that is accepted in edition 1 is accepted in edition
- * 2, and a sheet that is accepted in edition 2 is accepted in edition 1.
- * Neither holds the other way round.
+ * the call of the same name without it, if there is one, is edition 1. Handing
+ * back names none: it reads no question. To satisfy a question is to satisfy
+ * every clause of the call's edition. A book that is accepted in edition 1 is
+ * accepted in edition 2, and a sheet that is accepted in edition 2 is accepted
+ * in edition 1. Neither holds the other way round.
  *
  * A first-edition question, an old one, is carried over to the second by
  * converting it, and a sheet of the new question is carried back. Converting
@@ -62,6 +62,15 @@
  * the same. A sheet of the new question goes back by subtraction, over the same
  * marks and denominator. Neither call names an edition.
  *
+ * A book of many lines shows a reader little, since most of them may lead
+ * nowhere. Shortened, it has the last, empty line and only the lines from which
+ * that descends: its parents, their parents, and so on to lines from clauses.
+ * They stay in order, and the parents of a result are named by their new
+ * numbers; the clause and the piece of a loaded line, and all that a line
+ * states, are as they were. The short book is a book of the same question like
+ * any other, and the clauses that it loads, the written ones and edition 2's,
+ * have no solution by themselves; one with a 3 (equal) counts whole.
+ *
  * A question, a book and a sheet are bytes that the caller owns and lends for
  * the time of one call. No call keeps a pointer or any state, allocates,
  * prints or stops the process; every call ends, for bytes of every kind and
@@ -76,13 +85,14 @@
  * the rest. A verdict of the preview, or JEMULING_WIDE, is also what
  * jemuling_solve says of the question, or jemuling_solve_in in the same edition,
  * with the same lines, pairs, sheet and lines of the book; where 256 lines are
- * not enough, the preview says JEMULING_FULL, and its caller may turn to them.
+ * not enough, the preview says JEMULING_FULL, and its caller may turn to them. A
+ * preview's book is shortened by the one call that shortens.
  *
  * Beside what it is lent, a call takes stack and no other memory. Beyond its
  * caller's, in bytes as measured on x86-64, solving takes at most 1,664, the
  * check of a book 2,560, the check of a sheet 896, converting 448, carrying back
- * 768, and handing back 64, for a preview too. Solving is lent question, book
- * and sheet alone, and holds no array over 1,024 bytes.
+ * 768, shortening a book 2,816, and handing back 64, for a preview too. Solving
+ * is lent question, book and sheet alone, and holds no array over 1,024 bytes.
  *
  * Link with libjemuling.a; it needs memset of the C library and nothing else.
  */
@@ -145,8 +155,8 @@ enum {
     /* A buffer is refused. */
     JEMULING_BOOK = 1,        /* a book to write has under 65,536 bytes, a preview's under 16,384; 0 */
     JEMULING_SHEET = 2,       /* a sheet has under 64 bytes; 0 */
-    JEMULING_CLAIM = 16,      /* a book to check has not 64 to 65,536 bytes by 64s, a preview's not 64 to 16,384; its
-                                 length */
+    JEMULING_CLAIM = 16,      /* a book to check, or to shorten, has not 64 to 65,536 bytes by 64s, a preview's to check
+                                 not 64 to 16,384; its length */
     JEMULING_SLIP = 17,       /* a sheet to check, or to carry back, has another count of marks or figures than the
                                  question (carrying back: than the new one), a mark in no literal of the question that
                                  is not 2, a mark in one that is not 0 or 1, a denominator outside 1 to 1,000,000,000,
@@ -161,7 +171,7 @@ enum {
     JEMULING_CANNOT = 65,     /* no marks and figures do; the book's lines show it */
     JEMULING_UNWRITTEN = 66,  /* some do, but a bound or value that was worked out for them, their common
                                  denominator, or a numerator over it is too large for a sheet */
-    /* What a check found. */
+    /* What a check found; shortening says 68, too. */
     JEMULING_ACCEPTED = 67,   /* the book is a refutation, or the sheet satisfies every clause; 0 */
     JEMULING_FAILS = 68,      /* the first line that does not follow (the count of lines if only an empty last line
                                  is missing), or the first clause that does not hold, n + i if figure i is below 0 in
@@ -171,7 +181,9 @@ enum {
     JEMULING_OF_SHEET = 70,   /* the first `value` bytes of the sheet */
     /* An old question is carried over, or a sheet of the new one back. */
     JEMULING_CONVERTED = 71,  /* the new question is written; `value` is its length */
-    JEMULING_CARRIED = 72     /* the sheet is written; 0 */
+    JEMULING_CARRIED = 72,    /* the sheet is written; 0 */
+    /* A book is shortened. */
+    JEMULING_SHORTENED = 73   /* the short book is written; `value` is the count of its lines */
 };
 
 /* A number from above, and its value. */
@@ -346,6 +358,36 @@ jemuling_told jemuling_convert(const uint8_t *question, size_t question_length,
 jemuling_told jemuling_carry_back(const uint8_t *question, size_t question_length,
                                   const uint8_t *sheet, size_t sheet_length,
                                   uint8_t *target, size_t target_length);
+
+/*
+ * Shortens a book that refutes a question in the edition named: writes the
+ * short book, as the head of this file says, to `target`, and only reads the
+ * book, which must not overlap it. The book is its used lines alone, 64 times
+ * the count that solving said: zeros behind them are lines, too, and do not
+ * follow. Says JEMULING_EDITION; else JEMULING_BOOK if the target has under
+ * 65,536 bytes; else what jemuling_check_book_in says of a book that it does
+ * not accept: a fault of the question, 3 to 13 or 18, with its place,
+ * JEMULING_CLAIM with the book's length, or JEMULING_FAILS with the first line
+ * that does not follow, the count of lines if only an empty last line is
+ * missing; else JEMULING_SHORTENED with the count of the short book's lines. A
+ * book has at most 1,024 lines here; a preview's, of at most 256, is such a
+ * book, so there is no call of its own for it, and its target has 65,536 bytes,
+ * too.
+ *
+ * After JEMULING_SHORTENED the first `value` lines of 64 bytes are the short
+ * book, and the rest of the target's 65,536 bytes is 0; bytes beyond 65,536
+ * keep their content. After any other number no byte is altered.
+ *
+ * These lines are accepted by jemuling_check_book_in, for the same question and
+ * edition. Besides the book's last line they are exactly those from which it
+ * descends, so no more than the book has. No marks and figures satisfy all of
+ * the clauses that they load, whatever becomes of the others; in a question
+ * written of those clauses alone, they and their links have other numbers than
+ * the short book names. Shortened again, these lines stay as they are.
+ */
+jemuling_told jemuling_shorten_book_in(uint64_t edition, const uint8_t *question, size_t question_length,
+                                       const uint8_t *book, size_t book_length,
+                                       uint8_t *target, size_t target_length);
 
 #ifdef __cplusplus
 }

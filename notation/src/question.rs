@@ -124,11 +124,16 @@ impl Question {
 
     /// A clause by its number, with its edition if it is not written.
     pub fn clause_name(&self, number: usize) -> String {
+        format!("clause {}", self.clause_number(number))
+    }
+
+    /// The same without the word.
+    pub fn clause_number(&self, number: usize) -> String {
         let edition = match number < self.clauses.len() {
             true => "",
             false => " (edition 2)",
         };
-        format!("clause {number}{edition}")
+        format!("{number}{edition}")
     }
 
     /// Whether a mark stands in no literal as written, so that nothing decides it.

@@ -83,6 +83,15 @@ pub enum Carried {
     Refused(Refusal),
 }
 
+/// What shortening a book answers: the short book's lines; or what the check answers of a book that it
+/// does not accept, the first line that fails, or a refusal.
+#[derive(Clone, Copy, Debug, PartialEq, Eq)]
+pub enum Shortened {
+    Lines(usize),
+    Fails(usize),
+    Refused(Refusal),
+}
+
 /// The part of a buffer that a verdict gives its caller.
 #[derive(Clone, Copy, Debug, PartialEq, Eq)]
 pub enum Part<'a> {
@@ -207,6 +216,15 @@ extern "C" {
         target: *mut u8,
         target_length: usize,
     ) -> Told;
+    fn jemuling_shorten_book_in(
+        edition: u64,
+        question: *const u8,
+        question_length: usize,
+        book: *const u8,
+        book_length: usize,
+        target: *mut u8,
+        target_length: usize,
+    ) -> Told;
 }
 
 /// A call for solving, one for the check of a book or of a sheet, both also with an edition before the
@@ -226,6 +244,7 @@ const FAILS: u64 = 68;
 const OF_SHEET: u64 = 70;
 const CONVERTED: u64 = 71;
 const CARRIED: u64 = 72;
+const SHORTENED: u64 = 73;
 
 /// Solves a question. The buffers are lent for the call, and hold afterwards what the header says:
 /// after "agrees" the sheet has [`NO`], [`YES`] or [`OPEN`] for each mark, [`OPEN`] exactly for those
@@ -318,6 +337,34 @@ pub fn carry_back(question: &[u8], sheet: &[u8], target: &mut [u8]) -> Carried {
     match told.number {
         CARRIED => Carried::Done,
         number => Carried::Refused(refusal(number, told.value)),
+    }
+}
+
+/// Writes into the target the short book of one that refutes a question in the edition of this number:
+/// the last, empty line and the lines from which it descends, in order, with parents by their new
+/// numbers. The short book is the first [`Shortened::Lines`] lines of the target, of which
+/// [`BOOK_BYTES`] are needed; the rest of these is 0, and the bytes beyond keep their content. It is for
+/// books of at most 1,024 lines, so for a preview's, too. No byte is altered after a refusal, 19 (no
+/// edition), else 1 (a short target), else as [`check_book_in`] answers, nor after
+/// [`Shortened::Fails`], which is its [`Checked::Fails`]. That check accepts the short book; the
+/// question reduced to the clauses that it loads cannot agree either.
+pub fn shorten_book_in(edition: u64, question: &[u8], book: &[u8], target: &mut [u8]) -> Shortened {
+    // SAFETY: as for `convert`, with a book that is read besides.
+    let told = unsafe {
+        jemuling_shorten_book_in(
+            edition,
+            question.as_ptr(),
+            question.len(),
+            book.as_ptr(),
+            book.len(),
+            target.as_mut_ptr(),
+            target.len(),
+        )
+    };
+    match told.number {
+        SHORTENED => Shortened::Lines(told.value),
+        FAILS => Shortened::Fails(told.value),
+        number => Shortened::Refused(refusal(number, told.value)),
     }
 }
 
