@@ -69,7 +69,8 @@
  * numbers; the clause and the piece of a loaded line, and all that a line
  * states, are as they were. The short book is a book of the same question like
  * any other, and the clauses that it loads, the written ones and edition 2's,
- * have no solution by themselves; one with a 3 (equal) counts whole.
+ * have no solution together, without the others; one with a 3 (equal) counts
+ * whole. There may be another book with fewer lines; none is looked for.
  *
  * A question, a book and a sheet are bytes that the caller owns and lends for
  * the time of one call. No call keeps a pointer or any state, allocates,
@@ -153,7 +154,7 @@ enum {
     JEMULING_WIDE = 14,       /* an amount beyond 1,000,000,000 in size arose; lines held */
     JEMULING_FULL = 15,       /* a line too many for the book; lines held */
     /* A buffer is refused. */
-    JEMULING_BOOK = 1,        /* a book to write has under 65,536 bytes, a preview's under 16,384; 0 */
+    JEMULING_BOOK = 1,        /* a book to write has under 65,536 bytes, for solving as a preview under 16,384; 0 */
     JEMULING_SHEET = 2,       /* a sheet has under 64 bytes; 0 */
     JEMULING_CLAIM = 16,      /* a book to check, or to shorten, has not 64 to 65,536 bytes by 64s, a preview's to check
                                  not 64 to 16,384; its length */
@@ -183,7 +184,7 @@ enum {
     JEMULING_CONVERTED = 71,  /* the new question is written; `value` is its length */
     JEMULING_CARRIED = 72,    /* the sheet is written; 0 */
     /* A book is shortened. */
-    JEMULING_SHORTENED = 73   /* the short book is written; `value` is the count of its lines */
+    JEMULING_SHORTENED = 73   /* the short book is written, by no other answer; `value` is the count of its lines */
 };
 
 /* A number from above, and its value. */
@@ -364,26 +365,29 @@ jemuling_told jemuling_carry_back(const uint8_t *question, size_t question_lengt
  * short book, as the head of this file says, to `target`, and only reads the
  * book, which must not overlap it. The book is its used lines alone, 64 times
  * the count that solving said: zeros behind them are lines, too, and do not
- * follow. Says JEMULING_EDITION; else JEMULING_BOOK if the target has under
- * 65,536 bytes; else what jemuling_check_book_in says of a book that it does
- * not accept: a fault of the question, 3 to 13 or 18, with its place,
- * JEMULING_CLAIM with the book's length, or JEMULING_FAILS with the first line
- * that does not follow, the count of lines if only an empty last line is
- * missing; else JEMULING_SHORTENED with the count of the short book's lines. A
- * book has at most 1,024 lines here; a preview's, of at most 256, is such a
- * book, so there is no call of its own for it, and its target has 65,536 bytes,
- * too.
+ * follow, unless clause 0 is empty once it is tidied. Says JEMULING_EDITION;
+ * else JEMULING_BOOK if the target has under 65,536 bytes; else what
+ * jemuling_check_book_in says of a book that it does not accept: a fault of the
+ * question, 3 to 13 or 18, with its place, JEMULING_CLAIM with the book's
+ * length, or JEMULING_FAILS with the first line that does not follow, the count
+ * of lines if only an empty last line is missing; else JEMULING_SHORTENED with
+ * the count of the short book's lines. A book has at most 1,024 lines here; a
+ * preview's, of at most 256, is such a book, so there is no call of its own for
+ * it, and its target has 65,536 bytes, too.
  *
  * After JEMULING_SHORTENED the first `value` lines of 64 bytes are the short
  * book, and the rest of the target's 65,536 bytes is 0; bytes beyond 65,536
- * keep their content. After any other number no byte is altered.
+ * keep their content. After any other number, JEMULING_FAILS too, no byte is
+ * altered.
  *
  * These lines are accepted by jemuling_check_book_in, for the same question and
  * edition. Besides the book's last line they are exactly those from which it
- * descends, so no more than the book has. No marks and figures satisfy all of
- * the clauses that they load, whatever becomes of the others; in a question
- * written of those clauses alone, they and their links have other numbers than
- * the short book names. Shortened again, these lines stay as they are.
+ * descends, so no more than the book has. Shortened again, they stay as they
+ * are. No marks and figures satisfy all of the clauses that they load, whatever
+ * becomes of the others. In a question written of those clauses alone, they and
+ * their links may have other numbers than the short book names; solving it
+ * takes a course of its own, which may end with JEMULING_WIDE or JEMULING_FULL,
+ * and never with JEMULING_AGREES or JEMULING_UNWRITTEN.
  */
 jemuling_told jemuling_shorten_book_in(uint64_t edition, const uint8_t *question, size_t question_length,
                                        const uint8_t *book, size_t book_length,

@@ -125,6 +125,13 @@ fn of_ends() -> Vec<Case> {
             vec![load(0), load(0)],
             vec![load(0)],
         ),
+        // of an empty clause 0 a line of zeros is the piece, so a whole buffer of them is a book
+        case(
+            "zeros to the last byte",
+            Problem::new(0, 0).clause([]),
+            vec![load(0); 1_024],
+            vec![load(0)],
+        ),
     ]
 }
 

@@ -1,6 +1,7 @@
 -- `needed::mark_parents` meets its contract. Assumes nothing.
 use mathlib.Core.Path.{_≡_, sym, _∙_}
 use mathlib.Core.Bool.{true, false}
+use native.Mathlib.Omega.{arith}
 use borrow.Author.Tests.{not-true, not-false}
 use Rattle.trimming.specs.Parents.{origin-first, origin-second, origin-loaded, origin-resolved, parents-fit}
 use Rattle.trimming.specs.Needed.{parents-unmarked, parents-loaded, parents-resolved}
@@ -43,7 +44,7 @@ mark-requires-2 c κs =
     let t = m .before .before in
     let o = t .before .before in
     let s = o .before .before .before .before .before .before in
-    (m .mark .ensures .size ∙ s .pre .1 .1, parents-fit (s .pre .0) (s .pre .1 .0) (o .origin-at .ensures) (t .if2 .left) .1)
+    (m .mark .ensures .size ∙ s .pre .1 .1, omega (arith, parents-fit (s .pre .0) (s .pre .1 .0) (o .origin-at .ensures) (t .if2 .left)))
 
 same-length-3 : tie.Need-same-length-3
 same-length-3 c = search needs
