@@ -10,13 +10,13 @@ use Rattle.rules_types.specs.declared.answers.Converted.the-variants.{Length}
 use Rattle.rules_types.specs.declared.limits.Limits.{Limits}
 use Rattle.rules_types.specs.declared.terms.Edition.the-variants.{First, Second}
 use Rattle.rules_types.specs.Limits as limit
+use Rattle.rules_types.specs.Terms.{on}
 use Rattle.rules.specs.Problem.{Problem}
 use Rattle.rules.specs.Calls.{sound, read, modelChecked}
 use Rattle.theory_layout.specs.Fields.{take-bytes}
 use Rattle.promises.specs.Decided.{NoAssignment}
 use Rattle.promises.specs.Checked.{model-exactly}
 use Rattle.promises.specs.CarriedOver.{NewProblem}
-use Rattle.promises.specs.Editions.{on}
 use Rattle.promises.specs.OneNew.{SameNew, same-new}
 use Rattle.jemuling.specs.declared.told.Told.{Told}
 use Rattle.jemuling.specs.Promised.{SheetChecked, BookCheckedIn, SheetCheckedIn, ProblemConverted, ModelCarriedBack}

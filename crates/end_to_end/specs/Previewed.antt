@@ -15,12 +15,12 @@ use Rattle.rules_types.specs.declared.terms.Edition.{Edition}
 use Rattle.rules_types.specs.declared.terms.Terms.{Terms}
 use Rattle.rules_types.specs.Limits as limit
 use Rattle.rules_types.specs.Answers.{refusalNumber, verdictNumber, answerNumber}
+use Rattle.rules_types.specs.Terms.{on}
 use Rattle.rules.specs.Problem.{Problem}
 use Rattle.rules.specs.Calls.{Reading, faulty, sound, read, Solving, solve}
 use Rattle.promises.specs.Words.{Comes, FullSize}
 use Rattle.promises.specs.Numbers.{verdict-exactly, refusal-exactly}
 use Rattle.promises.specs.Demand1.{untouched, demand1}
-use Rattle.promises.specs.Editions.{on}
 use Rattle.promises.specs.Preview.{AsLarger, not-both, as-larger}
 use Rattle.jemuling.specs.declared.told.SolvedTold.{SolvedTold}
 use Rattle.jemuling.specs.Told.{solvedTold}

@@ -16,6 +16,7 @@ use Rattle.rules_types.specs.declared.terms.Edition.the-variants.{First, Second
 use Rattle.rules_types.specs.declared.terms.Terms.{Terms}
 use Rattle.rules_types.specs.Limits as limit
 use Rattle.rules_types.specs.Answers.{verdictNumber}
+use Rattle.rules_types.specs.Terms.{on}
 use Rattle.rules.specs.Calls.{Reading, faulty, sound, read, proofChecked}
 use Rattle.rules.specs.Trim.{Trimming}
 use Rattle.theory_bytes.specs.Bytes.{AllBytes}
@@ -23,7 +24,7 @@ use Rattle.theory_layout.specs.Fields.{take-bytes}
 use Rattle.theory_checks.specs.ProofChecked.{refused-not}
 use Rattle.promises.specs.HandedBack.{verdict-read}
 use Rattle.promises.specs.Checks.{ChecksProof, checks-proof}
-use Rattle.promises.specs.Editions.{on, Other, either-edition}
+use Rattle.promises.specs.Editions.{Other, either-edition}
 use Rattle.promises.specs.Trimming.{Trims}
 use Rattle.promises.specs.OneShort.{same-shortening}
 use Rattle.jemuling.specs.declared.told.Told.{Told}

@@ -15,14 +15,14 @@ use Rattle.rules_types.specs.declared.terms.Named.the-variants.{Known, Unknown}
 use Rattle.rules_types.specs.declared.terms.Terms.{Terms}
 use Rattle.rules_types.specs.Limits as limit
 use Rattle.rules_types.specs.Answers.{refusalNumber, answerNumber, answerValue, checkedNumber, checkedValue}
-use Rattle.rules_types.specs.Terms.{editionNamed}
+use Rattle.rules_types.specs.Terms.{on, editionNamed}
 use Rattle.rules.specs.Problem.{Problem}
 use Rattle.rules.specs.Calls.{sound, read, Solving, solve, proofChecked, modelChecked, solveIn, proofCheckedIn, modelCheckedIn, evidence}
 use Rattle.theory_bytes.specs.Bytes.{AllBytes}
 use Rattle.promises.specs.Numbers.{verdict-exactly, refusal-exactly, accepted-exactly, fails-exactly, refused-exactly, of-proof-exactly}
 use Rattle.promises.specs.Numbers.{of-model-exactly}
 use Rattle.promises.specs.Handing.{hands}
-use Rattle.promises.specs.Editions.{Editions, editions, on, Other, solve-not, proof-not, model-not, proof-kept, model-kept}
+use Rattle.promises.specs.Editions.{Editions, editions, Other, solve-not, proof-not, model-not, proof-kept, model-kept}
 use Rattle.promises.specs.Editions.{named-first, named-second, named-other, nineteen-exactly, solve-known, solve-unknown}
 use Rattle.promises.specs.Editions.{proof-known, proof-unknown, model-known, model-unknown}
 use Rattle.theory_splitting.specs.WellRead.{posed-well-formed}

@@ -22,6 +22,7 @@ use Rattle.rules_types.specs.declared.limits.Limits.{Limits}
 use Rattle.rules_types.specs.declared.terms.Edition.the-variants.{First, Second}
 use Rattle.rules_types.specs.declared.terms.Terms.{Terms}
 use Rattle.rules_types.specs.Answers.{refusalNumber, verdictNumber, answerValue}
+use Rattle.rules_types.specs.Terms.{on}
 use Rattle.rules.specs.Problem.{Problem, inEdition}
 use Rattle.rules.specs.Calls.{sound, read, Solving, proofCheckedIn, modelCheckedIn}
 use Rattle.rules.specs.Convert.{Converting, Carrying}
@@ -33,7 +34,7 @@ use Rattle.promises.specs.Checks.{ChecksProof, ChecksModel}
 use Rattle.promises.specs.Demand1.{Demand1}
 use Rattle.promises.specs.Demand2.{Demand2}
 use Rattle.promises.specs.Demand3.{Demand3}
-use Rattle.promises.specs.Editions.{Editions, on, Other}
+use Rattle.promises.specs.Editions.{Editions, Other}
 use Rattle.promises.specs.CarriedOver.{Converts, CarriesBack}
 use Rattle.promises.specs.Trimming.{Shortens}
 use Rattle.jemuling.specs.declared.told.Told.{Told}

@@ -11,11 +11,11 @@ use Rattle.rules_types.specs.declared.terms.Named.the-variants.{Known}
 use Rattle.rules_types.specs.declared.terms.Terms.{Terms}
 use Rattle.rules_types.specs.Limits as limit
 use Rattle.rules_types.specs.Answers.{refusalNumber, trimmedNumber, trimmedValue}
-use Rattle.rules_types.specs.Terms.{editionNamed}
+use Rattle.rules_types.specs.Terms.{on, editionNamed}
 use Rattle.rules.specs.Trim.{Trimming, trim, trimIn}
 use Rattle.theory_bytes.specs.Bytes.{AllBytes}
 use Rattle.promises.specs.Numbers.{steps-exactly, trimmed-fails-exactly, trimmed-refused-exactly}
-use Rattle.promises.specs.Editions.{on, Other, trim-not, named-first, named-second, named-other, nineteen-exactly, trim-known, trim-unknown}
+use Rattle.promises.specs.Editions.{Other, trim-not, named-first, named-second, named-other, nineteen-exactly, trim-known, trim-unknown}
 use Rattle.promises.specs.TrimmingKept.{shortens}
 use Rattle.jemuling.specs.declared.told.Told.{Told}
 use Rattle.jemuling.specs.Told.{trimmedTold}

@@ -13,6 +13,7 @@ use Rattle.rules_types.specs.declared.answers.Checked.the-variants.{Accepted}
 use Rattle.rules_types.specs.declared.answers.Converted.the-variants.{Length}
 use Rattle.rules_types.specs.declared.limits.Limits.{Limits}
 use Rattle.rules_types.specs.declared.terms.Edition.the-variants.{First, Second}
+use Rattle.rules_types.specs.Terms.{on}
 use Rattle.rules.specs.Problem.{Problem}
 use Rattle.rules.specs.Meaning.{Assignment}
 use Rattle.rules.specs.Model.{isOpen, encodeModel, model}
@@ -26,7 +27,6 @@ use Rattle.theory_conversion.specs.Kept.{kept-exactly}
 use Rattle.theory_conversion.specs.Solutions.{carried-kept, carried-split}
 use Rattle.theory_conversion.specs.CarriedModel.{carried-fits, carried-model}
 use Rattle.theory_conversion.specs.CarriedBack.{carried-done, carried-accepted}
-use Rattle.promises.specs.Editions.{on}
 use Rattle.promises.specs.CarriedOver.{Subtracts, CarriesBack}
 use Rattle.promises.specs.CarriedOverKept.{written, converts}
 use Rattle.promises.specs.Halves.{kept-not, halves, impossible}

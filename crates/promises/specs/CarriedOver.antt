@@ -15,6 +15,7 @@ use Rattle.rules_types.specs.declared.answers.Checked.the-variants.{Accepted}
 use Rattle.rules_types.specs.declared.limits.Limits.{Limits}
 use Rattle.rules_types.specs.declared.terms.Edition.the-variants.{First, Second}
 use Rattle.rules_types.specs.Limits as limit
+use Rattle.rules_types.specs.Terms.{on}
 use Rattle.rules.specs.Problem.{Problem, inEdition}
 use Rattle.rules.specs.Meaning.{Assignment}
 use Rattle.rules.specs.Model.{isOpen}
@@ -25,7 +26,6 @@ use Rattle.theory_conversion.specs.Length.{comparisonsIn}
 use Rattle.theory_conversion.specs.Kept.{Keeps}
 use Rattle.theory_conversion.specs.Places.{HalfOf, Paired, SplitClause}
 use Rattle.promises.specs.Words.{SomeAssignment, InNoClause}
-use Rattle.promises.specs.Editions.{on}
 
 -- ---- words
 -- "A converter keeps a figure if some clause ... Any other figure becomes two, ..., the pair side by side": which are kept, and where the

@@ -27,7 +27,7 @@ use Rattle.rules_types.specs.declared.terms.Named.the-variants.{Known, Unknown}
 use Rattle.rules_types.specs.declared.terms.Terms.{Terms}
 use Rattle.rules_types.specs.Limits as limit
 use Rattle.rules_types.specs.Answers.{refusalNumber}
-use Rattle.rules_types.specs.Terms.{editionNamed}
+use Rattle.rules_types.specs.Terms.{on, editionNamed}
 use Rattle.rules.specs.Lists.{tabulate}
 use Rattle.rules.specs.Problem.{Clause, Problem, nonNegative, added, inEdition, Read, fault, got}
 use Rattle.rules.specs.Meaning.{Assignment, clauseHolds, Satisfies}
@@ -133,9 +133,6 @@ refutes-more parts new k bytes h = record {
   follow = record { count = h .follow .count; follow = lines-more parts new [] bytes (h .lines) (h .follow .follow) };
   last = h .last;
 }
-
-abbrev pub on : Limits → Edition → Terms
-on limits e = record { limits = limits; edition = e }
 
 module _ (limits : Limits) (input bytes : List ℕ) where
   -- a proof that the check accepts in the first edition it accepts in the second

@@ -116,20 +116,18 @@ module _ (terms : Terms) (input proof lent : List ℕ) where
       by (fails l m e t o) = (λ a. let b = a .1 in impossible cc, λ a. impossible cc)
       by (trims l e t o) = (λ a. e, λ a. (left, t))
 
-  pub untouched : (f : Refusal) (place : ℕ) → ours .trimmed ≡ Refused f place → ours .target ≡ lent
-  untouched f place a = by answered
+  -- what is not shortened is not written
+  unwritten : ((n : ℕ) → ours .trimmed ≡ Steps n → ⊥) → ours .target ≡ lent
+  unwritten never = by answered
     where
       by : Answered → ours .target ≡ lent
       by (narrow l t o) = o
       by (refuses l g at e t o) = o
       by (fails l m e t o) = o
-      by (trims l e t o) = impossible cc
+      by (trims l e t o) = absurd (never left t)
+
+  pub untouched : (f : Refusal) (place : ℕ) → ours .trimmed ≡ Refused f place → ours .target ≡ lent
+  untouched f place a = unwritten (λ n b. impossible cc)
 
   pub failsUntouched : (n : ℕ) → ours .trimmed ≡ Fails n → ours .target ≡ lent
-  failsUntouched n a = by answered
-    where
-      by : Answered → ours .target ≡ lent
-      by (narrow l t o) = o
-      by (refuses l g at e t o) = o
-      by (fails l m e t o) = o
-      by (trims l e t o) = impossible cc
+  failsUntouched n a = unwritten (λ m b. impossible cc)

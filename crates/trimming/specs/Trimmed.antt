@@ -15,6 +15,7 @@ use Rattle.rules_types.specs.declared.answers.Trimmed.the-variants.{Steps, Fail
 use Rattle.rules_types.specs.declared.terms.Edition.{Edition}
 use Rattle.rules_types.specs.declared.terms.Terms.{Terms}
 use Rattle.rules_types.specs.Limits as limit
+use Rattle.rules_types.specs.Terms.{on}
 use Rattle.rules.specs.Bytes.{padded}
 use Rattle.rules.specs.Calls.{proofChecked}
 use Rattle.rules.specs.Trim.{stepCount, needed, keptSteps, trimmed, Trimming, trimChecked, trim}
@@ -58,12 +59,9 @@ module _ {proof : List ℕ} (given : Trimmable limit.standard proof) {marks : Li
       (drop-drop (most - length kept) (0 + length kept) old ∙ ap (λ (m : ℕ). drop m old) far)
 
 -- ---- the answers
-abbrev pub on : Edition → Terms
-on edition = record { limits = limit.standard; edition = edition }
-
 module _ (edition : Edition) (input proof target : List ℕ) where
   abbrev terms : Terms
-  terms = on edition
+  terms = on limit.standard edition
 
   -- an answer, and the target after it
   abbrev pub Gives : Trimmed → List ℕ → Type 0

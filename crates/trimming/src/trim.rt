@@ -15,9 +15,10 @@ ghost use mathlib.Core.Path.{_≡_};
 ghost use Prim.Native.Nat.{_≤_};
 ghost use lib.ListN.{length};
 ghost use Rattle.rules_types.specs.Limits.{standard, proofBytes};
+ghost use Rattle.rules_types.specs.Terms.{on};
 ghost use Rattle.rules.specs.Trim.{stepCount, trimmed, trim};
 ghost use Rattle.theory_trimming.specs.Ordered.{Trimmable};
-ghost use Rattle.trimming.specs.Trimmed.{trimmedInto, on};
+ghost use Rattle.trimming.specs.Trimmed.{trimmedInto};
 
 // Of a proof that the check accepts: its steps.
 fn put_trimmed(target: &mut [u8], proof: &[u8]) -> usize
@@ -37,8 +38,8 @@ fn put_trimmed(target: &mut [u8], proof: &[u8]) -> usize
 }
 
 pub fn trim(input: &[u8], proof: &[u8], target: &mut [u8], edition: Edition) -> Trimmed
-    ensures { λ t. ⌜ t ≡ trim (on edition) (now (input .entry)) (now (proof .entry)) (now (target .entry)) .trimmed ⌝ }
-    ensures { λ _. ⌜ now (target .exit) ≡ trim (on edition) (now (input .entry)) (now (proof .entry)) (now (target .entry)) .target ⌝ }
+    ensures { λ t. ⌜ t ≡ trim (on standard edition) (now (input .entry)) (now (proof .entry)) (now (target .entry)) .trimmed ⌝ }
+    ensures { λ _. ⌜ now (target .exit) ≡ trim (on standard edition) (now (input .entry)) (now (proof .entry)) (now (target .entry)) .target ⌝ }
 {
     let limits = Limits::standard();
     if target.len() < limits.proof_bytes() {

@@ -5,9 +5,10 @@ use native.Mathlib.Omega.{arith}
 use lib.ListN.{length}
 use Rattle.rules_types.specs.declared.limits.Limits.{Limits}
 use Rattle.rules_types.specs.Limits as limit
+use Rattle.rules_types.specs.Terms.{on}
 use Rattle.rules.specs.Calls.{proofChecked}
 use Rattle.theory_trimming.specs.Ordered.{accepted-trimmable}
-use Rattle.trimming.specs.Trimmed.{on, gives-short, gives-fails, gives-refused, gives-steps}
+use Rattle.trimming.specs.Trimmed.{gives-short, gives-fails, gives-refused, gives-steps}
 use borrow.Author.Needs.{needs}
 use Rattle.trimming.proofs.trim.trim.Statement.{statement}
 use Rattle.trimming.proofs.trim.trim.Tie as tie
@@ -32,7 +33,7 @@ enum-told c = search needs
 
 -- what the check answers, and that the target is long enough
 checked-as : (c : tie.After-check-proof) → let a = c .before .before .before .before .before .before .before .args in
-    proofChecked (on (a .edition)) (a .input .now) (a .proof .now) ≡ c .check-proof .result
+    proofChecked (on limit.standard (a .edition)) (a .input .now) (a .proof .now) ≡ c .check-proof .result
 checked-as c =
     let l = c .before .before .before in
     let a = l .before .before .before .before .args in
@@ -50,7 +51,7 @@ put-trimmed-requires : tie.Need-put-trimmed-requires
 put-trimmed-requires c κs =
     let k = c .before .before .before in
     let a = k .before .before .before .before .before .before .before .args in (
-      accepted-trimmable (on (a .edition)) (a .input .now) (a .proof .now)
+      accepted-trimmable (on limit.standard (a .edition)) (a .input .now) (a .proof .now)
           (checked-as k ∙ c .before .enum-told .given .1),
       room k,
     )
