@@ -39,7 +39,8 @@ fn put_trimmed(target: &mut [u8], proof: &[u8]) -> usize
 
 pub fn trim(input: &[u8], proof: &[u8], target: &mut [u8], edition: Edition) -> Trimmed
     ensures { λ t. ⌜ t ≡ trim (on standard edition) (now (input .entry)) (now (proof .entry)) (now (target .entry)) .trimmed ⌝ }
-    ensures { λ _. ⌜ now (target .exit) ≡ trim (on standard edition) (now (input .entry)) (now (proof .entry)) (now (target .entry)) .target ⌝ }
+    ensures { λ _. ⌜ now (target .exit)
+        ≡ trim (on standard edition) (now (input .entry)) (now (proof .entry)) (now (target .entry)) .target ⌝ }
 {
     let limits = Limits::standard();
     if target.len() < limits.proof_bytes() {
