@@ -13,7 +13,7 @@ use masks::member;
 use rules_types::limits::Limits;
 
 // The numerators, with zeros behind them; or the first variable whose numerator leaves the range.
-#[derive(Drop)]
+#[derive(Clone, Copy)]
 pub struct Row {
     pub sound: bool,
     pub place: usize,

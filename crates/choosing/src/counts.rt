@@ -14,7 +14,7 @@ use machine::sign::{is_negative, is_positive};
 use rules_types::limits::Limits;
 use steps::access::line_at;
 
-#[derive(Drop)]
+#[derive(Clone, Copy)]
 pub struct Counts {
     pub uppers: [u32; Limits::RATIONALS],
     pub lowers: [u32; Limits::RATIONALS],

@@ -58,7 +58,7 @@ fn load_parts(
 }
 
 // Behind a clause: the elimination's point, and the next split variable.
-#[derive(Drop)]
+#[derive(Clone, Copy)]
 pub struct Loaded {
     pub point: Point,
     pub split: usize,

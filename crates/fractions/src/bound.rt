@@ -7,7 +7,7 @@ ghost use Rattle.fractions.specs.Range.{Small, Within};
 use crate::fraction::Fraction;
 
 // "There may be no bound on either side": none, or a fraction with whether the bound is strict.
-#[derive(Drop)]
+#[derive(Clone, Copy)]
 pub enum Bound {
     Absent,
     Present(Fraction, bool),

@@ -9,7 +9,7 @@ use machine::gcd::gcd;
 use machine::sign::size;
 use rules_types::limits::Limits;
 
-#[derive(Drop)]
+#[derive(Clone, Copy)]
 pub struct Fraction {
     pub numerator: i64,
     pub denominator: u64,

@@ -1,2 +1,3 @@
 // Handing back: which part of the lent proof or model a verdict gives its caller.
+#![tactic(auto)]
 pub mod evidence;

@@ -1,4 +1,5 @@
 // The library's calls, for C: byte slices and numbers in, numbers out. include/jemuling.h declares them.
+#![tactic(auto)]
 pub mod calls;
 pub mod calls_in;
 pub mod carrying;

@@ -10,7 +10,7 @@ use rules_types::answers::{
 
 // An answer's number and value.
 #[repr(C)]
-#[derive(Drop)]
+#[derive(Clone, Copy)]
 pub struct Told {
     pub number: u64,
     pub value: usize,
@@ -18,7 +18,7 @@ pub struct Told {
 
 // The same of solving, with the pairs tried.
 #[repr(C)]
-#[derive(Drop)]
+#[derive(Clone, Copy)]
 pub struct SolvedTold {
     pub number: u64,
     pub value: usize,

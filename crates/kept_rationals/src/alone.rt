@@ -7,7 +7,7 @@ ghost use Rattle.kept_rationals.specs.Alone.{taken, alone_in};
 use fields::u32_at;
 
 // The one variable so far, or r for none; or an end, since there is a second one or a positive coefficient.
-#[derive(Drop)]
+#[derive(Clone, Copy)]
 pub enum Taken {
     Found(u8),
     Stop,

@@ -22,7 +22,7 @@ use problem_scan::cursor::Sizes;
 use rules_types::layout::{COMPARISON_COEFFICIENTS, FIRST_CLAUSE, comparison_bound};
 
 // A mask of the variables that are kept, and how many comparisons the clauses have.
-#[derive(Drop)]
+#[derive(Clone, Copy)]
 pub struct Kept {
     pub mask: u32,
     pub comparisons: usize,

@@ -13,7 +13,7 @@ use machine::sign::{in_range, is_negative, is_positive};
 use masks::{lowest, member};
 use rules_types::limits::Limits;
 
-#[derive(Drop)]
+#[derive(Clone, Copy)]
 pub struct Line {
     // Bit i: Boolean variable i.
     pub positive: u32,

@@ -6,27 +6,27 @@ ghost use Rattle.lines.specs.Order.{variables_of, moved_to, rational_round, bool
 
 use rules_types::limits::Limits;
 
-#[derive(Drop)]
+#[derive(Clone, Copy)]
 pub enum Variable {
     Rational(usize),
     Boolean(usize),
 }
 
 // What a number of a round stands for: a variable to eliminate, or the end.
-#[derive(Drop)]
+#[derive(Clone, Copy)]
 pub enum Round {
     Of(Variable),
     End,
 }
 
 // The order of a run: the rational variables by their rounds. The Boolean ones follow by their numbers.
-#[derive(Drop)]
+#[derive(Clone, Copy)]
 pub struct Order {
     pub rationals: [u8; Limits::RATIONALS],
 }
 
 // A variable's round in the order of a run.
-#[derive(Drop)]
+#[derive(Clone, Copy)]
 pub struct VariableRound {
     pub order: Order,
     pub number: usize,
@@ -34,7 +34,7 @@ pub struct VariableRound {
 }
 
 // A rational variable's.
-#[derive(Drop)]
+#[derive(Clone, Copy)]
 pub struct RationalRound {
     pub order: Order,
     pub number: usize,

@@ -8,7 +8,7 @@ ghost use Rattle.models.specs.Booleans.{joined, ReadBooleans};
 use masks::{member, with};
 
 // Bit i of the mask: byte i is 1. Where one is refused, its place.
-#[derive(Drop)]
+#[derive(Clone, Copy)]
 pub struct Flags {
     pub sound: bool,
     pub place: usize,

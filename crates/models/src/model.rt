@@ -2,7 +2,7 @@
 
 use rules_types::limits::Limits;
 
-#[derive(Drop)]
+#[derive(Clone, Copy)]
 pub struct Model {
     // Bit i: Boolean variable i is yes.
     pub booleans: u32,

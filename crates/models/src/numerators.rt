@@ -8,7 +8,7 @@ use machine::sign::in_range;
 use rules_types::limits::Limits;
 
 // Zeros behind the numerators. Where one is refused, its place.
-#[derive(Drop)]
+#[derive(Clone, Copy)]
 pub struct Row {
     pub sound: bool,
     pub place: usize,

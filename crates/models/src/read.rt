@@ -14,7 +14,7 @@ use rules_types::layout::{
 use rules_types::limits::Limits;
 
 // What is read up to a place, or 17 at it, with any model.
-#[derive(Drop)]
+#[derive(Clone, Copy)]
 pub struct ModelRead {
     pub sound: bool,
     pub place: usize,

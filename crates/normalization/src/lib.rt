@@ -1,3 +1,4 @@
 // Lines brought to one form.
+#![tactic(auto)]
 pub mod normalize;
 pub mod reduce;

@@ -19,7 +19,7 @@ use masks::meets;
 use rules_types::limits::Limits;
 
 // The line that is left, where it is not dropped.
-#[derive(Drop)]
+#[derive(Clone, Copy)]
 pub struct Normalized {
     pub dropped: bool,
     pub line: Line,

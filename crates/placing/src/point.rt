@@ -3,7 +3,7 @@ ghost use Rattle.std.specs.Prelude.{◌≡◌};
 ghost use Rattle.placing.specs.Point.{is_running};
 
 // Whether the elimination goes on, or what has ended it: "The first empty line, wide result or line too many".
-#[derive(Drop)]
+#[derive(Clone, Copy)]
 pub enum Progress {
     Running,
     Empty,
@@ -12,7 +12,7 @@ pub enum Progress {
 }
 
 // The elimination at a point: the steps held, and the pairs tried.
-#[derive(Drop)]
+#[derive(Clone, Copy)]
 pub struct Point {
     pub progress: Progress,
     pub steps: usize,

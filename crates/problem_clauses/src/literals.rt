@@ -8,7 +8,7 @@ ghost use Rattle.problem_clauses.specs.Literals.{literal_of, joined, with_variab
 
 use masks::with;
 
-#[derive(Drop)]
+#[derive(Clone, Copy)]
 pub struct Members {
     pub positive: u32,
     pub negative: u32,

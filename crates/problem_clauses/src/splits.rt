@@ -21,7 +21,7 @@ use problem_scan::relation::is_strict;
 use rules_types::layout::{COMPARISON_COEFFICIENTS, comparison_bytes};
 
 // "A condition with all coefficients 0 drops the clause if true; if false, the condition alone is struck out."
-#[derive(Drop)]
+#[derive(Clone, Copy)]
 pub enum Fate {
     Always,
     Never,
@@ -29,7 +29,7 @@ pub enum Fate {
 }
 
 // The reading is dropped, or so many constraints stay.
-#[derive(Drop)]
+#[derive(Clone, Copy)]
 pub enum Staying {
     Dropped,
     Count(u8),

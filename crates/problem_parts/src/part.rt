@@ -14,7 +14,7 @@ use lines::line::Line;
 use problem_clauses::readings::read_twice;
 
 // The line, where there is such a part.
-#[derive(Drop)]
+#[derive(Clone, Copy)]
 pub struct Found {
     pub found: bool,
     pub line: Line,
@@ -41,7 +41,7 @@ fn first(input: &[u8], r: u8, parts: Parts) -> Found
 }
 
 // Where a part is looked for: so many parts on.
-#[derive(Drop)]
+#[derive(Clone, Copy)]
 pub struct Sought {
     pub parts: Parts,
     pub left: u64,

@@ -25,7 +25,7 @@ use problem_clauses::splits::{Staying, between, remaining};
 use rules_types::layout::comparison_bytes;
 use rules_types::limits::Limits;
 
-#[derive(Drop)]
+#[derive(Clone, Copy)]
 pub struct Parts {
     // Whether it is the second reading of its clause.
     pub second: bool,
@@ -42,7 +42,7 @@ pub struct Parts {
 }
 
 // A part, and the parts behind it.
-#[derive(Drop)]
+#[derive(Clone, Copy)]
 pub struct Part {
     pub line: Line,
     pub rest: Parts,

@@ -14,7 +14,7 @@ use problem_clauses::splits::{settled, weight};
 use rules_types::layout::comparison_bytes;
 
 // Constraints that stand one behind another: the place of the first, and how many there are.
-#[derive(Drop)]
+#[derive(Clone, Copy)]
 pub struct ConstraintsAt {
     pub at: usize,
     pub left: u8,

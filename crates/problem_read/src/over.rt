@@ -9,7 +9,7 @@ use problem_clauses::splits::splits;
 use rules_types::limits::Limits;
 
 // The split variables are within their limit, or pass it in the clause at a place.
-#[derive(Drop)]
+#[derive(Clone, Copy)]
 pub enum Excess {
     Within,
     At(usize),

@@ -16,7 +16,7 @@ use steps::access::line_at;
 use steps::store::get;
 
 // The first step that does not follow, or that all do.
-#[derive(Drop)]
+#[derive(Clone, Copy)]
 pub enum Followed {
     Fails(usize),
     Follow,

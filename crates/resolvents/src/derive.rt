@@ -28,7 +28,7 @@ use steps::access::{line_at, negative_at, positive_at, relation_at};
 use steps::encode::put_step;
 use steps::origin::Origin;
 
-#[derive(Drop)]
+#[derive(Clone, Copy)]
 pub enum Status {
     Dropped,
     Overflows,

@@ -1,4 +1,5 @@
 // Resolvents of two lines.
+#![tactic(auto)]
 pub mod boolean;
 pub mod rational;
 pub mod resolve;

@@ -13,7 +13,7 @@ use crate::rational::resolvent_rational;
 use lines::line::Line;
 use normalization::normalize::normalize;
 
-#[derive(Drop)]
+#[derive(Clone, Copy)]
 pub enum Status {
     Dropped,
     Overflows,
@@ -21,7 +21,7 @@ pub enum Status {
 }
 
 // The line that is left, where it is not dropped.
-#[derive(Drop)]
+#[derive(Clone, Copy)]
 pub struct Resolved {
     pub status: Status,
     pub line: Line,

@@ -19,7 +19,7 @@ use steps::access::line_at;
 use steps::origin::{Origin, Step};
 
 // A pair by the numbers of its two lines, and the variable that it is resolved by.
-#[derive(Drop)]
+#[derive(Clone, Copy)]
 pub struct Parents {
     pub variable: Variable,
     pub upper: usize,

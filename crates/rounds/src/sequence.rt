@@ -12,7 +12,7 @@ use placing::point::{Point, is_running};
 use rules_types::limits::Limits;
 
 // Where an elimination ended, and the order that it took.
-#[derive(Drop)]
+#[derive(Clone, Copy)]
 pub struct Run {
     pub end: Point,
     pub order: Order,

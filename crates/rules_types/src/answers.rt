@@ -3,7 +3,7 @@ ghost use Rattle.std.specs.Prelude.{◌≡◌};
 ghost use Rattle.rules_types.specs.Answers.{refusal_number};
 
 // A refusal of document 01's table, 1 to 17, or of document 02, from 18 on.
-#[derive(Drop)]
+#[derive(Clone, Copy)]
 pub enum Refusal {
     ShortProof,
     ShortModel,
@@ -30,6 +30,7 @@ pub enum Refusal {
 }
 
 impl Refusal {
+    #[tactic(auto, unfolding(crate::specs::Answers::refusal_number))]
     pub fn number(self) -> u8
         ensures { result ≡ refusal_number self }
     {
@@ -61,7 +62,7 @@ impl Refusal {
 }
 
 // What solving found: "agrees", "cannot agree", "unwritten".
-#[derive(Drop)]
+#[derive(Clone, Copy)]
 pub enum Verdict {
     Satisfiable,
     Unsatisfiable,
@@ -78,21 +79,21 @@ impl Verdict {
 }
 
 // A verdict with the steps of the proof, or a refusal with its place.
-#[derive(Drop)]
+#[derive(Clone, Copy)]
 pub enum Answer {
     Decided(Verdict, usize),
     Refused(Refusal, usize),
 }
 
 // What solving returns: its answer, and the pairs tried.
-#[derive(Drop)]
+#[derive(Clone, Copy)]
 pub struct Solved {
     pub answer: Answer,
     pub pairs: u64,
 }
 
 // What a check returns: accepted, the first step or clause that fails, or a refusal with its place.
-#[derive(Drop)]
+#[derive(Clone, Copy)]
 pub enum Checked {
     Accepted,
     Fails(usize),
@@ -100,28 +101,28 @@ pub enum Checked {
 }
 
 // What is handed back: the first so many bytes of the lent proof or of the lent model.
-#[derive(Drop)]
+#[derive(Clone, Copy)]
 pub enum Evidence {
     OfProof(usize),
     OfModel(usize),
 }
 
 // What converting returns: the length of the new problem, or a refusal with its place.
-#[derive(Drop)]
+#[derive(Clone, Copy)]
 pub enum Converted {
     Length(usize),
     Refused(Refusal, usize),
 }
 
 // What carrying a model back returns: carried, or a refusal with its place.
-#[derive(Drop)]
+#[derive(Clone, Copy)]
 pub enum Carried {
     Done,
     Refused(Refusal, usize),
 }
 
 // What trimming a proof returns: the steps of the short one, the first step that fails, or a refusal with its place.
-#[derive(Drop)]
+#[derive(Clone, Copy)]
 pub enum Trimmed {
     Steps(usize),
     Fails(usize),

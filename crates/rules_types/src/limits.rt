@@ -5,7 +5,7 @@ ghost use Rattle.rules_types.specs.Limits.{comparisons, splits, all_booleans, am
 ghost use Rattle.rules_types.specs.Limits.{proof_bytes};
 
 // What may differ from caller to caller: the most steps that a proof holds.
-#[derive(Drop)]
+#[derive(Clone, Copy)]
 pub struct Limits {
     pub steps: u32,
 }
@@ -66,14 +66,14 @@ impl Limits {
 
     // The constants are those of the definitions: proved here once, so that no other proof compares the numbers.
     pub fn stated() -> bool
-        ensures* bytes { do ⌜ ((← (⟦Limits::PROBLEM_BYTES⟧).entry) ≡ problem_bytes) × ((← (⟦Limits::STEP_BYTES⟧).entry) ≡ step_bytes) ⌝ }
-        ensures* model { do ⌜ (← (⟦Limits::MODEL_BYTES⟧).entry) ≡ model_bytes ⌝ }
-        ensures* problem { do ⌜ ((← (⟦Limits::BOOLEANS⟧).entry) ≡ booleans) × ((← (⟦Limits::RATIONALS⟧).entry) ≡ rationals) ⌝ }
-        ensures* clause { do ⌜ ((← (⟦Limits::CLAUSES⟧).entry) ≡ clauses) × ((← (⟦Limits::LITERALS⟧).entry) ≡ literals) ⌝ }
-        ensures* split { do ⌜ ((← (⟦Limits::COMPARISONS⟧).entry) ≡ comparisons) × ((← (⟦Limits::SPLITS⟧).entry) ≡ splits) ⌝ }
-        ensures* line { do ⌜ (← (⟦Limits::ALL_BOOLEANS⟧).entry) ≡ all_booleans ⌝ }
-        ensures* elimination { do ⌜ ((← (⟦Limits::AMOUNT⟧).entry) ≡ amount) × ((← (⟦Limits::STEPS⟧).entry) ≡ steps) ⌝ }
-        ensures* preview { do ⌜ (← (⟦Limits::PREVIEW_STEPS⟧).entry) ≡ preview_steps ⌝ }
+        ensures bytes { (Self.PROBLEM_BYTES ≡ problem_bytes) × (Self.STEP_BYTES ≡ step_bytes) }
+        ensures model { Self.MODEL_BYTES ≡ model_bytes }
+        ensures problem { (Self.BOOLEANS ≡ booleans) × (Self.RATIONALS ≡ rationals) }
+        ensures clause { (Self.CLAUSES ≡ clauses) × (Self.LITERALS ≡ literals) }
+        ensures split { (Self.COMPARISONS ≡ comparisons) × (Self.SPLITS ≡ splits) }
+        ensures line { Self.ALL_BOOLEANS ≡ all_booleans }
+        ensures elimination { (Self.AMOUNT ≡ amount) × (Self.STEPS ≡ steps) }
+        ensures preview { Self.PREVIEW_STEPS ≡ preview_steps }
     {
         true
     }

@@ -5,14 +5,14 @@ ghost use Rattle.rules_types.specs.Terms.{standard, preview, edition_named};
 use crate::limits::Limits;
 
 // Document 01's edition, and 02's second (v), in which no rational variable is below 0.
-#[derive(Drop)]
+#[derive(Clone, Copy)]
 pub enum Edition {
     First,
     Second,
 }
 
 // What a caller's number names: an edition, or none.
-#[derive(Drop)]
+#[derive(Clone, Copy)]
 pub enum Named {
     Known(Edition),
     Unknown,
@@ -20,6 +20,7 @@ pub enum Named {
 
 impl Edition {
     // "The caller names edition 1 or 2."
+    #[tactic(auto, unfolding(crate::specs::Terms::edition_named))]
     pub fn named(number: u64) -> Named
         ensures { result ≡ edition_named number }
     {
@@ -34,7 +35,7 @@ impl Edition {
 }
 
 // The number of lines, and the edition.
-#[derive(Drop)]
+#[derive(Clone, Copy)]
 pub struct Terms {
     pub limits: Limits,
     pub edition: Edition,

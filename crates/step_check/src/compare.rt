@@ -11,7 +11,7 @@ use rules_types::limits::Limits;
 use steps::encode::encode;
 use steps::origin::{Origin, Step};
 
-#[derive(Drop)]
+#[derive(Clone, Copy)]
 pub struct Stated {
     pub found: bool,
     pub line: Line,

@@ -5,7 +5,7 @@ ghost use Rattle.steps.specs.Origin.{loaded_by};
 use lines::line::Line;
 
 // "how (0 loaded, 1 by a figure, 2 by a mark)", which variable, and the numbers of the two parents, or of the clause and the part.
-#[derive(Drop)]
+#[derive(Clone, Copy)]
 pub struct Origin {
     pub how: u8,
     pub which: u8,
@@ -13,7 +13,7 @@ pub struct Origin {
     pub second: u64,
 }
 
-#[derive(Drop)]
+#[derive(Clone, Copy)]
 pub struct Step {
     pub origin: Origin,
     pub line: Line,

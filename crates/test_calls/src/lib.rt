@@ -1,4 +1,5 @@
 // Calls for the test programs alone: parts of the solver that its own calls do not show one by one.
+#![tactic(auto)]
 ghost use Rattle.std.specs.Prelude.{◌≡◌};
 ghost use Rattle.rules.specs.Calls.{read};
 ghost use Rattle.test_calls.specs.Told.{told};
@@ -8,7 +9,7 @@ use problem_scan::cursor::Scan;
 
 // A fault's number and place; or 0, 0 and the sizes of a problem that is read without fault.
 #[repr(C)]
-#[derive(Drop)]
+#[derive(Clone, Copy)]
 pub struct ReadTold {
     pub number: u64,
     pub place: usize,

@@ -1,1 +1,2 @@
 // Laws of the elimination: specs/. There is no code here.
+#![tactic(auto)]

@@ -1,1 +1,2 @@
 // Laws of tests and lists: specs/. There is no code here.
+#![tactic(auto)]

@@ -23,7 +23,7 @@ use models::model::Model;
 use rows::product::scaled;
 use steps::access::line_at;
 
-#[derive(Drop)]
+#[derive(Clone, Copy)]
 pub struct Bounds {
     pub beyond: bool,
     pub lower: Bound,

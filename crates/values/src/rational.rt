@@ -14,7 +14,7 @@ use fractions::fraction::Fraction;
 use lines::order::RationalRound;
 use models::model::Model;
 
-#[derive(Drop)]
+#[derive(Clone, Copy)]
 pub struct RationalValue {
     pub beyond: bool,
     pub value: Fraction,

@@ -20,7 +20,7 @@ use rows::combine::combine_rows;
 use rules_types::limits::Limits;
 
 // The assignment, and whether it can still be written: amounts over a denominator that is an amount.
-#[derive(Drop)]
+#[derive(Clone, Copy)]
 pub struct Reached {
     pub written: bool,
     pub model: Model,
