@@ -12,8 +12,7 @@ use rules_types::limits::Limits;
 use rules_types::terms::Terms;
 
 // Whether a problem can be satisfied, with a model or a proof that shows it.
-#[unsafe(no_mangle)]
-pub extern "C" fn jemuling_solve(input: &[u8], proof: &mut [u8], model: &mut [u8]) -> SolvedTold
+pub fn jemuling_solve(input: &[u8], proof: &mut [u8], model: &mut [u8]) -> SolvedTold
     ensures value { result ≡ solved_told (solve standard input.now proof.old model.old).solved }
     ensures proof_after { proof.new ≡ (solve standard input.now proof.old model.old).proof }
     ensures model_after { model.new ≡ (solve standard input.now proof.old model.old).model }
@@ -24,12 +23,7 @@ pub extern "C" fn jemuling_solve(input: &[u8], proof: &mut [u8], model: &mut [u8
 }
 
 // The same with a preview's lines.
-#[unsafe(no_mangle)]
-pub extern "C" fn jemuling_preview_solve(
-    input: &[u8],
-    proof: &mut [u8],
-    model: &mut [u8],
-) -> SolvedTold
+pub fn jemuling_preview_solve(input: &[u8], proof: &mut [u8], model: &mut [u8]) -> SolvedTold
     ensures value { result ≡ solved_told (solve preview input.now proof.old model.old).solved }
     ensures proof_after { proof.new ≡ (solve preview input.now proof.old model.old).proof }
     ensures model_after { model.new ≡ (solve preview input.now proof.old model.old).model }
@@ -40,8 +34,7 @@ pub extern "C" fn jemuling_preview_solve(
 }
 
 // Whether a proof refutes a problem.
-#[unsafe(no_mangle)]
-pub extern "C" fn jemuling_check_book(input: &[u8], proof: &[u8]) -> Told
+pub fn jemuling_check_book(input: &[u8], proof: &[u8]) -> Told
     ensures value { result ≡ checked_told (proof_checked standard input.now proof.now) }
     ensures book_checked { BookChecked standard input.now proof.now result }
 {
@@ -49,8 +42,7 @@ pub extern "C" fn jemuling_check_book(input: &[u8], proof: &[u8]) -> Told
 }
 
 // The same of a proof of a preview's lines.
-#[unsafe(no_mangle)]
-pub extern "C" fn jemuling_preview_check_book(input: &[u8], proof: &[u8]) -> Told
+pub fn jemuling_preview_check_book(input: &[u8], proof: &[u8]) -> Told
     ensures value { result ≡ checked_told (proof_checked preview input.now proof.now) }
     ensures book_checked { BookChecked preview input.now proof.now result }
 {
@@ -58,8 +50,7 @@ pub extern "C" fn jemuling_preview_check_book(input: &[u8], proof: &[u8]) -> Tol
 }
 
 // Whether a model satisfies a problem.
-#[unsafe(no_mangle)]
-pub extern "C" fn jemuling_check_sheet(input: &[u8], model: &[u8]) -> Told
+pub fn jemuling_check_sheet(input: &[u8], model: &[u8]) -> Told
     ensures value { result ≡ checked_told (model_checked standard input.now model.now) }
     ensures sheet_checked { SheetChecked standard input.now model.now result }
 {
@@ -67,8 +58,7 @@ pub extern "C" fn jemuling_check_sheet(input: &[u8], model: &[u8]) -> Told
 }
 
 // Which part of proof or model is handed back, from a verdict's number and lines.
-#[unsafe(no_mangle)]
-pub extern "C" fn jemuling_hand_back(number: u64, lines: usize, proof: &[u8], model: &[u8]) -> Told
+pub fn jemuling_hand_back(number: u64, lines: usize, proof: &[u8], model: &[u8]) -> Told
     ensures value { result ≡ evidence_told (evidence standard.limits number lines proof.now model.now) }
     ensures part_handed { PartHanded standard.limits number lines proof.now model.now result }
 {
@@ -76,13 +66,7 @@ pub extern "C" fn jemuling_hand_back(number: u64, lines: usize, proof: &[u8], mo
 }
 
 // The same for a preview.
-#[unsafe(no_mangle)]
-pub extern "C" fn jemuling_preview_hand_back(
-    number: u64,
-    lines: usize,
-    proof: &[u8],
-    model: &[u8],
-) -> Told
+pub fn jemuling_preview_hand_back(number: u64, lines: usize, proof: &[u8], model: &[u8]) -> Told
     ensures value { result ≡ evidence_told (evidence preview.limits number lines proof.now model.now) }
     ensures part_handed { PartHanded preview.limits number lines proof.now model.now result }
 {

@@ -10,8 +10,7 @@ use crate::told::{SolvedTold, Told};
 use rules_types::limits::Limits;
 
 // Whether a problem can be satisfied, with a model or a proof that shows it.
-#[unsafe(no_mangle)]
-pub extern "C" fn jemuling_solve_in(
+pub fn jemuling_solve_in(
     edition: u64,
     input: &[u8],
     proof: &mut [u8],
@@ -27,8 +26,7 @@ pub extern "C" fn jemuling_solve_in(
 }
 
 // The same with a preview's lines.
-#[unsafe(no_mangle)]
-pub extern "C" fn jemuling_preview_solve_in(
+pub fn jemuling_preview_solve_in(
     edition: u64,
     input: &[u8],
     proof: &mut [u8],
@@ -44,8 +42,7 @@ pub extern "C" fn jemuling_preview_solve_in(
 }
 
 // Whether a proof refutes a problem.
-#[unsafe(no_mangle)]
-pub extern "C" fn jemuling_check_book_in(edition: u64, input: &[u8], proof: &[u8]) -> Told
+pub fn jemuling_check_book_in(edition: u64, input: &[u8], proof: &[u8]) -> Told
     ensures value { result ≡ checked_told (proof_checked_in standard edition input.now proof.now) }
     ensures book_checked_in { BookCheckedIn standard edition input.now proof.now result }
 {
@@ -53,8 +50,7 @@ pub extern "C" fn jemuling_check_book_in(edition: u64, input: &[u8], proof: &[u8
 }
 
 // The same of a proof of a preview's lines.
-#[unsafe(no_mangle)]
-pub extern "C" fn jemuling_preview_check_book_in(edition: u64, input: &[u8], proof: &[u8]) -> Told
+pub fn jemuling_preview_check_book_in(edition: u64, input: &[u8], proof: &[u8]) -> Told
     ensures value { result ≡ checked_told (proof_checked_in preview edition input.now proof.now) }
     ensures book_checked_in { BookCheckedIn preview edition input.now proof.now result }
 {
@@ -62,8 +58,7 @@ pub extern "C" fn jemuling_preview_check_book_in(edition: u64, input: &[u8], pro
 }
 
 // Whether a model satisfies a problem.
-#[unsafe(no_mangle)]
-pub extern "C" fn jemuling_check_sheet_in(edition: u64, input: &[u8], model: &[u8]) -> Told
+pub fn jemuling_check_sheet_in(edition: u64, input: &[u8], model: &[u8]) -> Told
     ensures value { result ≡ checked_told (model_checked_in standard edition input.now model.now) }
     ensures sheet_checked_in { SheetCheckedIn standard edition input.now model.now result }
 {

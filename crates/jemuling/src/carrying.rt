@@ -9,8 +9,7 @@ use carrying_back::carry::carry_back;
 use conversion::convert::convert;
 
 // The problem in the second edition that has a solution exactly if the first-edition problem has one.
-#[unsafe(no_mangle)]
-pub extern "C" fn jemuling_convert(input: &[u8], output: &mut [u8]) -> Told
+pub fn jemuling_convert(input: &[u8], output: &mut [u8]) -> Told
     ensures value { result ≡ converted_told (convert input.now output.old).converted }
     ensures output_after { output.new ≡ (convert input.now output.old).output }
     ensures problem_converted { ProblemConverted input.now output.old result output.new }
@@ -19,8 +18,7 @@ pub extern "C" fn jemuling_convert(input: &[u8], output: &mut [u8]) -> Told
 }
 
 // The model of the first-edition problem that a model of the new one comes to.
-#[unsafe(no_mangle)]
-pub extern "C" fn jemuling_carry_back(input: &[u8], model: &[u8], target: &mut [u8]) -> Told
+pub fn jemuling_carry_back(input: &[u8], model: &[u8], target: &mut [u8]) -> Told
     ensures value { result ≡ carried_told (carry_back input.now model.now target.old).carried }
     ensures target_after { target.new ≡ (carry_back input.now model.now target.old).model }
     ensures model_carried_back { ModelCarriedBack input.now model.now target.old result target.new }

@@ -1,5 +1,6 @@
-// The library's calls, for C: byte slices and numbers in, numbers out. include/jemuling.h declares them.
+// The library's calls: byte slices and numbers in, numbers out. The crate jemuling_c hands them to C, and include/jemuling.h declares them.
 #![tactic(auto)]
+
 pub mod calls;
 pub mod calls_in;
 pub mod carrying;

@@ -11,13 +11,7 @@ use rules_types::terms::{Edition, Named};
 use trimming::trim::trim;
 
 // The last step of a proof, and those from which it descends.
-#[unsafe(no_mangle)]
-pub extern "C" fn jemuling_shorten_book_in(
-    edition: u64,
-    input: &[u8],
-    proof: &[u8],
-    target: &mut [u8],
-) -> Told
+pub fn jemuling_shorten_book_in(edition: u64, input: &[u8], proof: &[u8], target: &mut [u8]) -> Told
     ensures value { result ≡ trimmed_told (trim_in standard edition input.now proof.now target.old).trimmed }
     ensures target_after { target.new
         ≡ (trim_in standard edition input.now proof.now target.old).target }

@@ -1,5 +1,6 @@
 // Calls for the test programs alone: parts of the solver that its own calls do not show one by one.
 #![tactic(auto)]
+
 ghost use Rattle.std.specs.Prelude.{◌≡◌};
 ghost use Rattle.rules.specs.Calls.{read};
 ghost use Rattle.test_calls.specs.Told.{told};
