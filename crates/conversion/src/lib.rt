@@ -1,5 +1,6 @@
 // 02, (vi): a first-edition problem carried over to the second edition, written into a lent buffer.
 #![tactic(auto)]
+
 pub mod clauses;
 pub mod comparisons;
 pub mod convert;

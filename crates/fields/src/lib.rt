@@ -1,6 +1,7 @@
 // Fields of bytes, little-endian: unsigned numbers of one, two and four bytes, and amounts, which are signed, of four; and stores of
 // bytes and of zeros.
 #![tactic(auto)]
+
 ghost use Rattle.std.specs.Prelude.{◌≡◌, ◌+◌, ◌*◌, ◌-◌, ◌≤◌, ◌<◌, ◌^◌, nat_abs, length, replicate};
 ghost use Rattle.rules.specs.Bytes.{to_bytes, from_unsigned, to_unsigned, field_at};
 ghost use Rattle.fields.specs.Field.{stored};

@@ -51,7 +51,7 @@ pub ruleset signed = (product-fits, sum_fits, quotient_fits, negation-fits, zero
 
 -- what a call returned, or a field, by the range that comes with it
 pub returned : (z : ℤ) → mag z < 2 ^ 63 → to_z w64 (of_z w64 z) ≡ z
-returned z h = to_z-of_z (record { sfits = h })
+returned z h = to_z-of_z {w = w64} {z = z} (record { sfits = h })
 
 -- the product that `cross` returns
 pub crossed : (r n : ℤ) (d : ℕ) → mag r < 2 ^ 63 → nat_abs n ≤ amount → r ≡ to_z w64 (of_z w64 n) *ℤ pos d → to_z w64 (of_z w64 r) ≡ n *ℤ pos d

@@ -1,5 +1,6 @@
 // The program: solves the problem on standard input, and prints the answer as document 01 says (`printed` in rules/Print).
 #![tactic(auto)]
+
 use answer_text::answer::{TEXT_BYTES, answer_text};
 use rules_types::limits::Limits;
 

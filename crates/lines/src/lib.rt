@@ -1,5 +1,6 @@
 // Lines in machine words.
 #![tactic(auto)]
+
 pub mod line;
 pub mod order;
 pub mod row;

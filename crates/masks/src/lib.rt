@@ -1,5 +1,6 @@
 // Sets of Boolean variables as masks: variable i is a member if bit i is 1. "Four bytes each" have a bit for every one.
 #![tactic(auto)]
+
 ghost use Rattle.std.specs.Prelude.{◌≡◌, false, ◌<◌, get_or};
 ghost use Rattle.std.specs.Int.Count.{count_trailing_zeros};
 ghost use Rattle.rules_types.specs.Limits.{all_booleans};

@@ -8,7 +8,7 @@ use Rattle.rules_types.specs.declared.terms.Terms.{Terms}
 use Rattle.rules_types.specs.Limits as limit
 use Rattle.rules.specs.Problem.{in_edition}
 use Rattle.rules.specs.Model.{is_open}
-use Rattle.rules.specs.Calls.{sound, read, model_checked}
+use Rattle.rules.specs.Calls.{read, model_checked}
 use Rattle.rules.specs.Checker.{check_clauses}
 use Rattle.theory_splitting.specs.Editions.{open-posed}
 use Rattle.problem_scan.specs.declared.cursor.Sizes.{Sizes}

@@ -1,4 +1,5 @@
 // Lines brought to one form.
 #![tactic(auto)]
+
 pub mod normalize;
 pub mod reduce;

@@ -6,7 +6,7 @@ use Rattle.std.proofs.Math.Bool.{false, or-false}
 use Rattle.std.proofs.Math.Option.{Option}
 use Prim.Native.Nat.{ℕ, zero, suc, ◌+◌, ◌*◌, ◌^◌, ◌≤◌, ◌<◌}
 use Rattle.std.specs.Int.Signed.{lt_z}
-use Rattle.std.proofs.Math.Facts.{not_t}
+use Rattle.std.proofs.Math.Facts.{not_T}
 use Rattle.std.proofs.Math.Dec.{leb}
 use Rattle.rules_types.specs.Limits.{rationals, step_bytes}
 use Rattle.rules_types.specs.Layout.{step_coefficients}
@@ -80,10 +80,10 @@ module _ (proof : List ℕ) (i : ℕ) (bytes : List ℕ) where
 pub bound-equal : (a b : ℤ) (s : Bool) → a ≡ b → s ≡ lt_z a b || equal a b && s
 bound-equal a b s e =
     let not-less : T (lt_z a b) → ⊥ = λ h. <-irrefl {a = b} (record { lt = subst (λ (z : ℤ). T (lt_z z b)) e h }) in
-    rw (is_false (lt_z a b) (not_t (lt_z a b) not-less), is_true (equal a b) (yes-equal e))
+    rw (is_false (lt_z a b) (not_T (lt_z a b) not-less), is_true (equal a b) (yes-equal e))
 
 pub bound-other : (a b : ℤ) (s : Bool) → (a ≡ b → ⊥) → lt_z a b ≡ lt_z a b || equal a b && s
-bound-other a b s n = rw (is_false (equal a b) (not_t (equal a b) (λ h. n (equal-yes a b h)))) (sym (or-false (lt_z a b)))
+bound-other a b s n = rw (is_false (equal a b) (not_T (equal a b) (λ h. n (equal-yes a b h)))) (sym (or-false (lt_z a b)))
 
 -- ---- relations, 0 without a constraint
 -- of 1 and 2, the greater is the stricter

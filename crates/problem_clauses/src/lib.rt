@@ -1,5 +1,6 @@
 // The clauses of a problem that was read without fault, read again from its bytes.
 #![tactic(auto)]
+
 pub mod constraint;
 pub mod edition;
 pub mod literals;

@@ -1,5 +1,6 @@
 // The problem's bytes read field by field, to the first fault with its place.
 #![tactic(auto)]
+
 mod clauses;
 pub mod cursor;
 mod numbers;

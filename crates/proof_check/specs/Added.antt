@@ -3,7 +3,7 @@ use Rattle.std.specs.Prelude.{◌≡◌, refl}
 use Rattle.std.proofs.Common.{sym, ◌∙◌, ⊎_elim, eq-zero-or-pos, arith}
 use Rattle.std.proofs.Math.Path.{ap}
 use mathlib.Core.List.{List, [], ◌∷◌, ◌++◌}
-use Rattle.std.proofs.Math.Option.{Option, none}
+use Rattle.std.proofs.Math.Option.{none}
 use Prim.Native.Nat.{ℕ, zero, suc, ◌+◌, ◌-◌, ◌≤◌, ◌<◌}
 use Rattle.std.proofs.Math.ListN.{length, get_elem?}
 use Rattle.rules_types.specs.declared.terms.Edition.{Edition}
@@ -46,7 +46,7 @@ pub named-beyond : (base : ℕ) (xs : List Clause) (c k : ℕ) → length xs ≤
 unfolding part_named
 named-beyond base [] c k h = refl
 named-beyond base (x ∷ xs) zero k h = absurd (omega arith)
-named-beyond base (x ∷ xs) (suc c) k h = named-beyond _ xs c k (omega arith)
+named-beyond base (x ∷ xs) (suc c) k h = named-beyond (base + splits_of x) xs c k (omega arith)
 
 -- ---- those of an edition
 module _ (e : Edition) (r : ℕ) (small : r ≤ limit.rationals) where

@@ -1,5 +1,6 @@
 // Resolvents of two lines.
 #![tactic(auto)]
+
 pub mod boolean;
 pub mod rational;
 pub mod resolve;

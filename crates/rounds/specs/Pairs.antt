@@ -12,7 +12,6 @@ use Rattle.rules.specs.Resolve.{resolve}
 use Rattle.rules.specs.Steps.{Origin, resolved, header}
 use Rattle.rules.specs.Checker.{variable_named}
 use Rattle.rules.specs.Elimination.{State, overflows, limited, Pair, placed, add, tried}
-use Rattle.lines.specs.declared.line.Line.{Line}
 use Rattle.lines.specs.Line.{meaning}
 use Rattle.steps.specs.Lines.{line_at}
 use Rattle.resolvents.specs.declared.resolve.Status.TheVariants.{Dropped, Overflows, Made}

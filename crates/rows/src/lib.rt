@@ -1,5 +1,6 @@
 // Rows of eight coefficients in machine words.
 #![tactic(auto)]
+
 pub mod combine;
 pub mod content;
 pub mod product;

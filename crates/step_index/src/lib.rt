@@ -2,6 +2,7 @@
 // with each step the next older one of its key. A link is a step's number and 1; 0 is none. No array is over 1,024 bytes, so the links of
 // the first 1,024 steps stand in two; later steps are not held.
 #![tactic(auto)]
+
 ghost use Rattle.std.specs.Prelude.{◌≡◌, ◌<◌, get_or};
 ghost use Rattle.step_index.specs.Index.{link_at, Extends};
 

@@ -1,5 +1,5 @@
 // The bytes of a step.
-ghost use Rattle.std.specs.Prelude.{◌≡◌, [], ◌∷◌, ◌++◌, ◌≤◌};
+ghost use Rattle.std.specs.Prelude.{◌≡◌, [], ◌∷◌, ◌++◌, ◌≤◌, length};
 ghost use Rattle.rules_types.specs.Layout.{step_how, step_relation, step_coefficients, step_bound, step_zeros};
 ghost use Rattle.rules.specs.Bytes.{amount_bytes};
 ghost use Rattle.rules.specs.Steps.{header_bytes};
@@ -19,7 +19,7 @@ use rules_types::limits::Limits;
 
 // How, which, and both parents.
 fn put_header(s: &mut [u8], origin: Origin)
-    requires* { do ⌜ step_relation ≤ (← ⟦s.len()⟧) ⌝ }
+    requires { step_relation ≤ length s.old }
     ensures { s.new ≡ stored step_how (header_bytes (header_of origin)) s.old }
 {
     s[STEP_HOW] = origin.how;
@@ -30,7 +30,7 @@ fn put_header(s: &mut [u8], origin: Origin)
 
 // Relation, a zero byte, and both masks.
 fn put_literals(s: &mut [u8], relation: u8, positive: u32, negative: u32)
-    requires* { do ⌜ step_coefficients ≤ (← ⟦s.len()⟧) ⌝ }
+    requires { step_coefficients ≤ length s.old }
     ensures { s.new ≡ stored step_relation (literal_bytes relation positive negative) s.old }
 {
     s[STEP_RELATION] = relation;
@@ -40,7 +40,7 @@ fn put_literals(s: &mut [u8], relation: u8, positive: u32, negative: u32)
 }
 
 fn put_coefficients(s: &mut [u8], row: [i64; Limits::RATIONALS])
-    requires* step_bound_bound { do ⌜ step_bound ≤ (← ⟦s.len()⟧) ⌝ }
+    requires step_bound_bound { step_bound ≤ length s.old }
     requires amounts { Amounts row }
     ensures { s.new ≡ stored step_coefficients (amount_bytes row) s.old }
 {
@@ -54,7 +54,7 @@ fn put_coefficients(s: &mut [u8], row: [i64; Limits::RATIONALS])
 
 // Coefficients and bound.
 fn put_row(s: &mut [u8], row: [i64; Limits::RATIONALS], bound: i64)
-    requires* step_zeros_bound { do ⌜ step_zeros ≤ (← ⟦s.len()⟧) ⌝ }
+    requires step_zeros_bound { step_zeros ≤ length s.old }
     requires amounts { Amounts row }
     requires small { Small bound }
     ensures { s.new ≡ stored step_coefficients (amount_bytes (row ++ (bound ∷ []))) s.old }

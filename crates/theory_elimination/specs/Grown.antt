@@ -6,7 +6,7 @@ use Rattle.std.proofs.Math.Bool.{Bool, true, false}
 use mathlib.Core.List.{List, [], ◌∷◌, ◌++◌, append_assoc, append-nil}
 use Rattle.std.proofs.Math.Option.{Option, none, some}
 use Rattle.std.proofs.Math.Dec.{eqb}
-use Rattle.std.proofs.Math.Facts.{and_yes, eqb_yes, not_t}
+use Rattle.std.proofs.Math.Facts.{and_yes, eqb_yes, not_T}
 use Rattle.rules.specs.Lines.{Line, Variable, positively, negatively}
 use Rattle.rules.specs.Resolve.{resolve}
 use Rattle.rules.specs.Steps.{Step}
@@ -73,7 +73,7 @@ module _ (variables : List Variable) where
       never : (side : Variable → Line → Bool) → All (λ s. T (not (test side s.line))) more
       never side =
           all_map (Late t) (λ s. T (not (test side s.line))) more
-          (λ s k. not_t (test side s.line) (λ q. let e : round_of variables s.line ≡ t =
+          (λ s k. not_T (test side s.line) (λ q. let e : round_of variables s.line ≡ t =
           eqb_yes (and_yes (side v s.line) (eqb (round_of variables s.line) t) q).1 in omega arith)) h
 
   pub same-at-end : (t : ℕ) (v : Variable) (steps now : List Step) → Grown (Late t) steps now

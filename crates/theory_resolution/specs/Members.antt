@@ -3,7 +3,7 @@
 use Rattle.std.specs.Prelude.{◌≡◌, refl, Bool, true, false, not, ◌||◌, ◌&&◌, ◌⊎◌, [], ◌∷◌, ℕ, zero, suc, ◌<◌, max, T, length, get_or, set}
 use Rattle.std.proofs.Common.{sym, ap, inl, inr, ⊎_elim, arith, length-set}
 use Rattle.std.proofs.Math.Bool.{or-false}
-use Rattle.std.proofs.Math.Facts.{or_yes, and_yes, yes_and, not_t}
+use Rattle.std.proofs.Math.Facts.{or_yes, and_yes, yes_and, not_T}
 use Rattle.rules_types.specs.Limits as limit
 use Rattle.theory_lists.specs.Tests.{split, clash, or_l, or_r, or_else, or-left-comm, or-or-comm, or-absorb, and-or-both}
 use Rattle.theory_lists.specs.All.{get_or-replicate-same}
@@ -180,7 +180,7 @@ subset-member (a ∷ s) (b ∷ t) h (suc i) k = subset-member s t (and_yes (not 
 pub member-subset : (s t : Booleans) → ((i : ℕ) → T (has s i) → T (has t i)) → T (subset s t)
 unfolding subset
 member-subset [] t h = tt
-member-subset (a ∷ s) [] h = yes_and (not a) (subset s []) (not_t a (h 0)) (member-subset s [] (λ i. h (suc i)))
+member-subset (a ∷ s) [] h = yes_and (not a) (subset s []) (not_T a (h 0)) (member-subset s [] (λ i. h (suc i)))
 member-subset (a ∷ s) (b ∷ t) h =
     yes_and (not a || b) (subset s t) (⊎_elim (λ k. or_r (not a) b (h 0 k)) (λ n. or_l (not a) b n) (split a))
     (member-subset s t (λ i. h (suc i)))

@@ -3,7 +3,7 @@ use Rattle.std.specs.Prelude.{◌≡◌, Bool, not, ◌||◌, ◌&&◌, ℕ, ◌
 use Rattle.std.proofs.Math.Bool.{not-not}
 use Rattle.std.proofs.Common.{⊎_elim}
 use Rattle.std.proofs.Math.Option.{Option, none, some}
-use Rattle.std.proofs.Math.Dec.{not_t}
+use Rattle.std.proofs.Math.Dec.{not_T}
 use Rattle.theory_lists.specs.Tests.{split, clash, or_l, or_r, and-noˡ, and-noʳ}
 use Rattle.rules.specs.Arithmetic.{is_positive, is_negative}
 use Rattle.rules.specs.Problem.{Constraint}
@@ -97,14 +97,14 @@ module _ (χ : Assignment) (i : ℕ) (l : Line) (n : Consistent l) where
   idle-upper z h = (
     and-noʳ (has l.positive i) (χ.booleans i) z,
     and-noˡ (has l.negative i) (not (χ.booleans i))
-        (not_t (has l.negative i) (λ k. clash (meet l.positive l.negative) (meet-member l.positive l.negative i h k) n)),
+        (not_T (has l.negative i) (λ k. clash (meet l.positive l.negative) (meet-member l.positive l.negative i h k) n)),
   )
 
   idle-lower : T (χ.booleans i) → T (negatively (boolean i) l) → Idle χ (boolean i) l
   unfolding negatively
   idle-lower z h = (
     and-noˡ (has l.positive i) (χ.booleans i)
-        (not_t (has l.positive i) (λ k. clash (meet l.positive l.negative) (meet-member l.positive l.negative i k h) n)),
+        (not_T (has l.positive i) (λ k. clash (meet l.positive l.negative) (meet-member l.positive l.negative i k h) n)),
     and-noʳ (has l.negative i) (not (χ.booleans i)) (rw (not-not (χ.booleans i)) z),
   )
 

@@ -3,7 +3,7 @@ use Rattle.std.specs.Prelude.{◌≡◌, refl, Bool, not, ◌||◌, ◌⊎◌, �
 use Rattle.std.proofs.Math.Logic.{inl, inr, ⊎_elim}
 use Rattle.std.proofs.Math.Option.{Option, none, some}
 use Rattle.std.specs.Int.Signed.{quot_z}
-use Rattle.std.proofs.Math.Dec.{not_t}
+use Rattle.std.proofs.Math.Dec.{not_T}
 use Rattle.std.proofs.Math.Facts.{or_yes}
 use Rattle.theory_integers.specs.Quotient.{quot-zero}
 use Rattle.theory_lists.specs.Tests.{split, clash, or_l, or_r}
@@ -59,7 +59,7 @@ unfolding coefficient reduced
 reduced-nonzero c f h =
     let g = gcd_all (c.bound ∷ c.coefficients) in
     let a = get_or c.coefficients f (pos 0) in
-    not_t (is_zero a) (λ z. clash (is_zero (quot_z a (pos g))) (yes-zero (rw (zero-yes a z) (quot-zero g)))
+    not_T (is_zero a) (λ z. clash (is_zero (quot_z a (pos g))) (yes-zero (rw (zero-yes a z) (quot-zero g)))
     (rw (get_or-quotients g c.coefficients f) at h))
 
 settled-fewer : (l : Line) (c : Constraint) → l.constraint ≡ some c → DroppedOr (Fewer l) (settled_line l (settled c))
@@ -152,5 +152,5 @@ pub resolve-without : (v : Variable) (u l : Line) → T (negatively v l) → Dro
 unfolding resolve
 resolve-without v u l n =
     dropped-map (Fewer (resolvent v u l)) (λ m. T (not (contains v m))) (normal_line (resolvent v u l))
-    (λ m f. not_t (contains v m) (λ h. clash (contains v (resolvent v u l)) (f v h) (resolvent-without v u l n)))
+    (λ m f. not_T (contains v m) (λ h. clash (contains v (resolvent v u l)) (f v h) (resolvent-without v u l n)))
     (normal-line-variables (resolvent v u l))

@@ -4,7 +4,7 @@ use Rattle.std.proofs.Math.Option.{Option}
 use Prim.Native.Nat.{ℕ, suc, ◌≤◌, ◌<◌}
 use Rattle.std.proofs.Common.{arith}
 use Rattle.std.proofs.Math.Dec.{T}
-use Rattle.std.proofs.Math.Facts.{not_t, eqb_yes}
+use Rattle.std.proofs.Math.Facts.{not_T, eqb_yes}
 use Rattle.rules.specs.Lists.{filter}
 use Rattle.rules.specs.Meaning.{Assignment}
 use Rattle.rules.specs.Lines.{Line, Variable, line_holds, positively, negatively, contains}
@@ -59,7 +59,7 @@ module _ (variables : List Variable) (t : ℕ) (v : Variable) (a : At variables 
   later r d = round-later variables t v u l r a hu hl d.0 d.1
 
   covers-derived : (j r : Line) → Covers j r → Derived r → Derived j
-  covers-derived j r c d = ((λ w h. d.0 w (c.only w h)), not_t (contains v j) (λ h. clash (contains v r) (c.only v h) d.1))
+  covers-derived j r c d = ((λ w h. d.0 w (c.only w h)), not_T (contains v j) (λ h. clash (contains v r) (c.only v h) d.1))
 
   pub resolve-later : DroppedOr (λ r. t < round_of variables r) (resolve v u l)
   resolve-later = dropped-map Derived (λ r. t < round_of variables r) (resolve v u l) later resolve-derived

@@ -2,7 +2,7 @@
 -- their round, belongs to a later one.
 use Rattle.std.specs.Prelude.{◌≡◌, not, ◌⊎◌, List, [], ◌∷◌, ℕ, zero, suc, ◌≤◌, ◌<◌, T, length, drop}
 use Rattle.std.proofs.Common.{sym, ◌∙◌, subst, ⊎_elim, arith}
-use Rattle.std.proofs.Math.Facts.{not_t}
+use Rattle.std.proofs.Math.Facts.{not_T}
 use Rattle.rules.specs.Lists.{any}
 use Rattle.rules.specs.Lines.{Line, Variable, contains}
 use Rattle.rules.specs.Elimination.{round_of}
@@ -90,6 +90,6 @@ round-later (w ∷ ws) (suc t) v u l j a hu hl f n =
     ⊎_elim (λ k. absurd (omega (arith, round-here w ws u k)))
     (λ nu. ⊎_elim (λ k. absurd (omega (arith, round-here w ws l k)))
     (λ nl. let nj : T (not (contains w j)) =
-    not_t (contains w j) (λ k. ⊎_elim (λ t. clash (contains w u) t nu) (λ t. clash (contains w l) t nl) (f w k)) in
+    not_T (contains w j) (λ k. ⊎_elim (λ t. clash (contains w u) t nu) (λ t. clash (contains w l) t nl) (f w k)) in
     let r = round-later ws t v u l j a (omega (arith, round-on w ws u nu)) (omega (arith, round-on w ws l nl)) f n in
     omega (arith, round-on w ws j nj)) (split (contains w l))) (split (contains w u))

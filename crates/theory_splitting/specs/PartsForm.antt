@@ -2,7 +2,7 @@
 -- both signs, and no other than the clause's and its own split variables.
 use Rattle.std.specs.Prelude.{◌≡◌, not, List, [], ◌∷◌, ℕ, suc, ◌+◌, ◌-◌, ◌≤◌, ◌<◌, T, length}
 use Rattle.std.proofs.Common.{◌∙◌, ⊎_elim, arith}
-use Rattle.std.proofs.Math.Dec.{not_t}
+use Rattle.std.proofs.Math.Dec.{not_T}
 use Rattle.rules_types.specs.Limits as limit
 use Rattle.theory_lists.specs.Tests.{clash}
 use Rattle.theory_lists.specs.All.{All}
@@ -30,14 +30,14 @@ pub record LineForm (P : ℕ → Type 0) (l : Line) : Type 0 where
   pub negative : Within P l.negative
 
 including-apart : (k : ℕ) (p n : Booleans) → T (not (meet p n)) → Below k n → T (not (meet (including k p) n))
-including-apart k p n a w = not_t (meet (including k p) n) (λ m. no (member-meet (including k p) n m))
+including-apart k p n a w = not_T (meet (including k p) n) (λ m. no (member-meet (including k p) n m))
   where
     no : Common (including k p) n → ⊥
     no c = ⊎_elim (λ e. let l = w c.member c.right in omega arith)
         (λ h. clash (meet p n) (meet-member p n c.member h c.right) a) (including-has k p c.member c.left)
 
 none_apart : (n : Booleans) → T (not (meet no_booleans n))
-none_apart n = not_t (meet no_booleans n) (λ m. let c = member-meet no_booleans n m in none_has c.member c.left)
+none_apart n = not_T (meet no_booleans n) (λ m. let c = member-meet no_booleans n m in none_has c.member c.left)
 
 chain-form : (P : ℕ → Type 0) (k : ℕ) (p n : Booleans) (c : Constraint) (cs : List Constraint) → length p ≡ limit.all_booleans
     → length n ≡ limit.all_booleans

@@ -3,7 +3,7 @@ use Rattle.std.specs.Prelude.{Bool, not, ◌↔◌, List, [], ◌∷◌, ℕ, ze
 use Rattle.std.proofs.Math.Option.{Option, none, some}
 use Rattle.std.proofs.Common.{arith, leb→le, le→leb}
 use Rattle.std.specs.Int.Signed.{quot_z}
-use Rattle.std.proofs.Math.Facts.{not_t, T_not-not}
+use Rattle.std.proofs.Math.Facts.{not_T, T_not-not}
 use Rattle.rules_types.specs.Limits as limit
 use Rattle.rules.specs.Lists.{any}
 use Rattle.rules.specs.Arithmetic.{gcd_all}
@@ -93,7 +93,7 @@ pub overflows-no : (l : Line) → T (not (overflows l)) ↔ SmallAmounts l.const
 unfolding overflows
 overflows-no l = (
   λ h. (row_small l.constraint).1 (narrow-small r h),
-  λ h. not_t (any beyond r) (λ t. all_any Small (λ z. T (beyond z)) r (λ z a b. clash (in_range z) ((range_small z).1 a) b)
+  λ h. not_T (any beyond r) (λ t. all_any Small (λ z. T (beyond z)) r (λ z a b. clash (in_range z) ((range_small z).1 a) b)
       ((row_small l.constraint).0 h) (any-yes beyond r t)),
 )
   where

@@ -1,5 +1,6 @@
 // 02, (xi): a proof trimmed to its last step and those from which it descends, written into a lent buffer.
 #![tactic(auto)]
+
 pub mod kept;
 pub mod marks;
 pub mod needed;
