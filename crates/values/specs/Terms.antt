@@ -1,7 +1,7 @@
 -- Sums of coefficient × numerator from the last term on, and their widths.
 use Rattle.std.specs.Prelude.{◌≡◌, List, ℤ, pos, nat_abs, ◌+ℤ◌, ◌*ℤ◌, length, drop}
 use Rattle.std.proofs.Math.Path.{ap}
-use Prim.Native.Nat.{ℕ, suc, ◌+◌, ◌*◌, ◌-◌, ◌≤◌, ◌<◌}
+use Prim.Native.Nat.{ℕ, suc, ◌+◌, ◌*◌, ◌≤◌, ◌<◌}
 use native.Mathlib.Omega.{arith}
 use Rattle.std.proofs.Math.ListN.{get_or}
 use Rattle.std.proofs.Common.{drop-cons}

@@ -1,0 +1,112 @@
+-- `gather::with_line` meets its contract: a return for each thing that a line can be to the variable. Assumes nothing.
+use mathlib.Core.Path.{◌≡◌, sym, ap, ◌∙◌}
+use mathlib.Core.Bool.{Bool, true, false, not, or-not_self}
+use mathlib.Core.List.{List, ◌∷◌}
+use mathlib.Core.Option.{some}
+use Prim.Native.Nat.{◌<◌}
+use borrow.Author.Rules.{rules}
+use borrow.Author.Tests.{eq-eqb, ne_eqb}
+use lib.IntN.{pos, nat_abs}
+use lib.Dec.{eqb}
+use lib.ListN.{length, get_or}
+use Rattle.rules_types.specs.Limits as limit
+use Rattle.rules.specs.Elimination.{round_of}
+use Rattle.rules.specs.Lines as rules
+use Rattle.rules.specs.Lines.{a_literal_holds, rational, positively, negatively}
+use Rattle.rules.specs.Values.{bound_of}
+use Rattle.fractions.specs.Meaning.{meaning as fraction_meaning, bound_meaning}
+use Rattle.fractions.specs.Range.{Small}
+use Rattle.lines.specs.Order.{variables_of}
+use Rattle.lines.specs.Line.{constraint_in, meaning}
+use Rattle.lines.specs.Forms.{constraint-is}
+use Rattle.models.specs.Model.{assignment}
+use Rattle.values.specs.Round.{belongs}
+use Rattle.values.specs.Constraint.{bound-small}
+use Rattle.values.specs.Leading.{round-coefficient, round-related, round-sides}
+use Rattle.values.specs.Gather.{Collected, CollectedIn, with_lower, with_upper, collected-other, collected-held, collected-more}
+use Rattle.values.specs.Gather.{exceeding-here}
+use Rattle.values.proofs.gather.with_line.Goals as goal
+use Rattle.values.proofs.gather.with_line.Goals.{After-has_positive_rational, Else-beyond, Else-literal_holds, Else-round-current, Start}
+
+pub returns-then-round-current : goal.returns-then-round-current
+returns-then-round-current c = λ ls h.
+    let e : belongs c.args.current (meaning c.args.line) ≡ false =
+    rw (← c.round.ensures) (ne_eqb c.round.result c.args.current.number c.if-round-current.true) in
+    rw c.requires.beyond_value (collected-other (assignment c.args.model) c.args.current (meaning c.args.line) ls
+    (bound_meaning c.args.earlier.lower) (bound_meaning c.args.earlier.upper) h e)
+
+-- ---- a line of the variable's round
+row-length : (s : Start) → length s.args.line.coefficients ≡ limit.rationals
+row-length s = search (rules, s.well_formed.1.0)
+
+same-round : (c : Else-round-current) → round_of (variables_of c.args.current.order) (meaning c.args.line) ≡ c.args.current.number
+same-round c = sym c.round.ensures ∙ c.if-round-current.false
+
+own-round : (c : Else-round-current) → belongs c.args.current (meaning c.args.line) ≡ true
+own-round c = eq-eqb (round_of (variables_of c.args.current.order) (meaning c.args.line)) c.args.current.number (same-round c)
+
+bounded : (c : Else-round-current) → 0 < nat_abs (get_or c.args.line.coefficients c.args.current.rational (pos 0))
+bounded c = round-coefficient c.args.line c.requires.ready.shaped c.args.current c.requires.scheduled_rational (same-round c)
+
+constrained : (c : Else-round-current) → (meaning c.args.line).constraint ≡ some (constraint_in c.args.line)
+constrained c = constraint-is c.args.line
+    (round-related c.args.line c.requires.ready.shaped c.args.current c.requires.scheduled_rational (same-round c))
+
+one_side : (c : Else-round-current) → let v = rational c.args.current.rational in
+    negatively v (meaning c.args.line) ≡ not (positively v (meaning c.args.line))
+one_side c = round-sides c.args.line c.requires.ready.shaped c.args.current c.requires.scheduled_rational (same-round c)
+
+pub returns-then-literal_holds : goal.returns-then-literal_holds
+returns-then-literal_holds c = λ ls h.
+    rw c.requires.beyond_value
+    (collected-held (assignment c.args.model) c.args.current (meaning c.args.line) ls (bound_meaning c.args.earlier.lower)
+    (bound_meaning c.args.earlier.upper) h (own-round (goal.at.returns-then-literal_holds c).Else-round-current) (sym c.literal_holds.ensures ∙ c.if-literal_holds.true))
+
+free : (c : Else-literal_holds) → a_literal_holds (assignment c.args.model) (meaning c.args.line) ≡ false
+free c = sym c.literal_holds.ensures ∙ c.if-literal_holds.false
+
+pub bound_of-x-requires : goal.bound_of-x-requires
+bound_of-x-requires c = record { f_lt_rationals = c.requires.scheduled_rational.ranged; ready = c.requires.ready; nonzero = bounded (goal.at.bound_of-x-requires c).Else-round-current; in_range = c.requires.in_range }
+
+pub returns-then-beyond : goal.returns-then-beyond
+returns-then-beyond c = λ ls h.
+    exceeding-here (assignment c.args.model) c.args.current (meaning c.args.line) ls (bound_meaning c.args.earlier.lower)
+    (bound_meaning c.args.earlier.upper) h (own-round (goal.at.returns-then-beyond c).Else-round-current) (free (goal.at.returns-then-beyond c).Else-literal_holds) (constraint_in c.args.line) (constrained (goal.at.returns-then-beyond c).Else-round-current)
+    (rw (one_side (goal.at.returns-then-beyond c).Else-round-current) (or-not_self (positively (rational c.args.current.rational) (meaning c.args.line))))
+    (rw (← c.bound_of-x.ensures, ← c.beyond.ensures) c.if-beyond.true)
+
+-- the bound is in range
+small : (c : Else-beyond) → Small (bound_of (assignment c.args.model) c.args.current.rational (constraint_in c.args.line))
+small c =
+    bound-small c.args.line c.args.model c.args.current.rational (row-length (goal.at.Else-beyond c).Start) c.requires.scheduled_rational.ranged
+    c.requires.ready c.requires.in_range
+    (bounded (goal.at.Else-beyond c).Else-round-current) (rw (← c.bound_of-x.ensures, ← c.beyond.ensures) c.if-beyond.false)
+
+-- the bounds with the line's on its side
+more : (c : After-has_positive_rational) (t : Bool) → c.has_positive_rational.result ≡ t
+    → let e = c.args.earlier in
+    let strict = eqb c.args.line.relation 2 in
+    (ls : List rules.Line) → CollectedIn e (assignment c.args.model) c.args.current ls
+    → Collected (assignment c.args.model) c.args.current (meaning c.args.line ∷ ls)
+    (with_lower t (fraction_meaning c.bound_of-x.result) strict (bound_meaning e.lower))
+    (with_upper t (fraction_meaning c.bound_of-x.result) strict (bound_meaning e.upper))
+more c t e = λ ls h.
+    let p = sym c.has_positive_rational.ensures ∙ e in
+    rw c.bound_of-x.ensures
+    (collected-more (assignment c.args.model) c.args.current (meaning c.args.line) ls (bound_meaning c.args.earlier.lower)
+    (bound_meaning c.args.earlier.upper) h (own-round (goal.at.After-has_positive_rational c).Else-round-current) (free (goal.at.After-has_positive_rational c).Else-literal_holds) (constraint_in c.args.line) (constrained (goal.at.After-has_positive_rational c).Else-round-current)
+    t p (one_side (goal.at.After-has_positive_rational c).Else-round-current ∙ ap not p) (small (goal.at.After-has_positive_rational c).Else-beyond))
+
+pub or_upper-requires : goal.or_upper-requires
+or_upper-requires c =
+    (c.requires.within.1, rw c.bound_of-x.ensures (small (goal.at.or_upper-requires c).Else-beyond))
+
+pub returns-then-has_positive_rational : goal.returns-then-has_positive_rational
+returns-then-has_positive_rational c = λ ls h. rw c.or_upper.ensures (more (goal.at.returns-then-has_positive_rational c).After-has_positive_rational true c.if-has_positive_rational.true ls h)
+
+pub or_lower-requires : goal.or_lower-requires
+or_lower-requires c =
+    (c.requires.within.0, rw c.bound_of-x.ensures (small (goal.at.or_lower-requires c).Else-beyond))
+
+pub returns : goal.returns
+returns c = λ ls h. rw c.or_lower.ensures (more (goal.at.returns c).After-has_positive_rational false c.if-has_positive_rational.false ls h)

@@ -1,0 +1,55 @@
+-- `assign::with_rational` meets its contract. Assumes nothing.
+use mathlib.Core.Path.{◌≡◌, sym, ◌∙◌}
+use Prim.Native.Nat.{◌/◌, ◌≤◌}
+use native.Mathlib.Nat.{div-le_self}
+use native.Mathlib.Omega.{arith}
+use borrow.Author.Rules.{rules}
+use lib.IntN.{pos, ◌*ℤ◌}
+use lib.ListN.{length}
+use Rattle.rules_types.specs.Limits as limit
+use Rattle.rules_types.specs.Limits.{amount}
+use Rattle.rules.specs.Lists.{put}
+use Rattle.theory_vectors.specs.Lcm.{lcm-positive}
+use Rattle.fractions.specs.Meaning.{meaning}
+use Rattle.rows.specs.Products.{amount-bits}
+use Rattle.models.specs.Model.{value}
+use Rattle.walk.specs.Words.{denominator-large, numerators-large, rational-words}
+use Rattle.walk.proofs.assign.with_rational.Goals as goal
+use Rattle.walk.proofs.assign.with_rational.Goals.{After-over-numerators}
+
+pub returns-then-common-gt-AMOUNT : goal.returns-then-common-gt-AMOUNT
+returns-then-common-gt-AMOUNT c =
+    let a = c.args in
+    denominator-large a.model a.f (meaning a.x) c.lcm-common.result c.lcm-common.ensures c.if-common-gt-AMOUNT.true
+
+pub over-numerators-requires : goal.over-numerators-requires
+over-numerators-requires c =
+    let D = c.lcm-common.result in
+    let x = c.args.x in
+    let h : D ≤ amount = omega (arith, c.if-common-gt-AMOUNT.false) in
+    let k = div-le_self D c.args.model.denominator in
+    let m = div-le_self D x.denominator in record { amounts = c.requires.in_range.amounts; k_le_amount = omega arith; f_lt_rationals = c.requires.f_lt_rationals; a_bound = rw (amount-bits x.numerator c.requires.small.numerator) c.requires.small.numerator; m_le_amount = omega arith }
+
+-- the row that was computed
+scaled : (c : After-over-numerators) → let a = c.args in let D =
+    c.lcm-common.result in
+    value c.over-numerators.result ≡ put a.f (a.x.numerator *ℤ pos (D / a.x.denominator))
+    (λ j. value a.model.numerators j *ℤ pos (D / a.model.denominator))
+scaled c = rw (amount-bits c.args.x.numerator c.requires.small.numerator) at c.over-numerators.ensures
+
+row-length : (c : After-over-numerators) → length c.over-numerators.result ≡ limit.rationals
+row-length c = search (rules, c)
+
+pub returns-then-overflowing_row : goal.returns-then-overflowing_row
+returns-then-overflowing_row c =
+    let a = c.args in
+    numerators-large a.model a.f (meaning a.x) c.lcm-common.result c.lcm-common.ensures c.over-numerators.result (row-length (goal.at.returns-then-overflowing_row c).After-over-numerators) (scaled (goal.at.returns-then-overflowing_row c).After-over-numerators)
+    (sym c.overflowing_row.ensures ∙ c.if-overflowing_row.true)
+
+pub returns : goal.returns
+returns c =
+    let a = c.args in
+    rational-words a.model a.f (meaning a.x) c.lcm-common.result c.lcm-common.ensures c.over-numerators.result (row-length (goal.at.returns c).After-over-numerators) (scaled (goal.at.returns c).After-over-numerators)
+    (sym c.overflowing_row.ensures ∙ c.if-overflowing_row.false)
+    (rw c.lcm-common.ensures (lcm-positive a.model.denominator a.x.denominator c.requires.in_range.positive c.requires.small.positive))
+    (omega (arith, c.if-common-gt-AMOUNT.false))
