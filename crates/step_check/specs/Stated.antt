@@ -12,7 +12,6 @@ use Rattle.rules.specs.Checker.{line_among}
 use Rattle.theory_lists.specs.Tests.{of-true}
 use Rattle.theory_lists.specs.Equal.{same-yes}
 use Rattle.theory_vectors.specs.Amounts.{zeros-amounts}
-use Rattle.lines.specs.declared.line.Line.{Line}
 use Rattle.lines.specs.Line.{meaning, Ready}
 use Rattle.steps.specs.Encoding.{encoded, encode_step-is}
 use Rattle.steps.specs.Decoding.{decoded, decoded-encoded}
