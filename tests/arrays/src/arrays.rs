@@ -30,14 +30,18 @@ pub fn arrays(world: &World) -> Result<Vec<Array>, Trouble> {
             finder.item(item)?;
         }
         let brackets = (0..file.tokens.len()).filter(|i| file.is(*i, "["));
-        let mut unseen =
-            brackets.filter(|i| !(finder.seen.contains(i) || *i > 0 && file.is(i - 1, "#")));
+        let mut unseen = brackets.filter(|i| !(finder.seen.contains(i) || of_attribute(file, *i)));
         if let Some(bracket) = unseen.next() {
             return Err(file.trouble(bracket, "a bracket that is not read"));
         }
         found.extend(finder.found.into_values());
     }
     Ok(found)
+}
+
+/// Whether a bracket is an attribute's.
+fn of_attribute(file: &File, i: usize) -> bool {
+    i >= 1 && file.is(i - 1, "#") || i == 2 && file.is(0, "#") && file.is(1, "!")
 }
 
 struct Finder<'a> {

@@ -1,7 +1,8 @@
 //! What the sources declare, and what a path in them names.
 //!
 //! Rattle has more forms than are read here. Those that could hide an array and that these sources
-//! do not have (stars, groups and other names in a `use`, modules inside a file, `const fn`) are errors.
+//! do not have (stars and other names in a `use`, groups inside groups, modules inside a file, `const fn`)
+//! are errors.
 
 use crate::sizes::plain;
 use crate::sources::Crates;
@@ -232,12 +233,17 @@ impl World {
         while i < part.end {
             let source = &self.files[file];
             while source.is(i, "#") {
+                // One of the whole file stands before all items.
+                let of_file = i == 0 && source.is(i + 1, "!");
+                let end = source.after(if of_file { i + 2 } else { i + 1 });
                 // Others may change how a type is laid out.
-                let attribute = source.shown(i..source.after(i + 1));
-                if attribute != "#[no_mangle]" && attribute != "#[repr(C)]" {
+                if !read_attribute(&source.shown(i..end), of_file) {
                     return Err(source.trouble(i, "an attribute that is not read"));
                 }
-                i = source.after(i + 1);
+                i = end;
+            }
+            if i == part.end {
+                break;
             }
             let public = source.is(i, "pub") && !source.is(i + 1, "(");
             i = past_pub(source, i);
@@ -250,8 +256,6 @@ impl World {
                 Some("impl" | "fn" | "enum" | "struct") => source.after(self.sign(file, i, "{")?),
                 _ => return Err(source.trouble(i, "a declaration that is not read")),
             };
-            // The name stands behind the keyword; of a `use`, at its end.
-            let name = if source.is(i, "use") { end - 2 } else { i + 1 };
             let what = match source.name(i) {
                 Some("impl") => {
                     let own = self.past_lifetimes(file, i + 1)?;
@@ -259,7 +263,12 @@ impl World {
                     None
                 }
                 Some("mod") if end == i + 3 => Some(What::Module),
-                Some("use") if !public => Some(What::Use(self.used(file, i + 1..end - 1)?)),
+                Some("use") if !public => {
+                    for (name, path) in self.used(file, i + 1..end - 1)? {
+                        self.put(file, under, name, What::Use(path))?;
+                    }
+                    None
+                }
                 Some("struct") => Some(What::Struct(self.fields(file, open)?)),
                 Some("enum") if source.is(open, "{") => {
                     Some(What::Enum(self.variants(file, open)?))
@@ -276,7 +285,8 @@ impl World {
                 _ => return Err(source.trouble(i, "a declaration that is not read")),
             };
             if let Some(what) = what {
-                self.put(file, under, name, what)?;
+                // The name stands behind the keyword.
+                self.put(file, under, i + 1, what)?;
             }
             i = end;
         }
@@ -314,18 +324,35 @@ impl World {
         }
     }
 
-    /// The path of a `use`: names with `::` between them.
-    fn used(&self, file: usize, part: Part) -> Result<Vec<String>, Trouble> {
+    /// The paths of a `use`, each with the token of the name that it gives: names with `::` between
+    /// them, and last a name or a group of names.
+    fn used(&self, file: usize, part: Part) -> Result<Vec<(usize, Vec<String>)>, Trouble> {
         let source = &self.files[file];
+        let unread = |i| source.trouble(i, "a use that is not read");
         let mut path = Vec::new();
-        for i in part.clone() {
-            match source.name(i) {
-                Some(name) if path.len() * 2 == i - part.start => path.push(name.to_string()),
-                None if source.is(i, "::") && path.len() * 2 == i - part.start + 1 => {}
-                _ => return Err(source.trouble(i, "a use that is not read")),
+        let mut i = part.start;
+        loop {
+            let next = source.after(i);
+            if source.is(i, "{") && next == part.end && !path.is_empty() {
+                let names = source.listed(source.inside(i)).into_iter();
+                let names = names.map(|one| match source.name(one.start) {
+                    Some(name) if one.len() == 1 && name != "self" => {
+                        let path = path.iter().cloned().chain([name.to_string()]);
+                        Ok((one.start, path.collect()))
+                    }
+                    _ => Err(unread(one.start)),
+                });
+                return names.collect();
             }
+            path.push(source.name(i).ok_or_else(|| unread(i))?.to_string());
+            if next == part.end {
+                return Ok(vec![(i, path)]);
+            }
+            if !source.is(next, "::") || next + 1 >= part.end {
+                return Err(unread(next));
+            }
+            i = next + 1;
         }
-        Ok(path)
     }
 
     /// Fields in round brackets, in curly ones, or none.
@@ -463,6 +490,15 @@ impl World {
             ) => None,
             (path, item) => Some(Named::Item(path.clone(), item)),
         }
+    }
+}
+
+/// Whether an attribute leaves alone how a type is laid out, and what is built.
+fn read_attribute(attribute: &str, of_file: bool) -> bool {
+    match attribute {
+        "#![tactic(auto)]" => of_file,
+        "#[unsafe(no_mangle)]" | "#[repr(C)]" | "#[derive(Clone, Copy)]" => true,
+        _ => attribute.starts_with("#[tactic("),
     }
 }
 

@@ -14,7 +14,7 @@ const MOST: usize = 1024;
 
 /// The crate that solves, and the one that exports its calls.
 const SOLVING: &str = "solving";
-const CALLS: &str = "jemuling";
+const CALLS: &str = "jemuling_c";
 
 #[derive(Default)]
 pub struct Judged {

@@ -6,8 +6,8 @@ use crate::judge::{judged, Judged};
 use crate::sources::{of_crate, Crates};
 use crate::Trouble;
 use std::collections::BTreeSet;
-use std::path::Path;
-use std::{fs, io};
+use std::path::{Path, PathBuf};
+use std::{env, fs, io, process};
 
 /// Where a text is put into a copy.
 #[derive(Clone, Copy)]
@@ -92,6 +92,14 @@ const REFUSED: &[(&str, At, &str, &str)] = &[
     ("a constant function", Items("rows"), "const fn planted() -> u64 { 3 } const PLANTED: usize = 1000;", "a declaration that is not read"),
     ("names by a star", Items("rows"), "use rules_types::limits::*;", "a use that is not read"),
     ("another name", Items("rows"), "use rules_types::limits::Limits as Other;", "a use that is not read"),
+    ("names by a star in a group", Items("rows"), "use rules_types::{limits::*};", "a use that is not read"),
+    ("another name in a group", Items("rows"), "use rules_types::limits::{Limits as Other};", "a use that is not read"),
+    ("a group in a group", Items("rows"), "use rules_types::{limits::{Limits}};", "a use that is not read"),
+    ("a module by a group", Items("rows"), "use rules_types::limits::{self};", "a use that is not read"),
+    ("a name of a group that is declared", Items("rows"), "use rules_types::limits::{Limits}; type Limits = [u16; 4];",
+        "a name that is declared twice"),
+    ("a layout behind a derive", Items("rows"), "#[derive(Clone, Copy)] #[repr(align(4096))] struct Planted { n: u8 }",
+        "an attribute that is not read"),
     ("a name passed on", Items("solving"), "pub use walk::backwards::walk;", "a declaration that is not read"),
     ("a module in a file", Items("rows"), "mod planted { const PLANTED: [u16; 513] = [0; 513]; }", "no ; follows"),
     ("a bracket in a contract", Items("rows"), "fn planted() requires { {-{-} } { let list = [0u16; 513]; } // }\n", "requires is not read"),
@@ -106,10 +114,15 @@ const REFUSED: &[(&str, At, &str, &str)] = &[
     ("a sign", Items("rows"), "fn planted() { let list = $; }", "a sign that is not read"),
     // What solving is lent.
     ("a slice", Parameter("solving", "solve_within"), "list: &mut [u16], ", "solve_within is lent list: &mut [u16]"),
-    ("a slice from C", Parameter("jemuling", "jemuling_solve"), "list: &mut [u8], ", "jemuling_solve is lent list: &mut [u8]"),
-    ("a slice for a preview", Parameter("jemuling", "jemuling_preview_solve"), "list: &mut [u8], ",
+    ("a slice from C", Parameter("jemuling_c", "jemuling_solve"), "list: &mut [u8], ", "jemuling_solve is lent list: &mut [u8]"),
+    ("a slice for a preview", Parameter("jemuling_c", "jemuling_preview_solve"), "list: &mut [u8], ",
         "jemuling_preview_solve is lent list: &mut [u8]"),
-    ("a slice beside an edition", Parameter("jemuling", "jemuling_solve_in"), "list: &mut [u8], ",
+    ("a slice beside an edition", Parameter("jemuling_c", "jemuling_solve_in"), "list: &mut [u8], ",
+        "jemuling_solve_in is lent list: &mut [u8]"),
+    ("a slice of a call", Parameter("jemuling", "jemuling_solve"), "list: &mut [u8], ", "jemuling_solve is lent list: &mut [u8]"),
+    ("a slice of a preview's call", Parameter("jemuling", "jemuling_preview_solve"), "list: &mut [u8], ",
+        "jemuling_preview_solve is lent list: &mut [u8]"),
+    ("a slice of an edition's call", Parameter("jemuling", "jemuling_solve_in"), "list: &mut [u8], ",
         "jemuling_solve_in is lent list: &mut [u8]"),
     ("another question", Parameter("solving", "solve_within"), "input: &mut [u8], ", "solve_within is lent input: &mut [u8]"),
     ("a slice in a struct", Items("solving"), "pub struct Planted<'a> { n: u8, list: &'a mut [u8] } pub fn planted(p: Planted) {}",
@@ -142,7 +155,9 @@ const ALLOWED: &[(&str, At, &str, usize)] = &[
     ("structs with a gap", Items("rows"), "struct Planted { a: u8, b: u32, c: u8 } fn planted(list: [Planted; 85]) {}", 1020),
     ("enums without fields", Items("rows"), "enum Planted { A, B } fn planted(list: [Planted; 1024]) {}", 1024),
     ("words of a comment", Items("rows"), "// [u16; 513]\n/* [u16; 513] /* [u16; 513] */ */", 0),
-    ("words of a contract", Items("rows"), "fn planted() requires { ⌜ [0; 513] ⌝ } ensures list { λ _. ⌜ [0; 513] ⌝ } {}", 0),
+    ("words of a contract", Items("rows"), "fn planted() requires { [0; 513] } ensures list { λ _. [0; 513] } {}", 0),
+    ("names of a group", Items("rows"), "use rules_types::{limits}; fn planted(list: [u16; 2 * 0x100]) {}", 1024),
+    ("a type of a group", Items("fractions"), "use rules_types::limits::{Limits}; fn planted(list: [u16; 32 * Limits::BOOLEANS]) {}", 1024),
     ("an index", Items("rows"), "fn planted(s: &[u16]) -> u16 { s[513] }", 0),
     ("a crate that solving is not built from", Body("proof_check"), "let list = [0u16; 513];", 0),
 ];
@@ -165,7 +180,14 @@ pub fn tried(root: &Path, crates: &BTreeSet<String>) -> Vec<(String, bool)> {
     let allowed = ALLOWED
         .iter()
         .map(|(shows, at, text, most)| allowed(root, shows, *at, text, *most));
-    refusals.chain(locals).chain(allowed).collect()
+    let said = refusals.chain(locals).chain(allowed).collect();
+    let _ = fs::remove_dir_all(copy());
+    said
+}
+
+/// Where the copies are made: outside the tree, in which no other sources may stand.
+fn copy() -> PathBuf {
+    env::temp_dir().join(format!("jemuling-arrays-{}", process::id()))
 }
 
 /// The first fault of the copy is the one that is expected, in the file that was changed.
@@ -202,8 +224,8 @@ fn allowed(root: &Path, shows: &str, at: At, text: &str, most: usize) -> (String
 
 /// Judges a copy of the tree with a text put in, and says which file that changed, or which sources.
 fn copied(root: &Path, at: At, text: &str) -> Result<(String, Judged), Trouble> {
-    let copy = root.join("target/arrays");
-    let failed = |error: io::Error| Trouble::at(0, &error.to_string()).of("target/arrays");
+    let copy = copy();
+    let failed = |error: io::Error| Trouble::at(0, &error.to_string()).of("a copy");
     if copy.exists() {
         fs::remove_dir_all(&copy).map_err(failed)?;
     }

@@ -22,8 +22,14 @@ impl Crates {
         for row in text.lines().filter_map(|row| row.split('#').next()) {
             match row.split_once(':') {
                 Some((name, known)) => {
+                    // A word behind the name says what it is built as.
+                    let words: Vec<&str> = name.split_whitespace().collect();
+                    let name = match words[..] {
+                        [name] | [name, "staticlib"] => name.to_string(),
+                        _ => return Err(unread("crates.txt", "a line that is not read")),
+                    };
                     let known = known.split_whitespace().map(str::to_string).collect();
-                    crates.insert(name.trim().to_string(), known);
+                    crates.insert(name, known);
                 }
                 None if row.trim().is_empty() => {}
                 None => return Err(unread("crates.txt", "a line that is not read")),
@@ -74,6 +80,8 @@ pub fn of_crate(root: &Path, name: &str) -> Result<Vec<Source>, Trouble> {
         let module = match file.strip_suffix(".rt") {
             Some("lib" | "main") => name.to_string(),
             Some(module) => format!("{name}::{module}"),
+            // Text is built into nothing.
+            None if file.ends_with(".txt") => continue,
             None => return Err(unread(&folder, &format!("{file} is not read"))),
         };
         let text = fs::read_to_string(&entry).map_err(failed)?;
