@@ -1,5 +1,5 @@
 //! Links libjemuling.a from the folder that JEMULING_ARCHIVE names, or from where
-//! `rt staticlib jemuling` leaves it.
+//! `tools/build jemuling` leaves it.
 
 use std::env;
 use std::path::{Path, PathBuf};
