@@ -39,7 +39,8 @@ module _ (s : Step) (ss : List Step) (n : Numbered s) where
   unfolding step_at
   here = take_step s ss n.formed
 
-  field-here : (at size : ℕ) → at + size ≤ limit.step_bytes → field_at (limit.step_bytes * 0 + at) size bytes ≡ field_at at size (encode_step s)
+  field-here : (at size : ℕ) → at + size ≤ limit.step_bytes → field_at (limit.step_bytes * 0 + at) size bytes ≡ field_at at size
+      (encode_step s)
   field-here at size h = sym (field-step_at bytes 0 enough at size h) ∙ ap (field_at at size) here
 
   pub text-here : step_text bytes 0 ≡ print_step s

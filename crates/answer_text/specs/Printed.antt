@@ -109,7 +109,8 @@ module _ (n : ℕ) (proof model : List ℕ) (l : length proof ≡ limit.proof_by
 abbrev printed_of : Outcome → List ℕ
 printed_of (faulted f place) = print_refusal f place 0
 printed_of (stopped f steps pairs) = print_refusal f steps pairs
-printed_of (decided Satisfiable steps pairs bytes) = print_line (ascii "agrees") (map decimal (length steps ∷ pairs ∷ [])) ++ print_model bytes
+printed_of (decided Satisfiable steps pairs bytes) = print_line (ascii "agrees") (map decimal (length steps ∷ pairs ∷ []))
+    ++ print_model bytes
 printed_of (decided Unsatisfiable steps pairs bytes) =
     print_line (ascii "cannot") (map decimal (length steps ∷ pairs ∷ [])) ++ print_proof steps
 printed_of (decided Unwritten steps pairs bytes) = print_line (ascii "unwritten") (map decimal (length steps ∷ pairs ∷ []))

@@ -80,7 +80,8 @@ module _ (fs : List ℕ) (t : ℕ) (is : fs ≡ rationals_after (take t fs)) (lo
       unfolding cheapest
       step best j h = ap (cheapest price (get_or fs best 0)) (place j h)
 
-      pub looked-cheaper : (best j : ℕ) → Looked fs t r steps best j → j < r → lt_z (price (get_or fs j 0)) (price (get_or fs best 0)) ≡ true
+      pub looked-cheaper : (best j : ℕ) → Looked fs t r steps best j → j < r
+          → lt_z (price (get_or fs j 0)) (price (get_or fs best 0)) ≡ true
           → Looked fs t r steps j (j + 1)
       looked-cheaper best j l h e = record {
         from = omega (arith, l.from, l.before);

@@ -153,7 +153,8 @@ module _ (taken : List ℕ) (proof : List ℕ) where
   unfolding one
   counted-past i c w h f l =
       let m = meaning (line_at proof i) in
-      let next : (side : Variable → rules.Line → Bool) → count side taken (steps_in proof (suc i)) f ≡ count side taken (steps_in proof i) f =
+      let next : (side : Variable → rules.Line → Bool) → count side taken (steps_in proof (suc i)) f ≡ count side taken
+      (steps_in proof i) f =
       (λ side. count_at side i f
       ∙ ap (λ (b : Bool). count side taken (steps_in proof i) f + one (b && side (rational f) m)) w ∙ omega arith) in
       ((h f l).0 ∙ sym (next positively), (h f l).1 ∙ sym (next negatively))

@@ -21,7 +21,8 @@ use Rattle.theory_lists.specs.All.{All}
 use Rattle.theory_bytes.specs.Fields.{field_at-<}
 use Rattle.theory_bytes.specs.Amounts.{to_unsigned-from_unsigned}
 use Rattle.theory_conversion.specs.WrittenBack.{code-back, known-back}
-use Rattle.problem_scan.specs.Values.{values_at, behind, behind-is, amount_at, literal_at, bound_of, comparison_at, comparisons_at, count_of}
+use Rattle.problem_scan.specs.Values.{values_at, behind, behind-is, amount_at, literal_at, bound_of, comparison_at, comparisons_at}
+use Rattle.problem_scan.specs.Values.{count_of}
 use Rattle.problem_scan.specs.Values.{clause_at}
 use Rattle.problem_scan.specs.Values.{clause_end}
 use Rattle.problem_scan.specs.Sound.{Each, SoundComparison, SoundClause, SoundClauses}
@@ -114,7 +115,8 @@ module _ (q : List ℕ) (bytes : (i : ℕ) → get_or q i 0 < 256) where
         omega (arith, behind-is 4 r (at + layout.comparison_coefficients)) in
         amount-back (behind 4 r (at + layout.comparison_coefficients)) ∙ ap (λ (i : ℕ). field_at i 4 q) e
 
-    relation-back : (at : ℕ) → is_relation (get_or q at 0) ≡ true → (written_comparison r (comparison_at q r at)).relation % 256 ≡ get_or q at 0
+    relation-back : (at : ℕ) → is_relation (get_or q at 0) ≡ true
+        → (written_comparison r (comparison_at q r at)).relation % 256 ≡ get_or q at 0
     unfolding written_comparison comparison_at is_relation
     relation-back at known =
         let e = known-back (get_or q at 0) (of-true (is_relation (get_or q at 0)) known) in
@@ -162,7 +164,8 @@ module _ (q : List ℕ) (bytes : (i : ℕ) → get_or q i 0 < 256) where
     unfolding split_clause written_clause clause_at
     literals-back at = map-values literal_code (literal_at q) (λ i. get_or q i 0) 1 (get_or q at 0) (at + 1) literal-back
 
-    comparisons-length : (at : ℕ) → length (split_clause keeps (written_clause r (clause_at q r at))).comparisons ≡ get_or q (count_of q at) 0
+    comparisons-length : (at : ℕ) → length (split_clause keeps (written_clause r (clause_at q r at))).comparisons ≡ get_or q
+        (count_of q at) 0
     unfolding split_clause written_clause clause_at
     comparisons-length at =
         let cs = comparisons_at q r (get_or q (count_of q at) 0) (count_of q at + 1) in

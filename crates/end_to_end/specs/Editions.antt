@@ -66,11 +66,13 @@ pub record SolvesIn (limits : Limits) (edition : ℕ) (input lent_proof lent_mod
 
 pub previewed-in : (edition : ℕ) (input lent_proof lent_model : List ℕ) (told : SolvedTold) (proof model : List ℕ)
     → FullSize limit.preview lent_proof lent_model → SolvesIn limit.preview edition input lent_proof lent_model told proof model
-    → (lent_large lent_sheet : List ℕ) (large : SolvedTold) (large_proof large_model : List ℕ) → FullSize limit.standard lent_large lent_sheet
+    → (lent_large lent_sheet : List ℕ) (large : SolvedTold) (large_proof large_model : List ℕ)
+    → FullSize limit.standard lent_large lent_sheet
     → SolvesIn limit.standard edition input lent_large lent_sheet large large_proof large_model
     → Previewed limit.preview input told proof model large large_proof large_model
 unfolding solved_told answer_number answer_value refusal_number
-previewed-in edition input lent_proof lent_model told proof model full ours lent_large lent_sheet large large_proof large_model large_full theirs =
+previewed-in edition input lent_proof lent_model told proof model full ours lent_large lent_sheet large large_proof large_model large_full
+theirs =
     by (edition_named edition) refl
   where
     by : (n : Named) → edition_named edition ≡ n → Previewed limit.preview input told proof model large large_proof large_model

@@ -71,10 +71,12 @@ of-faulty lesser input f place e proof model large_proof large_model =
 -- the two calls, on bytes of every kind: "With full-size buffers"
 pub previewed : (edition : Edition) (input lent_proof lent_model : List ℕ) (told : SolvedTold) (proof model : List ℕ)
     → FullSize limit.preview lent_proof lent_model → Solves (on limit.preview edition) input lent_proof lent_model told proof model
-    → (lent_large lent_sheet : List ℕ) (large : SolvedTold) (large_proof large_model : List ℕ) → FullSize limit.standard lent_large lent_sheet
+    → (lent_large lent_sheet : List ℕ) (large : SolvedTold) (large_proof large_model : List ℕ)
+    → FullSize limit.standard lent_large lent_sheet
     → Solves (on limit.standard edition) input lent_large lent_sheet large large_proof large_model
     → Previewed limit.preview input told proof model large large_proof large_model
-previewed edition input lent_proof lent_model told proof model full ours lent_large lent_sheet large large_proof large_model large_full theirs =
+previewed edition input lent_proof lent_model told proof model full ours lent_large lent_sheet large large_proof large_model large_full
+theirs =
     rw (ours.tells, ours.leaves_proof, ours.leaves_model, theirs.tells, theirs.leaves_proof, theirs.leaves_model) (by (read input) refl)
   where
     small : Solving

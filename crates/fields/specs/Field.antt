@@ -1,6 +1,7 @@
 -- What is stored at a place of bytes: it is read back, and joins what is stored next to it; and amounts by the machine's arithmetic.
 use Rattle.std.specs.Prelude.{◌≡◌, refl, true, false, List, [], ◌∷◌, ◌++◌, ℤ, pos, negsuc, nat_abs, ◌-ℤ◌, T, length, set, take, drop}
-use Rattle.std.proofs.Common.{sym, ap, ◌∙◌, subst, append_assoc, append-nil, add_assoc, add-one, ltb-true, length-append, length-take, length-drop, take-append-drop, length-set, drop-drop, take_at, drop_at, length-take-le}
+use Rattle.std.proofs.Common.{sym, ap, ◌∙◌, subst, append_assoc, append-nil, add_assoc, add-one, ltb-true, length-append, length-take}
+use Rattle.std.proofs.Common.{length-drop, take-append-drop, length-set, drop-drop, take_at, drop_at, length-take-le}
 use Prim.Native.Nat.{ℕ, suc, ◌+◌, ◌-◌, ◌/◌, ◌%◌, ◌^◌, ◌≤◌, ◌<◌}
 use native.Mathlib.Omega.{arith}
 use Rattle.std.specs.Int.Signed.{lt_z}

@@ -33,7 +33,8 @@ zeros-more at j s h k =
 pub amount_bytes-++ : (xs ys : List ℤ) → amount_bytes (xs ++ ys) ≡ amount_bytes xs ++ amount_bytes ys
 unfolding amount_bytes
 amount_bytes-++ [] ys = refl
-amount_bytes-++ (x ∷ xs) ys = rw (amount_bytes-++ xs ys) (sym (append_assoc (to_bytes 4 (to_unsigned x)) (amount_bytes xs) (amount_bytes ys)))
+amount_bytes-++ (x ∷ xs) ys = rw (amount_bytes-++ xs ys) (sym (append_assoc (to_bytes 4 (to_unsigned x)) (amount_bytes xs)
+    (amount_bytes ys)))
 
 pub amounts-none : (at : ℕ) (s : List ℕ) → s ≡ stored at (amount_bytes []) s
 unfolding amount_bytes

@@ -54,5 +54,6 @@ pub returned : (z : ℤ) → mag z < 2 ^ 63 → to_z w64 (of_z w64 z) ≡ z
 returned z h = to_z-of_z {w = w64} {z = z} (record { sfits = h })
 
 -- the product that `cross` returns
-pub crossed : (r n : ℤ) (d : ℕ) → mag r < 2 ^ 63 → nat_abs n ≤ amount → r ≡ to_z w64 (of_z w64 n) *ℤ pos d → to_z w64 (of_z w64 r) ≡ n *ℤ pos d
+pub crossed : (r n : ℤ) (d : ℕ) → mag r < 2 ^ 63 → nat_abs n ≤ amount → r ≡ to_z w64 (of_z w64 n) *ℤ pos d
+    → to_z w64 (of_z w64 r) ≡ n *ℤ pos d
 crossed r n d k h e = returned r k ∙ (rw (same n (omega arith)) at e)

@@ -16,7 +16,8 @@ use Rattle.rules_types.specs.Limits as limit
 use Rattle.rules_types.specs.Answers.{refusal_number, answer_number, answer_value, checked_number, checked_value}
 use Rattle.rules_types.specs.Terms.{on, edition_named}
 use Rattle.rules.specs.Problem.{Problem}
-use Rattle.rules.specs.Calls.{sound, read, Solving, solve, proof_checked, model_checked, solve_in, proof_checked_in, model_checked_in, evidence}
+use Rattle.rules.specs.Calls.{sound, read, Solving, solve, proof_checked, model_checked, solve_in, proof_checked_in, model_checked_in}
+use Rattle.rules.specs.Calls.{evidence}
 use Rattle.theory_bytes.specs.Bytes.{AllBytes}
 use Rattle.promises.specs.Numbers.{verdict-exactly, refusal-exactly, accepted-exactly, fails-exactly, refused-exactly, of-proof-exactly}
 use Rattle.promises.specs.Numbers.{of-model-exactly}

@@ -8,7 +8,8 @@ use Rattle.rules_types.specs.declared.answers.Evidence.{Evidence}
 use Rattle.rules_types.specs.declared.answers.Converted.{Converted}
 use Rattle.rules_types.specs.declared.answers.Carried.{Carried}
 use Rattle.rules_types.specs.declared.answers.Trimmed.{Trimmed}
-use Rattle.rules_types.specs.Answers.{refusal_number, answer_number, answer_value, checked_number, checked_value, evidence_number, evidence_length}
+use Rattle.rules_types.specs.Answers.{refusal_number, answer_number, answer_value, checked_number, checked_value, evidence_number}
+use Rattle.rules_types.specs.Answers.{evidence_length}
 use Rattle.rules_types.specs.Answers.{converted_number, converted_value, carried_number, carried_value, trimmed_number, trimmed_value}
 use Rattle.jemuling.specs.declared.told.Told.{Told}
 use Rattle.jemuling.specs.declared.told.SolvedTold.{SolvedTold}

@@ -15,7 +15,8 @@ use Rattle.rules.specs.Bytes.{from_unsigned, field_at}
 use Rattle.rules.specs.Problem.{relation_of}
 use Rattle.rules.specs.Convert.{is_upper, sole_bound, kept_by}
 use Rattle.theory_bytes.specs.Amounts.{from_unsigned-low, from_unsigned-high}
-use Rattle.problem_scan.specs.Values.{values_at, behind, behind-is, amount_at, bound_of, literal_at, comparison_at, comparisons_at, count_of}
+use Rattle.problem_scan.specs.Values.{values_at, behind, behind-is, amount_at, bound_of, literal_at, comparison_at, comparisons_at}
+use Rattle.problem_scan.specs.Values.{count_of}
 use Rattle.problem_scan.specs.Values.{clause_at}
 use Rattle.problem_clauses.specs.Passes.{length-values}
 use Rattle.kept_rationals.specs.Alone.{alone_in, alone-is, alone-padded, At, at-past}

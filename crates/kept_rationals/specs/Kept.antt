@@ -116,4 +116,5 @@ module _ {q : List ℕ} {sizes : Sizes} (given : Readable q sizes) where
           rest = clauses_at q r (left - 1) (clause_end q r at)
 
           counted : length (clause_at q r at).comparisons ≡ get_or q place 0
-          counted = length-values (comparison_at q r) (layout.comparison_bytes r) (get_or q (count_of q at) 0) (count_of q at + 1) ∙ rw there
+          counted = length-values (comparison_at q r) (layout.comparison_bytes r) (get_or q (count_of q at) 0) (count_of q at + 1)
+              ∙ rw there

@@ -1,5 +1,6 @@
 -- A line's tests by its words: coefficients, masks, relation.
-use Rattle.std.specs.Prelude.{◌≡◌, refl, Bool, true, false, not, ◌&&◌, ◌||◌, List, [], ◌∷◌, ◌++◌, map, ℕ, zero, suc, ◌+◌, ◌/◌, ◌%◌, ◌^◌, ◌≤◌, ◌<◌, ℤ, pos, eqb, length, get_or, replicate}
+use Rattle.std.specs.Prelude.{◌≡◌, refl, Bool, true, false, not, ◌&&◌, ◌||◌, List, [], ◌∷◌, ◌++◌, map, ℕ, zero, suc, ◌+◌, ◌/◌, ◌%◌, ◌^◌}
+use Rattle.std.specs.Prelude.{◌≤◌, ◌<◌, ℤ, pos, eqb, length, get_or, replicate}
 use Rattle.std.proofs.Common.{sym, ap, ◌∙◌, mod-lt, div-one, arith, SFits, of_z, to_z, to_z-of_z}
 use Rattle.std.proofs.Math.Bool.{or_assoc, or-false}
 use Rattle.std.proofs.Math.Option.{some}
@@ -48,7 +49,8 @@ constraint-is l h = constraint-at l.relation l.coefficients l.bound h
 coefficient-at : (r : ℕ) (cs : List ℤ) (b : ℤ) (f : ℕ) → (r ≡ 0 → cs ≡ replicate limit.rationals (pos 0))
     → coefficient f (constraint_of r cs b) ≡ get_or cs f (pos 0)
 unfolding coefficient constraint_of
-coefficient-at zero cs b f h = sym (get_or-replicate-same limit.rationals f (pos 0)) ∙ ap (λ (s : List ℤ). get_or s f (pos 0)) (sym (h refl))
+coefficient-at zero cs b f h = sym (get_or-replicate-same limit.rationals f (pos 0))
+    ∙ ap (λ (s : List ℤ). get_or s f (pos 0)) (sym (h refl))
 coefficient-at (suc r) cs b f h = refl
 
 pub coefficient-is : (l : Line) → Shaped l → (f : ℕ) → coefficient f (meaning l).constraint ≡ get_or l.coefficients f (pos 0)

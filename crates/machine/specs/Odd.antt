@@ -2,7 +2,8 @@
 use Rattle.std.specs.Prelude.{◌≡◌, refl, ℕ, zero, suc, ◌+◌, ◌*◌, ◌-◌, ◌/◌, ◌%◌, ◌^◌, ◌≤◌, ◌<◌, min, max}
 use Rattle.std.proofs.Common.{sym, ap, ◌∙◌, ⊎_elim, div-one, mul_assoc, mul_comm, mod-eq_of_lt, eq-zero-or-pos, arith, pow-add, pow_mono}
 use Rattle.std.specs.Int.{◌∣◌}
-use Rattle.std.proofs.Math.Nat.{div-div-eq-div-mul, pow-succ', dvd_antisymm, dvd-mul_left_of_dvd, mul-div_cancel', dvd-mul_right, dvd-sub, dvd-add, le_of_dvd}
+use Rattle.std.proofs.Math.Nat.{div-div-eq-div-mul, pow-succ', dvd_antisymm, dvd-mul_left_of_dvd, mul-div_cancel', dvd-mul_right, dvd-sub}
+use Rattle.std.proofs.Math.Nat.{dvd-add, le_of_dvd}
 use Rattle.std.specs.Int.Count.{count_trailing_zeros, under}
 use Rattle.std.proofs.lemmas.Nat.{shr_le}
 use Rattle.rules.specs.Arithmetic.{gcd}
@@ -36,7 +37,8 @@ unfolding count_trailing_zeros
 odd-left zero n h l = absurd (omega arith)
 odd-left (suc k) n h l = by (n % 2) refl (λ e. odd-left k (n / 2) (omega arith) (omega (arith, pow-succ' 2 k)))
   where
-    by : (d : ℕ) → n % 2 ≡ d → (n % 2 ≡ 0 → n / 2 / 2 ^ count_trailing_zeros k (n / 2) % 2 ≡ 1) → n / 2 ^ under d (count_trailing_zeros k (n / 2)) % 2 ≡ 1
+    by : (d : ℕ) → n % 2 ≡ d → (n % 2 ≡ 0 → n / 2 / 2 ^ count_trailing_zeros k (n / 2) % 2 ≡ 1)
+        → n / 2 ^ under d (count_trailing_zeros k (n / 2)) % 2 ≡ 1
     by zero e h = rw (← half-again n (count_trailing_zeros k (n / 2))) (h e)
     by (suc d) e h = rw (div-one n) (omega arith)
 

@@ -29,14 +29,16 @@ module _ (χ : Assignment) (ys : List Clause) where
   append-accepted k [] e = let z : k ≡ k + 0 = omega arith in ap (λ (n : ℕ). check_clauses χ n ys) z
   append-accepted k (x ∷ xs) e = by (clause_holds χ x) (append-accepted (suc k) xs) e
     where
-      by : (t : Bool) → (check_clauses χ (suc k) xs ≡ Accepted → check_clauses χ (suc k) (xs ++ ys) ≡ check_clauses χ (suc k + length xs) ys)
+      by : (t : Bool) → (check_clauses χ (suc k) xs ≡ Accepted → check_clauses χ (suc k) (xs ++ ys) ≡ check_clauses χ
+          (suc k + length xs) ys)
           → ◌≡◌ {A = Checked} (elim t [ true ↦ check_clauses χ (suc k) xs | false ↦ Fails k ]) Accepted
           → ◌≡◌ {A = Checked} (elim t [ true ↦ check_clauses χ (suc k) (xs ++ ys) | false ↦ Fails k ])
           (check_clauses χ (k + suc (length xs)) ys)
       by true r e = let z : suc k + length xs ≡ k + suc (length xs) = omega arith in r e ∙ ap (λ (n : ℕ). check_clauses χ n ys) z
       by false r e = let z : ◌≡◌ {A = ℕ} 0 1 = cc in absurd (omega arith)
 
-  pub append-fails : (k : ℕ) (xs : List Clause) → (check_clauses χ k xs ≡ Accepted → ⊥) → check_clauses χ k (xs ++ ys) ≡ check_clauses χ k xs
+  pub append-fails : (k : ℕ) (xs : List Clause) → (check_clauses χ k xs ≡ Accepted → ⊥)
+      → check_clauses χ k (xs ++ ys) ≡ check_clauses χ k xs
   unfolding check_clauses
   append-fails k [] h = absurd (h refl)
   append-fails k (x ∷ xs) h = by (clause_holds χ x) (append-fails (suc k) xs) h
@@ -59,7 +61,8 @@ abbrev pub NotBelow : (ℕ → ℤ) → ℕ → Type 0
 NotBelow x f = (g : ℕ) → g < f → is_negative (x g) ≡ false
 
 pub one_more : (x : ℕ → ℤ) (f : ℕ) → NotBelow x f → is_negative (x f) ≡ false → NotBelow x (f + 1)
-one_more x f h e g l = ⊎_elim (λ z. let q : f ≡ g = omega arith in subst (λ (i : ℕ). is_negative (x i) ≡ false) q e) (λ z. h g (omega arith))
+one_more x f h e g l = ⊎_elim (λ z. let q : f ≡ g = omega arith in subst (λ (i : ℕ). is_negative (x i) ≡ false) q e)
+    (λ z. h g (omega arith))
     (eq-zero-or-pos (f - g))
 
 module _ (χ : Assignment) (n count : ℕ) (small : count ≤ limit.rationals) where

@@ -28,7 +28,8 @@ module _ {q : List ℕ} {r from count : ℕ} {χ : Assignment} {at left k : ℕ}
     pub checking-clause : SoundClause q r at
     checking-clause = clauses-first q r left at more run.sound
 
-    first : check_clauses χ k (clause_at q r at ∷ clauses_at q r (left - 1) (clause_end q r at)) ≡ check_clauses χ 0 (clauses_at q r count from)
+    first : check_clauses χ k (clause_at q r at ∷ clauses_at q r (left - 1) (clause_end q r at)) ≡ check_clauses χ 0
+        (clauses_at q r count from)
     first = ap (check_clauses χ k) (sym (clauses-next q r left at more)) ∙ run.same
 
     pub checking-fails : clause_holds χ (clause_at q r at) ≡ false → Fails k ≡ check_clauses χ 0 (clauses_at q r count from)

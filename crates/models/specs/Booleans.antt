@@ -35,7 +35,8 @@ pub record ReadBooleans (s : List ℕ) (from count : ℕ) (opens : ℕ → Bool)
   pub end : f.sound ≡ true → f.place ≡ from + count
   pub members : f.sound ≡ true → (j : ℕ) → get_or (bits limit.all_booleans f.mask) j false ≡ eqb (get_or (bytes_at s count from) j 0) 1
 
-flag-tested : (s : List ℕ) (opens : ℕ → Bool) → Tested s (flag opens) 1 (λ i at. is_boolean_byte (opens i) (get_or s at 0)) (λ at. get_or s at 0)
+flag-tested : (s : List ℕ) (opens : ℕ → Bool) → Tested s (flag opens) 1 (λ i at. is_boolean_byte (opens i) (get_or s at 0))
+    (λ at. get_or s at 0)
 unfolding flag
 flag-tested s opens =
     record {

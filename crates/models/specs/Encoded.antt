@@ -62,7 +62,8 @@ module _ (b r : ℕ) (opens : ℕ → Bool) (χ : Assignment) (hb : b ≤ limit.
 
   pub encoded-is : stored (layout.model_numerators b) numerators
       (stored (layout.model_denominator b) denominator
-      (set (stored layout.model_flags booleans (set zeros layout.model_booleans b)) (layout.model_rationals b) r)) ≡ encode_model b r opens χ
+      (set (stored layout.model_flags booleans (set zeros layout.model_booleans b))
+      (layout.model_rationals b) r)) ≡ encode_model b r opens χ
   unfolding encode_model padded
   encoded-is =
       let two = b ∷ booleans in

@@ -64,7 +64,11 @@ module _ (r : ℕ) (booleans : List ℕ) where
   unfoldable numerators_after : ℕ → Reader Assignment
   numerators_after denominator = do
     numerators ← repeat r (amount refusal.BadModel)
-    return (record { booleans = λ i. eqb (get_or booleans i 0) 1; numerators = λ f. get_or numerators f (pos 0); denominator = denominator })
+    return (record {
+      booleans = λ i. eqb (get_or booleans i 0) 1;
+      numerators = λ f. get_or numerators f (pos 0);
+      denominator = denominator;
+    })
 
   unfoldable denominator_on : Reader Assignment
   denominator_on = ◌>>=◌ (field 4 is_denominator refusal.BadModel) numerators_after
@@ -124,7 +128,8 @@ module _ {s : List ℕ} {b r : ℕ} where
     boolean-bad h e = booleans-on h ∙ rw (h.given.same, e)
 
     rationals-on : BooleansRead s b r opens flags → flags.sound ≡ true
-        → model b r opens s 0 ≡ rationals_on r (bytes_at s b layout.model_flags) (drop (layout.model_rationals b) s) (layout.model_rationals b)
+        → model b r opens s 0 ≡ rationals_on r (bytes_at s b layout.model_flags) (drop (layout.model_rationals b) s)
+        (layout.model_rationals b)
     unfolding reading after
     rationals-on h e = booleans-on h ∙ rw (h.given.same, e, h.given.end e)
 

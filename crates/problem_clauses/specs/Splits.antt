@@ -40,7 +40,8 @@ module _ (c : Disjunction) where
   splits-is = splits-by clashes (settled_all c.constraints) refl refl
 
 -- ---- of a reading of the clause at a place, by its literals as masks p and n and the place of its count of comparisons
-module _ (q : List ℕ) (r at p n : ℕ) (positives : bits all_booleans p ≡ members_of false (values_at (literal_at q) 1 (get_or q at 0) (at + 1)))
+module _ (q : List ℕ) (r at p n : ℕ) (positives : bits all_booleans p ≡ members_of false
+    (values_at (literal_at q) 1 (get_or q at 0) (at + 1)))
     (negatives : bits all_booleans n ≡ members_of true (values_at (literal_at q) 1 (get_or q at 0) (at + 1))) where
   pub splits-at : (second m : Bool) (place : ℕ) → meet (bits all_booleans p) (bits all_booleans n) ≡ m → place ≡ count_of q at
       → reading_splits (reading second (clause_at q r at))

@@ -14,7 +14,8 @@ use Rattle.rules.specs.Problem.{Problem, Read, fault, got}
 use Rattle.rules.specs.Written.{meaning}
 use Rattle.rules.specs.Meaning.{Assignment}
 use Rattle.rules.specs.Model.{is_open, model}
-use Rattle.rules.specs.Convert.{kept, carried_over, carried_back, carry_back, Carrying, split_problem, written_as, over_rationals, first_beyond}
+use Rattle.rules.specs.Convert.{kept, carried_over, carried_back, carry_back, Carrying, split_problem, written_as, over_rationals}
+use Rattle.rules.specs.Convert.{first_beyond}
 use Rattle.rules.specs.Convert.{carried_into, read_carried}
 use Rattle.rules.specs.Calls.{faulty, sound, read}
 use Rattle.theory_bytes.specs.Bytes.{AllBytes}

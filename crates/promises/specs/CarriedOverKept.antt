@@ -12,7 +12,8 @@ use Rattle.rules_types.specs.declared.answers.Converted.TheVariants.{Length, Ref
 use Rattle.rules_types.specs.Limits as limit
 use Rattle.rules.specs.Problem.{Problem}
 use Rattle.rules.specs.Written.{meaning}
-use Rattle.rules.specs.Convert.{split_problem, written_as, carried_over, carried_over_bytes, over_rationals, Converting, converted_into, convert}
+use Rattle.rules.specs.Convert.{split_problem, written_as, carried_over, carried_over_bytes, over_rationals, Converting, converted_into}
+use Rattle.rules.specs.Convert.{convert}
 use Rattle.rules.specs.Calls.{Reading, faulty, sound, read}
 use Rattle.theory_bytes.specs.Bytes.{AllBytes}
 use Rattle.theory_conversion.specs.Places.{carried-clauses}

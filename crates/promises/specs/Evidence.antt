@@ -68,7 +68,8 @@ module _ (limits : Limits) (p : Problem) (w : WellFormed p) where
       by : (s : State) → elimination (limited limits) p ≡ s → Comes Satisfiable (answer_of (concluded p s))
           → OurModel p (left limits (concluded p s) proof model) model
       by (running steps n) c h =
-          rw (concluded-running p steps n) (model-by proof model steps n c (walk_model p steps) refl (rw (concluded-running p steps n) at h))
+          rw (concluded-running p steps n) (model-by proof model steps n c (walk_model p steps) refl
+          (rw (concluded-running p steps n) at h))
       by (ended empty steps n) c h = absurd (let z : ◌≡◌ {A = ℕ} 0 1 = cc in omega arith)
       by (ended overflow steps n) c h = absurd h
       by (ended out_of_steps steps n) c h = absurd h

@@ -6,7 +6,8 @@ use Rattle.std.proofs.Math.Option.{Option, none, some}
 use Rattle.rules_types.specs.declared.answers.Refusal.TheVariants as refusal
 use Rattle.rules_types.specs.declared.limits.Limits.{Limits}
 use Rattle.rules.specs.Problem.{Problem}
-use Rattle.rules.specs.Elimination.{Stops, limited, unlimited, End, empty, overflow, out_of_steps, State, running, ended, order_of, loadable_of}
+use Rattle.rules.specs.Elimination.{Stops, limited, unlimited, End, empty, overflow, out_of_steps, State, running, ended, order_of}
+use Rattle.rules.specs.Elimination.{loadable_of}
 use Rattle.rules.specs.Elimination.{elimination}
 use Rattle.rules.specs.Calls.{concluded, said}
 use Rattle.theory_elimination.specs.Events.{Event, events}

@@ -17,7 +17,8 @@ use Rattle.rules.specs.Steps.{Step}
 use Rattle.rules.specs.Elimination.{limited, State, running, ended, empty, overflow, out_of_steps, order_of, elimination}
 use Rattle.rules.specs.Needs.{steps_of}
 use Rattle.rules.specs.Values.{walk}
-use Rattle.rules.specs.Calls.{Reading, faulty, sound, Outcome, faulted, stopped, decided, read, no_model, concluded, lent, said, proof_after}
+use Rattle.rules.specs.Calls.{Reading, faulty, sound, Outcome, faulted, stopped, decided, read, no_model, concluded, lent, said}
+use Rattle.rules.specs.Calls.{proof_after}
 use Rattle.rules.specs.Calls.{model_after, solve}
 use Rattle.theory_lists.specs.Tests.{split}
 use Rattle.theory_lists.specs.All.{All, all_map}
@@ -43,7 +44,8 @@ module _ (limits : Limits) (p : Problem) (proof model : List ℕ) where
   zeroed-by (ended out_of_steps steps n) h = (refl, refl)
 
   pub stopped-zeroes : LimitMet (answer_of (concluded p (elimination (limited limits) p))) → (proof_after limits
-      (concluded p (elimination (limited limits) p)) proof ≡ replicate (limit.proof_bytes limits) 0 ++ drop (limit.proof_bytes limits) proof)
+      (concluded p (elimination (limited limits) p)) proof ≡ replicate (limit.proof_bytes limits) 0
+      ++ drop (limit.proof_bytes limits) proof)
       × (model_after (concluded p (elimination (limited limits) p)) model ≡ model)
   stopped-zeroes = zeroed-by (elimination (limited limits) p)
 

@@ -138,7 +138,8 @@ module _ (lesser larger : Limits) (less : lesser.steps < larger.steps) where
         ⊎_elim
         (λ same.
         let never : IsRefused refusal.OutOfSteps (answer_of (concluded p our_end)) → ⊥ = λ k. same.1 ((out-of-steps p our_end).1 k) in
-        subst (λ (s : State). AsLarger lesser (left lesser (concluded p our_end) proof model) (left larger (concluded p s) other other_model))
+        subst (λ (s : State). AsLarger lesser (left lesser (concluded p our_end) proof model)
+        (left larger (concluded p s) other other_model))
         same.0
         (record {
           out_of_steps = (λ k. absurd (never k), λ k. absurd (omega (arith, reported-lines p our_end, k)));

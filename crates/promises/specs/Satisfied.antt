@@ -40,7 +40,8 @@ module _ (p : Problem) (w : WellFormed p) (stops : Stops) (steps : List Step) (n
       (all-mapped Formed (λ x. x.line) steps (all_map (λ x. Sound x.line) (λ x. Formed x.line) steps (λ x h. h.formed) s))
       (all-mapped ProperLine (λ x. x.line) steps (all_map (λ x. Sound x.line) (λ x. ProperLine x.line) steps (λ x h. h.proper) s))
       (all-mapped (λ l. T (not (is_empty l))) (λ x. x.line) steps (subst EndsRight e (elimination-ends stops (order_of p) (loadable_of p))))
-      (all-pairs-map Drops Covers drops-covers (lines steps) (order_of p) (elimination-saturated stops (order_of p) (loadable_of p) steps n e))
+      (all-pairs-map Drops Covers drops-covers (lines steps) (order_of p)
+      (elimination-saturated stops (order_of p) (loadable_of p) steps n e))
 
   -- so does every part, which one of them drops
   parts-hold : StepsHold (chosen p steps) (loadable_of p)

@@ -68,7 +68,8 @@ negative_fits = record { steps = (let e : needs (in_edition Second (problem_from
 pub negative-refuted : NoAssignment (in_edition Second (problem_from negative))
 unfolding definitions
 negative-refuted =
-    ((demand3 (record { limits = of_steps 5; edition = Second }) (omega arith) negative (problem_from negative) refl (lent_proof 5) lent_model
+    ((demand3 (record { limits = of_steps 5; edition = Second }) (omega arith) negative (problem_from negative) refl
+    (lent_proof 5) lent_model
     full-five).unsatisfiable negative_fits).0 refl
 
 -- ---- example 5 fits, and the value rule gives a model
@@ -105,7 +106,8 @@ pub ten-does-not-fit : Fits (of_steps 5) (problem_from ten) → ⊥
 unfolding definitions
 ten-does-not-fit = (delivers 5 ten (omega arith) refl full-five).otherwise.0 (inl refl)
 
-pub ten-overflows : first_stop (limited (of_steps 5)) (events (order_of (problem_from ten)) (loadable_of (problem_from ten))) ≡ some overflow
+pub ten-overflows : first_stop (limited (of_steps 5)) (events (order_of (problem_from ten))
+    (loadable_of (problem_from ten))) ≡ some overflow
 unfolding definitions
 ten-overflows = (delivers 5 ten (omega arith) refl full-five).is_overflow.0 refl
 

@@ -55,7 +55,8 @@ module _ {parts : List Step} {proof : List ℕ} {count : ℕ} {i : ℕ} (run : F
       ap (λ (n : ℕ). follow (lines_in proof n)) q
       ∙ sym (ap (λ (n : ℕ). followed parts n (lines_in proof i) (drop (step_bytes * i) proof)) e) ∙ run.same
 
-  module _ (more : i < count) (s : Stated) (states : States (stated_line parts (lines_in proof i) (step_at proof i)) (step_at proof i) s) where
+  module _ (more : i < count) (s : Stated) (states : States (stated_line parts (lines_in proof i) (step_at proof i))
+      (step_at proof i) s) where
     first : followed parts (suc (count - (i + 1))) (lines_in proof i) (drop (step_bytes * i) proof) ≡ followed parts count [] proof
     first = let e : suc (count - (i + 1)) ≡ count - i = omega arith in
         ap (λ (n : ℕ). followed parts n (lines_in proof i) (drop (step_bytes * i) proof)) e ∙ run.same
@@ -80,7 +81,8 @@ module _ {parts : List Step} {proof : List ℕ} {count : ℕ} {i : ℕ} (run : F
       pub following-next : Following parts proof count (i + 1)
       unfolding followed step_at
       following-next =
-          let d : drop step_bytes (drop (step_bytes * i) proof) ≡ drop (step_bytes * (i + 1)) proof = drop-drop step_bytes (step_bytes * i) proof
+          let d : drop step_bytes (drop (step_bytes * i) proof) ≡ drop (step_bytes * (i + 1)) proof =
+          drop-drop step_bytes (step_bytes * i) proof
           ∙ (let z : step_bytes * i + step_bytes ≡ step_bytes * (i + 1) = omega arith in ap (λ (n : ℕ). drop n proof) z) in
           record {
             few = omega arith;

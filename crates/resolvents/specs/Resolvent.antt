@@ -58,5 +58,6 @@ module _ (f : ℕ) (us : List ℤ) (ub : ℤ) (ls : List ℤ) (lb : ℤ) where
       (λ z. relations (λ s. 0 < s → combined (max 2 s) ≡ combination_of f (constraint_of 2 us ub) (constraint_of s ls lb)) s k
       (λ y. absurd (omega arith)) (λ y. refl) (λ y. refl))
 
-pub constraints-agree : {r r' : ℕ} {cs cs' : List ℤ} {b b' : ℤ} → r ≡ r' → cs ≡ cs' → b ≡ b' → constraint_of r cs b ≡ constraint_of r' cs' b'
+pub constraints-agree : {r r' : ℕ} {cs cs' : List ℤ} {b b' : ℤ} → r ≡ r' → cs ≡ cs' → b ≡ b'
+    → constraint_of r cs b ≡ constraint_of r' cs' b'
 constraints-agree p q t = λ i. constraint_of (p i) (q i) (t i)

@@ -20,7 +20,8 @@ use Rattle.steps.specs.Lines.{line_at}
 use Rattle.placing.specs.declared.point.Progress.TheVariants.{Running}
 use Rattle.placing.specs.declared.point.Point.{Point}
 use Rattle.steps.specs.Held.{steps_in}
-use Rattle.placing.specs.Point.{state_of, state_at, Standing, Leads, leads-none, leads-trans, pairs-at, is_running, running-yes, ended-stays}
+use Rattle.placing.specs.Point.{state_of, state_at, Standing, Leads, leads-none, leads-trans, pairs-at, is_running, running-yes}
+use Rattle.placing.specs.Point.{ended-stays}
 use Rattle.placing.specs.Point.{Reaches}
 use Rattle.lines.specs.declared.order.VariableRound.{VariableRound}
 use Rattle.lines.specs.Order.{variable_of, variables_of, Ranged}

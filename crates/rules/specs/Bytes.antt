@@ -1,5 +1,6 @@
 -- "Multi-byte fields are little-endian, amounts signed 32-bit."
-use Rattle.std.specs.Prelude.{cond, List, [], ◌∷◌, ◌++◌, ℕ, zero, suc, ◌+◌, ◌*◌, ◌-◌, ◌/◌, ◌%◌, ℤ, pos, negsuc, ltb, length, replicate, take, drop}
+use Rattle.std.specs.Prelude.{cond, List, [], ◌∷◌, ◌++◌, ℕ, zero, suc, ◌+◌, ◌*◌, ◌-◌, ◌/◌, ◌%◌, ℤ, pos, negsuc, ltb, length, replicate}
+use Rattle.std.specs.Prelude.{take, drop}
 
 -- a number in k bytes, the lowest first, and back
 unfoldable pub to_bytes : ℕ → ℕ → List ℕ

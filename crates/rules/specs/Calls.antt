@@ -1,5 +1,6 @@
 -- What each call says, and what it leaves in the lent buffers: for bytes of every kind and buffers of every length.
-use Rattle.std.specs.Prelude.{Bool, true, false, ◌&&◌, ◌||◌, List, ◌++◌, map, ℕ, ◌-◌, ◌*◌, ◌%◌, eqb, leb, ltb, length, replicate, take, drop}
+use Rattle.std.specs.Prelude.{Bool, true, false, ◌&&◌, ◌||◌, List, ◌++◌, map, ℕ, ◌-◌, ◌*◌, ◌%◌, eqb, leb, ltb, length, replicate, take}
+use Rattle.std.specs.Prelude.{drop}
 use Rattle.std.proofs.Math.Option.{none, some}
 use Rattle.rules_types.specs.declared.answers.Refusal.{Refusal}
 use Rattle.rules_types.specs.declared.answers.Refusal.TheVariants as refusal

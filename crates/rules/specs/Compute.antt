@@ -3,7 +3,8 @@ use Rattle.std.specs.Prelude.{List, [], map, ℕ, ◌+◌, ◌*◌, ℤ, get_or}
 use Rattle.rules_types.specs.declared.answers.Verdict.TheVariants.{Satisfiable, Unsatisfiable, Unwritten}
 use Rattle.rules_types.specs.declared.answers.Answer.TheVariants.{Decided}
 use Rattle.rules_types.specs.declared.answers.Solved.{Solved}
-use Rattle.rules_types.specs.Answers.{refusal_number, verdict_number, answer_number, answer_value, checked_number, checked_value, evidence_number}
+use Rattle.rules_types.specs.Answers.{refusal_number, verdict_number, answer_number, answer_value, checked_number, checked_value}
+use Rattle.rules_types.specs.Answers.{evidence_number}
 use Rattle.rules_types.specs.Answers.{evidence_length}
 use Rattle.rules_types.specs.Layout as layout
 use Rattle.rules_types.specs.declared.terms.Terms.{Terms}
@@ -36,7 +37,8 @@ use Rattle.rules.specs.Checker.{followed_lines, ends_empty, with_empty_end, chec
 use Rattle.rules.specs.Calls.{Outcome, faulted, stopped, decided, within_splits, read, no_model, concluded, outcome, lent, said}
 use Rattle.rules.specs.Calls.{proof_after, model_after, solve, whole_steps, proof_checked, model_checked, in_named, solve_in}
 use Rattle.rules.specs.Calls.{proof_checked_in, model_checked_in, evidence, evidence_bytes}
-use Rattle.rules.specs.Print.{ascii, digits_within, decimal, signed_decimal, print_line, print_step, print_proof, print_model, print_refusal}
+use Rattle.rules.specs.Print.{ascii, digits_within, decimal, signed_decimal, print_line, print_step, print_proof, print_model}
+use Rattle.rules.specs.Print.{print_refusal}
 use Rattle.rules.specs.Print.{printed}
 use Rattle.rules.specs.Needs.{steps_of, pairs_of, needs, listed, tried_resolvents, round_resolvents, resolvents}
 
@@ -50,15 +52,21 @@ unfolding any all filter concat same tabulate put gcd_within gcd gcd_all lcm sum
     all_splits no_booleans including excluding union meet some_yes a_literal_holds
     the_constraint_holds line_holds coefficient positively negatively contains no_constraint is_empty subset members_of reduced settled
     settled_all normal_clause settled_line normal_line chain parts parts_of splits_of over_split combination combination_of one_of resolvent
-    resolve header header_bytes relation_byte mask row line_bytes encode_step encode_proof step_at order_by remaining rationals_after order_after
+    resolve header header_bytes relation_byte mask row line_bytes encode_step encode_proof step_at order_by remaining rationals_after
+    order_after
     round_of
-    overflows limited unlimited placed as_tight drops covered select pair_up side_of round_pairs part_steps loadable loadable_of add load tried
-    try_all without count cost_of cost cheapest pick rounds eliminate chosen_rounds other_rounds chosen_run elimination order_of reduce quotient
+    overflows limited unlimited placed as_tight drops covered select pair_up side_of round_pairs part_steps loadable loadable_of add load
+    tried
+    try_all without count cost_of cost cheapest pick rounds eliminate chosen_rounds other_rounds chosen_run elimination order_of reduce
+    quotient
     less midpoint plus beyond tighter value bound_of bounds_of gather tightest rational_value without_boolean boolean_value with_rational
-    with_boolean assign exceeds start walk_from walk occurs is_open boolean_byte is_boolean_byte encode_model too_large written model pairable
-    derived variable_named resolvent_named line_among stated_line followed followed_lines ends_empty with_empty_end check_proof check_clauses
+    with_boolean assign exceeds start walk_from walk occurs is_open boolean_byte is_boolean_byte encode_model too_large written model
+    pairable
+    derived variable_named resolvent_named line_among stated_line followed followed_lines ends_empty with_empty_end check_proof
+    check_clauses
     within_splits read no_model
-    concluded outcome lent said proof_after model_after solve whole_steps proof_checked model_checked edition_named in_named solve_in proof_checked_in
+    concluded outcome lent said proof_after model_after solve whole_steps proof_checked model_checked edition_named in_named solve_in
+    proof_checked_in
     model_checked_in evidence evidence_bytes ascii digits_within decimal signed_decimal print_line print_step print_proof print_model
     print_refusal printed steps_of pairs_of needs listed tried_resolvents
     round_resolvents resolvents refusal_number verdict_number answer_number answer_value checked_number checked_value evidence_number

@@ -20,7 +20,8 @@ use Rattle.rules.specs.Compute.{definitions}
 
 unfoldable abbrev conversions : Unit {0}
 unfolding definitions bytes_of amount_fields relation_field comparison_fields comparisons_fields literal_fields literals_fields
-    comparison_list_fields clause_fields header_fields fields_of literal_meant comparison_meant clause_meant clauses_meant meaning negative_alone
+    comparison_list_fields clause_fields header_fields fields_of literal_meant comparison_meant clause_meant clauses_meant meaning
+    negative_alone
     is_upper sole_bound kept_by kept place_of turned split_row split_comparison split_clause split_problem literal_code relation_code
     written_comparison written_clause written_as carried_over carried_over_bytes over_rationals converted_into convert carried_numerator
     carried_back first_beyond carried_into read_carried carry_back
@@ -36,7 +37,8 @@ keeps b r clauses = elim (read (problem_of b r clauses)) [ faulty f place ↦ []
 
 -- -x ≤ 0, -7x < 0, -x ≤ -3: each keeps x
 pub bounded-kept :
-    map (λ c. keeps 0 1 (alone c ∷ [])) (at_most (minus ∷ []) (pos 0) ∷ below (negsuc 6 ∷ []) (pos 0) ∷ at_most (minus ∷ []) (negsuc 2) ∷ [])
+    map (λ c. keeps 0 1 (alone c ∷ [])) (at_most (minus ∷ []) (pos 0) ∷ below (negsuc 6 ∷ []) (pos 0) ∷ at_most (minus ∷ []) (negsuc 2)
+    ∷ [])
     ≡ replicate 3 (true ∷ [])
 unfolding conversions
 bounded-kept = refl

@@ -126,7 +126,8 @@ pub others-refused : map (λ e. solve_in limit.standard e [] (7 ∷ []) (9 ∷ [
 unfolding definitions
 others-refused = refl
 
-pub others-unchecked : map (λ e. proof_checked_in limit.standard e [] []) others ++ map (λ e. model_checked_in limit.standard e [] []) others
+pub others-unchecked : map (λ e. proof_checked_in limit.standard e [] []) others
+    ++ map (λ e. model_checked_in limit.standard e [] []) others
     ≡ replicate 10 (Refused refusal.Edition 0)
 unfolding definitions
 others-unchecked = refl

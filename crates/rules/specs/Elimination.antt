@@ -1,5 +1,6 @@
 -- The elimination ("the course"): loading, then a round ("turn") for each variable, to its end or to the first event that ends it.
-use Rattle.std.specs.Prelude.{Bool, true, false, not, ◌&&◌, ◌||◌, List, [], ◌∷◌, ◌++◌, map, ℕ, zero, suc, ◌+◌, ◌*◌, ℤ, pos, ◌-ℤ◌, eqb, leb, length, drop}
+use Rattle.std.specs.Prelude.{Bool, true, false, not, ◌&&◌, ◌||◌, List, [], ◌∷◌, ◌++◌, map, ℕ, zero, suc, ◌+◌, ◌*◌, ℤ, pos, ◌-ℤ◌, eqb, leb}
+use Rattle.std.specs.Prelude.{length, drop}
 use Rattle.std.proofs.Math.Option.{Option, none, some}
 use Rattle.std.specs.Int.Signed.{lt_z}
 use Rattle.rules_types.specs.declared.limits.Limits.{Limits}
@@ -186,7 +187,8 @@ module _ (stops : Stops) where
   unfoldable pub rounds : List Variable → ℕ → List Variable → State → State
   rounds variables t [] state = state
   rounds variables t (v ∷ vs) (ended e steps n) = ended e steps n
-  rounds variables t (v ∷ vs) (running steps n) = rounds variables (suc t) vs (try_all v (round_pairs variables v t steps) (running steps n))
+  rounds variables t (v ∷ vs) (running steps n) = rounds variables (suc t) vs
+      (try_all v (round_pairs variables v t steps) (running steps n))
 
   -- in a given order
   unfoldable pub eliminate : List Variable → List Step → State

@@ -1,5 +1,6 @@
 -- The problem ("the question"): what it consists of, and its bytes read field by field to the first fault 4 to 12 or 18 with its place.
-use Rattle.std.specs.Prelude.{Bool, true, false, not, cond, ◌&&◌, ◌||◌, List, [], ◌∷◌, ◌++◌, ℕ, zero, suc, ◌+◌, ◌*◌, ◌-◌, ◌%◌, ℤ, pos, nat_abs, eqb, leb, ltb, replicate}
+use Rattle.std.specs.Prelude.{Bool, true, false, not, cond, ◌&&◌, ◌||◌, List, [], ◌∷◌, ◌++◌, ℕ, zero, suc, ◌+◌, ◌*◌, ◌-◌, ◌%◌, ℤ, pos}
+use Rattle.std.specs.Prelude.{nat_abs, eqb, leb, ltb, replicate}
 use Rattle.rules_types.specs.declared.answers.Refusal.{Refusal}
 use Rattle.rules_types.specs.declared.answers.Refusal.TheVariants as refusal
 use Rattle.rules_types.specs.declared.terms.Edition.{Edition}

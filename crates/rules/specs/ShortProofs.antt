@@ -117,9 +117,11 @@ abbrev a : Booleans
 a = including 0 no_booleans
 
 pub by-a-mark : call 1 (problem_of 1 1 (alone (at_most (pos 1 ∷ []) (pos 1)) ∷ clause_of (0 ∷ []) [] ∷ clause_of (128 ∷ []) [] ∷ []))
-    (step (loaded 0 0) (up_to (pos 1) (pos 0) (pos 1)) ∷ step (loaded 2 0) (by_mark no_booleans a) ∷ step (loaded 1 0) (by_mark a no_booleans)
+    (step (loaded 0 0) (up_to (pos 1) (pos 0) (pos 1)) ∷ step (loaded 2 0) (by_mark no_booleans a)
+    ∷ step (loaded 1 0) (by_mark a no_booleans)
     ∷ step (resolved (boolean 0) 2 1) empty ∷ [])
-    ≡ short (step (loaded 2 0) (by_mark no_booleans a) ∷ step (loaded 1 0) (by_mark a no_booleans) ∷ step (resolved (boolean 0) 1 0) empty ∷ [])
+    ≡ short (step (loaded 2 0) (by_mark no_booleans a) ∷ step (loaded 1 0) (by_mark a no_booleans) ∷ step (resolved (boolean 0) 1 0) empty
+    ∷ [])
 unfolding trimmings
 by-a-mark = refl
 
@@ -160,7 +162,8 @@ then-length = refl
 -- the first line that fails, edition 2's clause in edition 1 too; the line count if the end is not empty
 pub then-checked :
     map (call 1 three)
-    ((first ∷ end 0 1 ∷ second ∷ []) ∷ (first ∷ step (loaded 3 0) (up_to minus (pos 0) (pos 0)) ∷ end 0 1 ∷ []) ∷ (first ∷ second ∷ []) ∷ [])
+    ((first ∷ end 0 1 ∷ second ∷ []) ∷ (first ∷ step (loaded 3 0) (up_to minus (pos 0) (pos 0)) ∷ end 0 1 ∷ []) ∷ (first ∷ second ∷ [])
+    ∷ [])
     ≡ untouched (Fails 1 ∷ Fails 1 ∷ Fails 2 ∷ [])
 unfolding trimmings
 then-checked = refl

@@ -93,7 +93,8 @@ unfolding definitions
 equal-as-written = refl
 
 -- (i), "the second's pieces numbered on": of x = 5; x ≤ 4, where -x ≤ -5 is part 1 and not 0
-pub numbered-on : map (λ part. proof_check (problem_of 0 1 (alone (equals (pos 1 ∷ []) (pos 5)) ∷ alone (at_most (pos 1 ∷ []) (pos 4)) ∷ []))
+pub numbered-on : map (λ part. proof_check (problem_of 0 1 (alone (equals (pos 1 ∷ []) (pos 5)) ∷ alone (at_most (pos 1 ∷ []) (pos 4))
+    ∷ []))
     (encode_proof (step_of (loaded 0 part) (negsuc 0) (negsuc 4) ∷ step_of (loaded 1 0) (pos 1) (pos 4)
     ∷ record {
       origin = resolved (rational 0) 1 0;

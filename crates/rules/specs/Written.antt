@@ -1,5 +1,6 @@
 -- The problem as written: every field as it stands, whatever its number, before any is tested; its bytes; and what it means.
-use Rattle.std.specs.Prelude.{Bool, false, not, cond, ◌&&◌, ◌||◌, List, [], ◌∷◌, ◌++◌, map, ℕ, ◌+◌, ◌-◌, ◌%◌, pos, eqb, leb, ltb, length, replicate}
+use Rattle.std.specs.Prelude.{Bool, false, not, cond, ◌&&◌, ◌||◌, List, [], ◌∷◌, ◌++◌, map, ℕ, ◌+◌, ◌-◌, ◌%◌, pos, eqb, leb, ltb, length}
+use Rattle.std.specs.Prelude.{replicate}
 use Rattle.rules_types.specs.declared.answers.Refusal.{Refusal}
 use Rattle.rules_types.specs.declared.answers.Refusal.TheVariants as refusal
 use Rattle.rules_types.specs.Limits as limit

@@ -50,7 +50,8 @@ module _ (bytes : List ℕ) where
   step c k l = record { origin = loaded c k; line = l }
 
   -- ---- one step
-  numbers : (c k : ℕ) (l : Line) → c < most_steps → k < most_steps → T (same eqb (encode_step (step c k l)) bytes) → (clause ≡ c) × (part ≡ k)
+  numbers : (c k : ℕ) (l : Line) → c < most_steps → k < most_steps → T (same eqb (encode_step (step c k l)) bytes) → (clause ≡ c)
+      × (part ≡ k)
   unfolding header
   numbers c k l h i t =
       let e = same-yes eqb eqb→eq (encode_step (step c k l)) bytes t in

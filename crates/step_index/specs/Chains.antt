@@ -29,7 +29,8 @@ pub any_some : (t : ℕ → Bool) (n : ℕ) → T (any_below t n) → Some t n
 unfolding any_below
 any_some t zero h = absurd h
 any_some t (suc n) h = ⊎_elim (λ x. record { at = n; below = omega arith; passes = x })
-    (λ x. let s = any_some t n x in record { at = s.at; below = omega (arith, s.below); passes = s.passes }) (or_yes (t n) (any_below t n) h)
+    (λ x. let s = any_some t n x in record { at = s.at; below = omega (arith, s.below); passes = s.passes })
+    (or_yes (t n) (any_below t n) h)
 
 pub some-any : (t : ℕ → Bool) (n i : ℕ) → i < n → T (t i) → T (any_below t n)
 unfolding any_below

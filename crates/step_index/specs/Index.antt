@@ -7,7 +7,8 @@ use borrow.Author.Tests.{eqb-true, eqb-false, lt-ltb, le-ltb, ltb-false, le-leb,
 use Rattle.std.proofs.Math.Dec.{ltb}
 use Rattle.std.proofs.lemmas.List.{length-replicate, get_or-replicate}
 use Rattle.std.proofs.Math.Seq.{get_or-set_other}
-use Rattle.step_index.specs.Chains.{any_below-none, newest, newest-own, newest-other, newest-within, newest-same, OnChain, on_chain, found, found-newest, found-next}
+use Rattle.step_index.specs.Chains.{any_below-none, newest, newest-own, newest-other, newest-within, newest-same, OnChain, on_chain, found}
+use Rattle.step_index.specs.Chains.{found-newest, found-next}
 
 -- ---- what the arrays hold
 -- the link of step i, in the first array or the second
@@ -63,7 +64,8 @@ indexed-none key =
     }
 
 -- the keys of the first n steps are all that it is about
-pub indexed-same : {heads low high : List ℕ} {key : ℕ → ℕ} {n : ℕ} → Indexed heads low high key n → (key' : ℕ → ℕ) → ((i : ℕ) → i < n → key i ≡ key' i) → Indexed heads low high key' n
+pub indexed-same : {heads low high : List ℕ} {key : ℕ → ℕ} {n : ℕ} → Indexed heads low high key n → (key' : ℕ → ℕ)
+    → ((i : ℕ) → i < n → key i ≡ key' i) → Indexed heads low high key' n
 indexed-same {key = key} {n = n} x key' e =
     record {
       heads-long = x.heads-long;
@@ -83,7 +85,8 @@ module _ {heads low high : List ℕ} {key : ℕ → ℕ} {n k : ℕ} (own : key 
           let same : k ≡ j = sym own ∙ eqb-true (key n) j e in
           let one : n + 1 ≡ suc n = omega arith in
           rw (newest-own key j n e, ← same) (get_or-set_same heads k (n + 1) 0 (omega (arith, x.heads-long)) ∙ one)
-      by false e = get_or-set_other heads k j (n + 1) 0 (λ s. eqb-false (key n) j e (own ∙ sym s)) ∙ x.head j h ∙ sym (newest-other key j n e)
+      by false e = get_or-set_other heads k j (n + 1) 0 (λ s. eqb-false (key n) j e (own ∙ sym s)) ∙ x.head j h
+          ∙ sym (newest-other key j n e)
 
   -- from what the links are after the store
   extended : (low' high' : List ℕ) → length low' ≡ length low → length high' ≡ length high → link_at low' high' n ≡ get_or heads k 0
@@ -94,7 +97,8 @@ module _ {heads low high : List ℕ} {key : ℕ → ℕ} {n k : ℕ} (own : key 
         low-long = a ∙ x.low-long;
         high-long = b ∙ x.high-long;
         head = head_more;
-        link = λ i h. below_more (λ i. link_at low' high' i ≡ newest key i (key i)) n (λ i l. there i l ∙ x.link i l) (here ∙ x.head k small ∙ ap (newest key n) (sym own)) i (omega arith);
+        link = λ i h. below_more (λ i. link_at low' high' i ≡ newest key i (key i)) n (λ i l. there i l ∙ x.link i l)
+            (here ∙ x.head k small ∙ ap (newest key n) (sym own)) i (omega arith);
       }
 
   pub extended-low : n < 512 → Indexed (set heads k (n + 1)) (set low n (get_or heads k 0)) high key (suc n)
@@ -102,7 +106,8 @@ module _ {heads low high : List ℕ} {key : ℕ → ℕ} {n k : ℕ} (own : key 
   extended-low h =
       extended (set low n (get_or heads k 0)) high (length-set low n (get_or heads k 0)) refl
       (rw (lt-ltb n 512 h) (get_or-set_same low n (get_or heads k 0) 0 (omega (arith, x.low-long))))
-      (λ i l. ap (λ (a : ℕ). cond (ltb i 512) a (get_or high (i - 512) 0)) (get_or-set_other low n i (get_or heads k 0) 0 (λ e. absurd (omega arith))))
+      (λ i l. ap (λ (a : ℕ). cond (ltb i 512) a (get_or high (i - 512) 0))
+      (get_or-set_other low n i (get_or heads k 0) 0 (λ e. absurd (omega arith))))
 
   pub extended-high : 512 ≤ n → n < 1024 → Indexed (set heads k (n + 1)) low (set high (n - 512) (get_or heads k 0)) key (suc n)
   unfolding link_at
@@ -111,9 +116,11 @@ module _ {heads low high : List ℕ} {key : ℕ → ℕ} {n k : ℕ} (own : key 
       (rw (le-ltb n 512 h) (get_or-set_same high (n - 512) (get_or heads k 0) 0 (omega (arith, x.high-long))))
       (λ i l. by i l (ltb i 512) refl)
     where
-      by : (i : ℕ) → i < n → (b : Bool) → ltb i 512 ≡ b → cond b (get_or low i 0) (get_or (set high (n - 512) (get_or heads k 0)) (i - 512) 0) ≡ cond b (get_or low i 0) (get_or high (i - 512) 0)
+      by : (i : ℕ) → i < n → (b : Bool) → ltb i 512 ≡ b → cond b (get_or low i 0)
+          (get_or (set high (n - 512) (get_or heads k 0)) (i - 512) 0) ≡ cond b (get_or low i 0) (get_or high (i - 512) 0)
       by i l true e = refl
-      by i l false e = let m : 512 ≤ i = ltb-false i 512 e in get_or-set_other high (n - 512) (i - 512) (get_or heads k 0) 0 (λ e. absurd (omega arith))
+      by i l false e = let m : 512 ≤ i = ltb-false i 512 e in get_or-set_other high (n - 512) (i - 512) (get_or heads k 0) 0
+          (λ e. absurd (omega arith))
 
 -- ---- a search along the chain of key k: what is known at a link
 pub record Searched (key : ℕ → ℕ) (k : ℕ) (test : ℕ → Bool) (n link : ℕ) : Type 0 where
@@ -123,14 +130,16 @@ pub record Searched (key : ℕ → ℕ) (k : ℕ) (test : ℕ → Bool) (n link 
 
 module _ {heads low high : List ℕ} {key : ℕ → ℕ} {n : ℕ} (x : Indexed heads low high key n) (k : ℕ) (test : ℕ → Bool) where
   pub search-first : {link : ℕ} → k < 512 → link ≡ get_or heads k 0 → Searched key k test n link
-  search-first {link} h e = subst (Searched key k test n) (sym (e ∙ x.head k h)) (record { within = newest-within key k n; on = on_chain key k n; left = found-newest key k test n })
+  search-first {link} h e = subst (Searched key k test n) (sym (e ∙ x.head k h))
+      (record { within = newest-within key k n; on = on_chain key k n; left = found-newest key k test n })
 
   module _ {link : ℕ} (s : Searched key k test n link) where
     module _ (i : ℕ) (e : link ≡ suc i) where
       at : found key k test n ≡ test i || found key k test (link_at low high i)
       at =
           let own : key i ≡ k = s.on i e in
-          s.left ∙ ap (found key k test) e ∙ found-next key k test i own ∙ ap (λ (m : ℕ). test i || found key k test m) (sym (x.link i (omega (arith, s.within)) ∙ ap (newest key i) own))
+          s.left ∙ ap (found key k test) e ∙ found-next key k test i own
+          ∙ ap (λ (m : ℕ). test i || found key k test m) (sym (x.link i (omega (arith, s.within)) ∙ ap (newest key i) own))
 
       -- step i passes, or what is left decides
       pub search-found : test i ≡ true → found key k test n ≡ true

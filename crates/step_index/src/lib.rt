@@ -1,6 +1,6 @@
-// An index of a proof's steps: those of one key in a chain, the newest first. `heads` has the newest step of each key; `low` and `high` have
-// with each step the next older one of its key. A link is a step's number and 1; 0 is none. No array is over 1,024 bytes, so the links of
-// the first 1,024 steps stand in two; later steps are not held.
+// An index of a proof's steps: those of one key in a chain, the newest first. `heads` has the newest step of each key; `low` and `high`
+// have with each step the next older one of its key. A link is a step's number and 1; 0 is none. No array is over 1,024 bytes, so the
+// links of the first 1,024 steps stand in two; later steps are not held.
 #![tactic(auto)]
 
 ghost use Rattle.std.specs.Prelude.{◌≡◌, ◌<◌, get_or};

@@ -87,12 +87,14 @@ encoded-is h l k n p q =
     let la : length a ≡ step_relation = length-header_bytes h in
     let lb : length b ≡ step_coefficients - step_relation = length-literal_bytes l.relation l.positive l.negative in
     let lr : length (l.coefficients ++ (l.bound ∷ [])) ≡ rationals + 1 = rw length-append (omega arith) in
-    let lc : length c ≡ step_zeros - step_coefficients = length-amount_bytes (l.coefficients ++ (l.bound ∷ [])) ∙ ap (λ (k : ℕ). 4 * k) lr in
+    let lc : length c ≡ step_zeros - step_coefficients = length-amount_bytes (l.coefficients ++ (l.bound ∷ []))
+    ∙ ap (λ (k : ℕ). 4 * k) lr in
     let lab : length (a ++ b) ≡ step_coefficients = rw length-append (omega arith) in
     let lx : length x ≡ step_zeros = length-append (a ++ b) c ∙ omega arith in
     let i : ◌≡◌ {A = ℕ} step_relation (step_how + length a) = omega arith in
     let j : ◌≡◌ {A = ℕ} step_coefficients (step_how + length (a ++ b)) = omega arith in
-    let first : stored step_relation b (stored step_how a z) ≡ stored step_how (a ++ b) z = ap (λ (k : ℕ). stored k b (stored step_how a z)) i
+    let first : stored step_relation b (stored step_how a z) ≡ stored step_how (a ++ b) z =
+    ap (λ (k : ℕ). stored k b (stored step_how a z)) i
     ∙ stored-++ step_how a b z (omega arith) in
     let second : stored step_coefficients c (stored step_how (a ++ b) z) ≡ stored step_how x z =
     ap (λ (k : ℕ). stored k c (stored step_how (a ++ b) z)) j

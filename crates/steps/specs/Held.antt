@@ -1,6 +1,7 @@
 -- The steps that a proof's bytes hold: a step's origin and line come back from its bytes, and one is put behind the others.
 use Rattle.std.specs.Prelude.{◌≡◌, refl, List, [], ◌∷◌, ◌++◌, map, ℕ, zero, suc, ◌+◌, ◌*◌, ◌≤◌, ◌<◌, length, take, drop}
-use Rattle.std.proofs.Common.{sym, subst, ◌∙◌, append_assoc, append-nil, arith, below_more, take_at, drop_at, take-take, take-add, length-take-le}
+use Rattle.std.proofs.Common.{sym, subst, ◌∙◌, append_assoc, append-nil, arith, below_more, take_at, drop_at, take-take, take-add}
+use Rattle.std.proofs.Common.{length-take-le}
 use Rattle.std.proofs.Math.Path.{ap}
 use Rattle.rules_types.specs.Limits.{step_bytes, rationals}
 use Rattle.rules_types.specs.Layout.{step_how, step_which, step_first, step_second}
@@ -124,7 +125,8 @@ module _ (before after : List ℕ) (n : ℕ) (same : take (step_bytes * n) after
 
   pub steps_in-same : steps_in after n ≡ steps_in before n
   unfolding steps_in
-  steps_in-same = tabulate-cong n (λ i. step_from (step_at after i)) (λ i. step_from (step_at before i)) (λ i h. ap step_from (step_at-same i h))
+  steps_in-same = tabulate-cong n (λ i. step_from (step_at after i)) (λ i. step_from (step_at before i))
+      (λ i h. ap step_from (step_at-same i h))
 
   pub held_same : Held before n → Held after n
   held_same h = record { room = omega arith; steps = λ i k. subst StepBytes (sym (step_at-same i k)) (h.steps i k) }

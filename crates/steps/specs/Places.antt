@@ -56,10 +56,12 @@ module _ (i : ℕ) (front : List ℕ) (n : length front ≡ step_bytes * i) wher
   stored-behind bytes rest = rw (← n, take-append_seam front rest, drop-append-add front rest (length bytes))
 
   pub zeroed-behind : (to : ℕ) (rest : List ℕ)
-      → zeroed i to (front ++ rest) ≡ front ++ replicate (step_bytes * to - step_bytes * i) 0 ++ drop (step_bytes * to - step_bytes * i) rest
+      → zeroed i to (front ++ rest) ≡ front ++ replicate (step_bytes * to - step_bytes * i) 0
+      ++ drop (step_bytes * to - step_bytes * i) rest
   zeroed-behind to rest =
       let zeros = replicate {A = ℕ} (step_bytes * to - step_bytes * i) 0 in
-      stored-behind zeros rest ∙ ap (λ (k : ℕ). front ++ zeros ++ drop k rest) (length-replicate {A = ℕ} (step_bytes * to - step_bytes * i) 0)
+      stored-behind zeros rest ∙ ap (λ (k : ℕ). front ++ zeros ++ drop k rest)
+      (length-replicate {A = ℕ} (step_bytes * to - step_bytes * i) 0)
 
 -- ---- a step that was put
 module _ (i : ℕ) (bytes s : List ℕ) (w : length bytes ≡ step_bytes) (h : HasStep s i) where

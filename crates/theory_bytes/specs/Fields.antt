@@ -16,7 +16,12 @@ pub field_at-1 : (at : ℕ) (s : List ℕ) → at < length s → field_at at 1 s
 field_at-1 at s h = omega (arith, field_at-next at 0 s h, field_at-none (at + 1) s)
 
 pub field_at-2 : (at : ℕ) (s : List ℕ) → at + 2 ≤ length s → field_at at 2 s ≡ get_or s at 0 + 256 * get_or s (at + 1) 0
-field_at-2 at s h = omega (arith, field_at-next at 1 s (omega arith), field_at-next (at + 1) 0 s (omega arith), field_at-none (at + 1 + 1) s)
+field_at-2 at s h = omega (
+  arith,
+  field_at-next at 1 s (omega arith),
+  field_at-next (at + 1) 0 s (omega arith),
+  field_at-none (at + 1 + 1) s,
+)
 
 pub field_at-4 : (at : ℕ) (s : List ℕ) → at + 4 ≤ length s
     → field_at at 4 s ≡ get_or s at 0 + 256 * get_or s (at + 1) 0 + 65536 * get_or s (at + 2) 0 + 16777216 * get_or s (at + 3) 0

@@ -40,7 +40,8 @@ unfolding first_beyond
 range-within f zero x e g l m = absurd (omega arith)
 range-within f (suc k) x e g l m = by (in_range (x f)) refl (range-within (suc f) k x)
   where
-    by : (t : Bool) → in_range (x f) ≡ t → (first_beyond (suc f) k x ≡ none → (g : ℕ) → suc f ≤ g → g < suc f + k → Small (x g)) → Small (x g)
+    by : (t : Bool) → in_range (x f) ≡ t → (first_beyond (suc f) k x ≡ none → (g : ℕ) → suc f ≤ g → g < suc f + k → Small (x g))
+        → Small (x g)
     by false q rest = absurd (none-not-some f (rw (q, first_beyond) at e))
     by true q rest = ⊎_elim (λ t. let n = ltb→lt f g t in rest (rw (q, first_beyond) at e) g (omega arith) (omega arith))
         (λ t. let n = nltb→le f g t in let i : f ≡ g = omega arith in rw (← i) ((range_small (x f)).0 (of-true (in_range (x f)) q)))

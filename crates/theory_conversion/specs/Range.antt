@@ -33,7 +33,8 @@ module _ (keeps : ℕ → Bool) (r : ℕ) where
   unfolding place_of
   split_below f h e = omega (arith, rw (e, place_of) at (place_mono keeps (suc f) r h))
 
-  pub carried-small : (x : ℕ → ℤ) → ((i : ℕ) → i < place_of keeps r → Small (x i)) → ((i : ℕ) → i < place_of keeps r → T (le_z (pos 0) (x i)))
+  pub carried-small : (x : ℕ → ℤ) → ((i : ℕ) → i < place_of keeps r → Small (x i))
+      → ((i : ℕ) → i < place_of keeps r → T (le_z (pos 0) (x i)))
       → (f : ℕ) → f < r → Small (carried_numerator keeps x f)
   carried-small x s n f h = by (keeps f) refl
     where

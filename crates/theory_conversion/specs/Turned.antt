@@ -33,8 +33,10 @@ pub turned-fits : (n : ℕ) → FitsAmount n → FitsAmount (turned n)
 unfolding amount_fields turned
 turned-fits n h =
     let z = from_unsigned n in
-    let k = small-neg z (small-amount n h) in
-    ((to_unsigned-< (neg_ℤ z) (small-mag (neg_ℤ z) k), rw (turned-means n h) (is_true (in_range (neg_ℤ z)) ((range_small (neg_ℤ z)).1 k))), tt)
+    let k = small-neg z (small-amount n h) in (
+      (to_unsigned-< (neg_ℤ z) (small-mag (neg_ℤ z) k), rw (turned-means n h) (is_true (in_range (neg_ℤ z)) ((range_small (neg_ℤ z)).1 k))),
+      tt,
+    )
 
 pub zero-neg : (z : ℤ) → is_zero (neg_ℤ z) ≡ is_zero z
 unfolding is_zero

@@ -15,7 +15,8 @@ use Rattle.rules.specs.Lists.{any}
 use Rattle.rules.specs.Problem.{Problem}
 use Rattle.rules.specs.Lines.{Variable, rational}
 use Rattle.rules.specs.Steps.{Step}
-use Rattle.rules.specs.Elimination.{Stops, unlimited, State, running, ended, remaining, order_after, cost, cheapest, pick, Pair, round_pairs}
+use Rattle.rules.specs.Elimination.{Stops, unlimited, State, running, ended, remaining, order_after, cost, cheapest, pick, Pair}
+use Rattle.rules.specs.Elimination.{round_pairs}
 use Rattle.rules.specs.Elimination.{try_all, load, loadable_of, rounds, chosen_rounds, chosen_run, order_of}
 use Rattle.theory_lists.specs.Tests.{of-true, of-false}
 use Rattle.theory_lists.specs.All.{All, all_any, any-yes}

@@ -8,7 +8,8 @@ use Rattle.std.proofs.Math.Option.{Option, none, some}
 use Rattle.rules.specs.Lines.{Line, Variable, is_empty}
 use Rattle.rules.specs.Resolve.{resolve}
 use Rattle.rules.specs.Steps.{Step, resolved}
-use Rattle.rules.specs.Elimination.{Stops, unlimited, End, overflow, out_of_steps, State, running, ended, placed, covered, Pair, round_pairs}
+use Rattle.rules.specs.Elimination.{Stops, unlimited, End, overflow, out_of_steps, State, running, ended, placed, covered, Pair}
+use Rattle.rules.specs.Elimination.{round_pairs}
 use Rattle.rules.specs.Elimination.{add, load, tried, try_all, rounds, eliminate}
 use Rattle.theory_elimination.specs.States.{load-ended, try-ended, rounds-ended}
 use Rattle.theory_elimination.specs.Events.{Event, load_events, resolvent_events, try_events, round_events, events}

@@ -10,7 +10,8 @@ use Rattle.std.proofs.Math.Facts.{and_yes, eqb_yes, not_T}
 use Rattle.rules.specs.Lines.{Line, Variable, positively, negatively}
 use Rattle.rules.specs.Resolve.{resolve}
 use Rattle.rules.specs.Steps.{Step}
-use Rattle.rules.specs.Elimination.{Stops, State, running, ended, Numbered, Pair, round_of, select, side_of, round_pairs, add, tried, try_all}
+use Rattle.rules.specs.Elimination.{Stops, State, running, ended, Numbered, Pair, round_of, select, side_of, round_pairs, add, tried}
+use Rattle.rules.specs.Elimination.{try_all}
 use Rattle.rules.specs.Elimination.{rounds}
 use Rattle.rules.specs.Needs.{steps_of}
 use Rattle.theory_lists.specs.Tests.{is_false}

@@ -10,7 +10,8 @@ use Rattle.std.proofs.Math.Dec.{T}
 use Rattle.rules.specs.Lines.{Line, Variable, is_empty}
 use Rattle.rules.specs.Resolve.{resolve}
 use Rattle.rules.specs.Steps.{Step}
-use Rattle.rules.specs.Elimination.{Stops, End, empty, overflow, out_of_steps, State, running, ended, placed, covered, Pair, round_pairs, add}
+use Rattle.rules.specs.Elimination.{Stops, End, empty, overflow, out_of_steps, State, running, ended, placed, covered, Pair, round_pairs}
+use Rattle.rules.specs.Elimination.{add}
 use Rattle.rules.specs.Elimination.{load, tried, try_all, rounds, eliminate}
 use Rattle.rules.specs.Needs.{steps_of}
 use Rattle.theory_saturation.specs.Rounds.{drop-next}

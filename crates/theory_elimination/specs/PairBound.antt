@@ -16,7 +16,8 @@ use Rattle.rules_types.specs.declared.limits.Limits.{Limits}
 use Rattle.rules.specs.Lines.{Line, Variable, positively, negatively}
 use Rattle.rules.specs.Resolve.{resolve}
 use Rattle.rules.specs.Steps.{Step}
-use Rattle.rules.specs.Elimination.{Stops, limited, State, running, ended, Numbered, Pair, round_of, select, pair_up, side_of, round_pairs, add}
+use Rattle.rules.specs.Elimination.{Stops, limited, State, running, ended, Numbered, Pair, round_of, select, pair_up, side_of, round_pairs}
+use Rattle.rules.specs.Elimination.{add}
 use Rattle.rules.specs.Elimination.{load, tried, try_all, rounds, eliminate}
 use Rattle.rules.specs.Needs.{steps_of, pairs_of}
 use Rattle.theory_lists.specs.All.{All, all_map, append-all, every}

@@ -4,7 +4,9 @@ use Rattle.std.specs.Prelude.{◌≡◌, ℤ, pos, neg_ℤ, ◌+ℤ◌, ◌-ℤ�
 use Rattle.std.proofs.Common.{arith}
 use Rattle.theory_integers.specs.Difference.{v, #, ⊝, ◌⊕◌, ◌⊖◌, ◌⊗◌, ≡-by, ≡-from}
 -- what the kit has, under the names of the rest
-pub use Rattle.std.proofs.Math.IntN.{+ℤ_assoc as +_assoc, +ℤ_comm as +_comm, +ℤ_idl as +-identityˡ, +ℤ_idr as +-identityʳ, +ℤ_invl as +-inverseˡ, +ℤ_invr as +-inverseʳ, neg_ℤ-neg_ℤ as neg-Involutive, neg_ℤ-+ℤ as neg-distrib-+, *ℤ_comm as *-comm, zero-*ℤ as *-zeroˡ, *ℤ-zero as *-zeroʳ}
+pub use Rattle.std.proofs.Math.IntN.{+ℤ_assoc as +_assoc, +ℤ_comm as +_comm, +ℤ_idl as +-identityˡ, +ℤ_idr as +-identityʳ}
+pub use Rattle.std.proofs.Math.IntN.{+ℤ_invl as +-inverseˡ, +ℤ_invr as +-inverseʳ, neg_ℤ-neg_ℤ as neg-Involutive, neg_ℤ-+ℤ as neg-distrib-+}
+pub use Rattle.std.proofs.Math.IntN.{*ℤ_comm as *-comm, zero-*ℤ as *-zeroˡ, *ℤ-zero as *-zeroʳ}
 
 -- ---- sums and products
 pub +-left-comm : (a b c : ℤ) → a +ℤ (b +ℤ c) ≡ b +ℤ (a +ℤ c)

@@ -62,7 +62,8 @@ module _ (bytes : List ℕ) (b r : ℕ) (opens : ℕ → Bool) where
 
   good-before : (place : ℕ) → Good place → (earlier : ℕ) → earlier < place → BadField bytes b r opens earlier → ⊥
   good-before place g earlier l (bad_booleans e n) = n (rw e (g.booleans (omega arith)))
-  good-before place g earlier l (bad_open i h e o n) = n (is-two (opens i) (field_at earlier 1 bytes) (rw e (g.boolean i h (omega arith))) o)
+  good-before place g earlier l (bad_open i h e o n) = n (is-two (opens i) (field_at earlier 1 bytes)
+      (rw e (g.boolean i h (omega arith))) o)
   good-before place g earlier l (bad_boolean i h e o n) =
       let z = is-bit (opens i) (field_at earlier 1 bytes) (rw e (g.boolean i h (omega arith))) o in omega arith
   good-before place g earlier l (bad_rationals e n) = n (rw e (g.rationals (omega arith)))

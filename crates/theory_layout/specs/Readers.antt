@@ -27,7 +27,8 @@ module _ (bytes : List ℕ) (at size to : ℕ) (next : at + size ≡ to) (enough
   number_at = number-reads size (drop at bytes) at (omega (arith, length-drop at bytes))
       ∙ (λ i. got (field_at at size bytes) ((drop-drop size at bytes ∙ ap (λ (n : ℕ). drop n bytes) next) i) (next i))
 
-  pub field-good : T (good (field_at at size bytes)) → field size good f (drop at bytes) at ≡ got (field_at at size bytes) (drop to bytes) to
+  pub field-good : T (good (field_at at size bytes)) → field size good f (drop at bytes) at ≡ got (field_at at size bytes)
+      (drop to bytes) to
   unfolding field after tested
   field-good t = rw (number_at, is_true (good (field_at at size bytes)) t)
 

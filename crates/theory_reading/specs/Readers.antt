@@ -7,7 +7,8 @@ use Rattle.rules.specs.Lists.{concat}
 use Rattle.rules.specs.Bytes.{to_bytes, from_unsigned}
 use Rattle.rules.specs.Problem.{Clause, Problem, after, return, number, field, amount, literal}
 use Rattle.rules.specs.Problem.{is_relation, relation_of, is_equality, relation, comparison, comparisons, clause, end, problem}
-use Rattle.rules.specs.Written.{bytes_of, WrittenClause, WrittenProblem, amount_fields, relation_field, comparison_fields, comparisons_fields}
+use Rattle.rules.specs.Written.{bytes_of, WrittenClause, WrittenProblem, amount_fields, relation_field, comparison_fields}
+use Rattle.rules.specs.Written.{comparisons_fields}
 use Rattle.rules.specs.Written.{literal_fields, literals_fields, comparison_list_fields, clause_fields, header_fields, fields_of}
 use Rattle.rules.specs.Written.{literal_meant, comparison_meant, clause_meant, clauses_meant}
 use Rattle.theory_lists.specs.All.{All, every}

@@ -24,7 +24,8 @@ passes k [] start h e = absurd (let z : ◌≡◌ {A = ℕ} 0 1 = cc in omega ar
 passes k (c ∷ cs) start h e =
     let L = ltb limit.splits (k + splits_of c) in
     ⊎_elim (λ t. now (ltb→lt limit.splits (k + splits_of c) t) (rw (is_true L t, over_split) at e))
-    (λ t. let n = nltb→le limit.splits (k + splits_of c) t in later (passes (k + splits_of c) cs start n (rw (is_false L t, over_split) at e)))
+    (λ t. let n = nltb→le limit.splits (k + splits_of c) t in later
+    (passes (k + splits_of c) cs start n (rw (is_false L t, over_split) at e)))
     (split L)
   where
     now : limit.splits < k + splits_of c → some c.start ≡ some start → Passing k (c ∷ cs) start

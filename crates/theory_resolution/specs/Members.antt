@@ -89,9 +89,11 @@ yes-union (a ∷ s) (b ∷ t) f =
     rw (yes-union s t (λ i. f (suc i))) (and-or-both a b (f 0) (some_yes s (λ i. f (suc i))) (some_yes t (λ i. f (suc i))))
 
 -- two sets under each of two assignments: the literals of two lines
-pub unions-yes : (s t s' t' : Booleans) (f g : ℕ → Bool) → some_yes (union s t) f || some_yes (union s' t') g ≡ (some_yes s f || some_yes s' g)
+pub unions-yes : (s t s' t' : Booleans) (f g : ℕ → Bool) → some_yes (union s t) f
+    || some_yes (union s' t') g ≡ (some_yes s f || some_yes s' g)
     || (some_yes t f || some_yes t' g)
-unions-yes s t s' t' f g = rw (yes-union s t f, yes-union s' t' g) (or-or-comm (some_yes s f) (some_yes t f) (some_yes s' g) (some_yes t' g))
+unions-yes s t s' t' f g = rw (yes-union s t f, yes-union s' t' g)
+    (or-or-comm (some_yes s f) (some_yes t f) (some_yes s' g) (some_yes t' g))
 
 pub none-yes : (f : ℕ → Bool) → some_yes no_booleans f ≡ false
 unfolding some_yes no_booleans

@@ -23,7 +23,8 @@ abbrev pub Proper : Option Constraint → Type 0
 Proper none = Unit {0}
 Proper (some c) = T (not (all is_zero c.coefficients))
 
-quotients-zero : (g : ℕ) (cs : List ℤ) → 0 < g → ((i : ℕ) → g ∣ nat_abs (get_or cs i (pos 0))) → all is_zero (quotients g cs) ≡ all is_zero cs
+quotients-zero : (g : ℕ) (cs : List ℤ) → 0 < g → ((i : ℕ) → g ∣ nat_abs (get_or cs i (pos 0)))
+    → all is_zero (quotients g cs) ≡ all is_zero cs
 unfolding all
 quotients-zero g [] z d = refl
 quotients-zero g (c ∷ cs) z d = rw (is_zero-quot g c z (d 0), quotients-zero g cs z (λ i. d (suc i)))

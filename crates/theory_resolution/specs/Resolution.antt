@@ -8,7 +8,8 @@ use Rattle.theory_lists.specs.Tests.{split, clash, or_l, or_r, and-noˡ, and-no�
 use Rattle.rules.specs.Arithmetic.{is_positive, is_negative}
 use Rattle.rules.specs.Problem.{Constraint}
 use Rattle.rules.specs.Meaning.{Assignment}
-use Rattle.rules.specs.Lines.{Line, Variable, rational, boolean, excluding, meet, a_literal_holds, the_constraint_holds, line_holds, coefficient}
+use Rattle.rules.specs.Lines.{Line, Variable, rational, boolean, excluding, meet, a_literal_holds, the_constraint_holds, line_holds}
+use Rattle.rules.specs.Lines.{coefficient}
 use Rattle.rules.specs.Lines.{positively, negatively, no_constraint}
 use Rattle.rules.specs.Resolve.{combination, combination_of, one_of, resolvent, resolve}
 use Rattle.rules.specs.Values.{without_boolean}
@@ -46,7 +47,8 @@ abbrev Idle : Assignment → Variable → Line → Type 0
 Idle χ (rational f) l = Unit {0}
 Idle χ (boolean i) l = T (not (has l.positive i && χ.booleans i)) × T (not (has l.negative i && not (χ.booleans i)))
 
-another-literal : (χ : Assignment) (v : Variable) (l : Line) → Idle χ v l → T (a_literal_holds χ l) → T (a_literal_holds χ (without_literal v l))
+another-literal : (χ : Assignment) (v : Variable) (l : Line) → Idle χ v l → T (a_literal_holds χ l)
+    → T (a_literal_holds χ (without_literal v l))
 unfolding without_boolean
 another-literal χ (rational f) l n h = h
 another-literal χ (boolean i) l n h =

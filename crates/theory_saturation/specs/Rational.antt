@@ -11,7 +11,8 @@ use Rattle.std.proofs.Math.Facts.{and_yes, yes_and, or_yes, T_not-not}
 use Rattle.rules.specs.Arithmetic.{is_positive, is_negative, is_zero}
 use Rattle.rules.specs.Problem.{Constraint}
 use Rattle.rules.specs.Meaning.{Assignment, constraint_holds}
-use Rattle.rules.specs.Lines.{Line, rational, a_literal_holds, the_constraint_holds, line_holds, coefficient, positively, negatively, contains}
+use Rattle.rules.specs.Lines.{Line, rational, a_literal_holds, the_constraint_holds, line_holds, coefficient, positively, negatively}
+use Rattle.rules.specs.Lines.{contains}
 use Rattle.rules.specs.Resolve.{combination, combination_of, resolvent}
 use Rattle.rules.specs.Values.{Fraction, bound_of, gather, rational_value, with_rational}
 use Rattle.theory_lists.specs.Tests.{split, clash, or_else, tests_agree}

@@ -122,7 +122,8 @@ module _ (χ : Assignment) where
           ∙ (λ i. (constraint_holds χ (read_as false c) || none-twice false cs (omega arith) i)
           && (constraint_holds χ (read_as true c) || none-twice true cs (omega arith) i))
       by false e h rest =
-          (λ i. comparison_holds χ c || rest (omega arith) i) ∙ or-and_distrib_left (comparison_holds χ c) (as_read false cs) (as_read true cs)
+          (λ i. comparison_holds χ c || rest (omega arith) i) ∙ or-and_distrib_left (comparison_holds χ c) (as_read false cs)
+          (as_read true cs)
           ∙ (λ i. (holds-once false c e i || as_read false cs) && (holds-once true c e i || as_read true cs))
 
   -- ---- a clause

@@ -22,7 +22,8 @@ use Rattle.theory_splitting.specs.PartsForm.{LineForm, parts-form}
 abbrev pub AllHold : Assignment → List Line → Type 0
 AllHold χ ls = All (λ l. T (line_holds χ l)) ls
 
-chosen-from : (χ : Assignment) (k : ℕ) (o : Option Normal) → DroppedOr (NormalForm (λ i. i < k)) o → k + normal_splits o ≤ limit.all_booleans
+chosen-from : (χ : Assignment) (k : ℕ) (o : Option Normal) → DroppedOr (NormalForm (λ i. i < k)) o
+    → k + normal_splits o ≤ limit.all_booleans
     → DroppedOr (λ n. T (normal_holds χ n)) o
     → Chosen χ k (k + normal_splits o) (λ ψ. AllHold ψ (normal_parts k o))
 chosen-from χ k none f z h = chosen-same χ k (k + 0) (λ ψ. AllHold ψ []) tt

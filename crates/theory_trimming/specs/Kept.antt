@@ -46,7 +46,8 @@ module _ (proof : List ℕ) (keeps : ℕ → Bool) where
   length-now : (k : ℕ) → limit.step_bytes * suc k ≤ length proof → length (now k) ≡ limit.step_bytes
   length-now k h = length-renumbered (count_below keeps) (step_at proof k) (length-step_at proof k h)
 
-  pub length-kept : (k : ℕ) → limit.step_bytes * k ≤ length proof → length (kept_steps proof keeps k) ≡ limit.step_bytes * count_below keeps k
+  pub length-kept : (k : ℕ) → limit.step_bytes * k ≤ length proof
+      → length (kept_steps proof keeps k) ≡ limit.step_bytes * count_below keeps k
   unfolding kept_steps count_below
   length-kept zero h = refl
   length-kept (suc k) h =

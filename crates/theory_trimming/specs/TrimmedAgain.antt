@@ -69,10 +69,12 @@ module _ {limits : Limits} {proof : List ℕ} (c : Trimmable limits proof) (most
   parent-again : (i j : ℕ) → T (needed proof i) → Parent proof i j → Parent short (number_of proof i) (number_of proof j)
   parent-again i j t (r, p) = (
     rw (how-same c i t) r,
-    ⊎_elim (λ e. inl (first-number c i t r most ∙ ap (number_of proof) e)) (λ e. inr (second-number c i t r most ∙ ap (number_of proof) e)) p,
+    ⊎_elim (λ e. inl (first-number c i t r most ∙ ap (number_of proof) e))
+        (λ e. inr (second-number c i t r most ∙ ap (number_of proof) e)) p,
   )
 
-  generations-again : (d j : ℕ) → Generations proof (step_count proof - 1) d j → Generations short (step_count short - 1) d (number_of proof j)
+  generations-again : (d j : ℕ) → Generations proof (step_count proof - 1) d j
+      → Generations short (step_count short - 1) d (number_of proof j)
   generations-again zero j e =
       let z : step_count short - 1 ≡ number_of proof (step_count proof - 1) = omega (arith, trimmed-count c, last-number c) in
       z ∙ ap (number_of proof) e

@@ -40,7 +40,8 @@ module _ (i : ℕ) (us : List ℤ) (β : ℤ) (ls : List ℤ) (γ : ℤ) where
 
   pub combination-holds : {s t : Bool} (x : ℕ → ℤ) (d : ℤ) → T (is_positive a) → T (is_negative (get_or ls i (pos 0))) → Holds s us β x d
       → Holds t ls γ x d → Holds (s || t) (combine c us a ls) (c *ℤ β +ℤ a *ℤ γ) x d
-  combination-holds x d p n h k = combine-holds c us β a ls γ x d (pos-mono-< (0<abs-negative (get_or ls i (pos 0)) n)) (positive-yes a p) h k
+  combination-holds x d p n h k = combine-holds c us β a ls γ x d (pos-mono-< (0<abs-negative (get_or ls i (pos 0)) n))
+      (positive-yes a p) h k
 
   -- where the combination holds, the lower bound (γ × d - the other terms) / -c agrees with the upper one (β × d - the other terms) / a:
   -- the terms of i cancel, and the rest is the two numerators' comparison, crossed
@@ -68,4 +69,5 @@ module _ (i : ℕ) (us : List ℤ) (β : ℤ) (ls : List ℤ) (γ : ℤ) where
       right a c U b g = ≡-by ((v c ⊗ v U ⊕ v a ⊗ v g) ⊕ v c ⊗ (v b ⊖ v U)) (v c ⊗ v b ⊕ v a ⊗ v g) (omega arith)
 
       crossed : (a c U L b g : ℤ) → Rel s (c *ℤ U +ℤ a *ℤ L) (c *ℤ b +ℤ a *ℤ g) → Rel s (a *ℤ neg_ℤ (g -ℤ L)) (c *ℤ (b -ℤ U))
-      crossed a c U L b g k = rel-+-cancelˡ (c *ℤ U +ℤ a *ℤ g) (a *ℤ neg_ℤ (g -ℤ L)) (c *ℤ (b -ℤ U)) (rw (left a c U L g, right a c U b g) k)
+      crossed a c U L b g k = rel-+-cancelˡ (c *ℤ U +ℤ a *ℤ g) (a *ℤ neg_ℤ (g -ℤ L)) (c *ℤ (b -ℤ U))
+          (rw (left a c U L g, right a c U b g) k)

@@ -1,5 +1,6 @@
 -- A linear constraint at the point x / d: its meaning when it is scaled or divided, and when one variable gets a new value.
-use Rattle.std.specs.Prelude.{◌≡◌, refl, Bool, not, ◌↔◌, List, [], ◌∷◌, map, ℕ, zero, suc, ◌*◌, ◌<◌, ℤ, pos, nat_abs, ◌+ℤ◌, ◌-ℤ◌, ◌*ℤ◌, ◌<ℤ◌, T, length, get_or, set}
+use Rattle.std.specs.Prelude.{◌≡◌, refl, Bool, not, ◌↔◌, List, [], ◌∷◌, map, ℕ, zero, suc, ◌*◌, ◌<◌, ℤ, pos, nat_abs, ◌+ℤ◌, ◌-ℤ◌, ◌*ℤ◌}
+use Rattle.std.specs.Prelude.{◌<ℤ◌, T, length, get_or, set}
 use Rattle.std.proofs.Common.{sym, ap, ◌∙◌, mul-one, arith}
 use Rattle.std.specs.Int.{◌∣◌}
 use Rattle.std.proofs.Math.Nat.{mul-div_cancel', eq_of_mul-eq-mul_left}

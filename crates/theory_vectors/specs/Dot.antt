@@ -1,5 +1,6 @@
 -- Sums of coefficient × value. A coefficient that is not there counts as 0, so no law asks for a length.
-use Rattle.std.specs.Prelude.{◌≡◌, refl, List, [], ◌∷◌, ℕ, zero, suc, ◌+◌, ◌*◌, ◌≤◌, max, ℤ, pos, nat_abs, ◌+ℤ◌, ◌*ℤ◌, T, length, get_or, set}
+use Rattle.std.specs.Prelude.{◌≡◌, refl, List, [], ◌∷◌, ℕ, zero, suc, ◌+◌, ◌*◌, ◌≤◌, max, ℤ, pos, nat_abs, ◌+ℤ◌, ◌*ℤ◌, T, length, get_or}
+use Rattle.std.specs.Prelude.{set}
 use Rattle.std.proofs.Common.{sym, ap, ◌∙◌, arith}
 use Rattle.std.proofs.Math.Facts.{and_yes}
 use Rattle.theory_integers.specs.Ring.{ring, +-identityˡ, *-zeroˡ, *-zeroʳ}

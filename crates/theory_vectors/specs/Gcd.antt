@@ -2,7 +2,8 @@
 use Rattle.std.specs.Prelude.{◌≡◌, refl, not, List, [], ◌∷◌, ℕ, zero, suc, ◌*◌, ◌/◌, ◌%◌, ◌≤◌, ◌<◌, ℤ, pos, nat_abs, T, get_or}
 use Rattle.std.proofs.Common.{sym, ◌∙◌, ⊎_elim, mod-lt, mul-one, arith}
 use Rattle.std.specs.Int.{◌∣◌}
-use Rattle.std.proofs.Math.Nat.{dvd_refl, dvd-zero, dvd_trans, dvd-mod_iff, dvd_antisymm, dvd-mul_left, dvd-mul_right, mul-dvd-mul_left, dvd_of_mul-dvd-mul_left, mul-div_cancel', pos_of_dvd_of_pos, eq_of_mul-eq-mul_left}
+use Rattle.std.proofs.Math.Nat.{dvd_refl, dvd-zero, dvd_trans, dvd-mod_iff, dvd_antisymm, dvd-mul_left, dvd-mul_right, mul-dvd-mul_left}
+use Rattle.std.proofs.Math.Nat.{dvd_of_mul-dvd-mul_left, mul-div_cancel', pos_of_dvd_of_pos, eq_of_mul-eq-mul_left}
 use Rattle.std.proofs.Math.Facts.{and_no}
 use Rattle.rules.specs.Lists.{all}
 use Rattle.rules.specs.Arithmetic.{gcd_within, gcd, gcd_all, is_zero}
@@ -122,7 +123,8 @@ pub gcd_all-nonzero : (zs : List ℤ) → T (not (all is_zero zs)) → 0 < gcd_a
 unfolding all gcd_all
 gcd_all-nonzero [] h = absurd h
 gcd_all-nonzero (z ∷ zs) h =
-    ⊎_elim (λ k. gcd-positiveˡ (nat_abs z) (gcd_all zs) (0<abs-nonzero z k)) (λ k. gcd-positiveʳ (nat_abs z) (gcd_all zs) (gcd_all-nonzero zs k))
+    ⊎_elim (λ k. gcd-positiveˡ (nat_abs z) (gcd_all zs) (0<abs-nonzero z k))
+    (λ k. gcd-positiveʳ (nat_abs z) (gcd_all zs) (gcd_all-nonzero zs k))
     (and_no (is_zero z) (all is_zero zs) h)
 
 -- of a bound and coefficients

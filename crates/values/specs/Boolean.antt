@@ -11,7 +11,8 @@ use Rattle.values.specs.Round.{own, any-filter}
 
 -- of its round, with it positive, and nothing else that holds
 unfoldable pub forces : List Variable → Assignment → ℕ → Line → Bool
-forces variables χ i l = eqb (round_of variables l) (boolean_round i) && (positively (boolean i) l && not (line_holds χ (without_boolean i l)))
+forces variables χ i l = eqb (round_of variables l) (boolean_round i)
+    && (positively (boolean i) l && not (line_holds χ (without_boolean i l)))
 
 pub value-is : (variables : List Variable) (χ : Assignment) (i : ℕ) (ls : List Line)
     → any (forces variables χ i) ls ≡ boolean_value χ i (own variables (boolean_round i) ls)

@@ -39,7 +39,8 @@ module _ (l : Line) (k : Shaped l) (current : RationalRound) (h : ScheduledRatio
       by : (r : ℕ) → l.relation ≡ r → 0 < l.relation
       by (suc r) e = omega arith
       by zero e =
-          let z : a ≡ pos 0 = ap (λ (cs : List ℤ). get_or cs f (pos 0)) (k.coefficients e) ∙ get_or-replicate-same limit.rationals f (pos 0) in
+          let z : a ≡ pos 0 = ap (λ (cs : List ℤ). get_or cs f (pos 0)) (k.coefficients e)
+          ∙ get_or-replicate-same limit.rationals f (pos 0) in
           absurd (omega (arith, round-coefficient, ap nat_abs z))
 
   -- it is an upper bound, or else a lower one

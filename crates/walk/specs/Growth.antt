@@ -1,5 +1,6 @@
 -- What is too large stays too large: the common denominator becomes a multiple of itself, and the numerators grow with it.
-use Rattle.std.specs.Prelude.{◌≡◌, Bool, ◌||◌, List, ◌∷◌, ℕ, zero, suc, ◌*◌, ◌/◌, ◌≤◌, ◌<◌, ℤ, pos, nat_abs, ◌*ℤ◌, eqb, length, get_or, drop}
+use Rattle.std.specs.Prelude.{◌≡◌, Bool, ◌||◌, List, ◌∷◌, ℕ, zero, suc, ◌*◌, ◌/◌, ◌≤◌, ◌<◌, ℤ, pos, nat_abs, ◌*ℤ◌, eqb, length, get_or}
+use Rattle.std.specs.Prelude.{drop}
 use Rattle.std.proofs.Math.Path.{refl}
 use Rattle.std.proofs.Common.{ap, subst, ◌∙◌, le-mul_of_pos_right, arith, drop-cons}
 use Rattle.std.proofs.Math.Bool.{true, false, or-true}

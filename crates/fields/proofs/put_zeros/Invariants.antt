@@ -10,7 +10,8 @@ use Rattle.fields.specs.Filled.{zeros-none, zeros-more}
 use Rattle.fields.proofs.put_zeros.Given as goal
 
 abbrev pub invariant-loop-j : goal.invariant-loop-j
-invariant-loop-j l = (l.from ≤ l.j) × (l.j ≤ l.to) × (length l.s ≡ length l.initial.s) × (l.s ≡ stored l.from (replicate (l.j - l.from) 0) l.initial.s)
+invariant-loop-j l = (l.from ≤ l.j) × (l.j ≤ l.to) × (length l.s ≡ length l.initial.s)
+    × (l.s ≡ stored l.from (replicate (l.j - l.from) 0) l.initial.s)
 
 abbrev pub decreases-loop-j : goal.decreases-loop-j
 decreases-loop-j l = l.to - l.j

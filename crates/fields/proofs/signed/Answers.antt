@@ -30,4 +30,5 @@ overflow_sub-result c =
 pub returns : goal.returns
 returns c =
     let n = c.args.n in
-    rw (widened n c.requires, from_unsigned-minus n c.if-n-lt2147483648.false c.requires) (to_z-of_z (high_fits n c.if-n-lt2147483648.false))
+    rw (widened n c.requires, from_unsigned-minus n c.if-n-lt2147483648.false c.requires)
+    (to_z-of_z (high_fits n c.if-n-lt2147483648.false))

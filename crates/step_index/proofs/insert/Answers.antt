@@ -14,9 +14,15 @@ returns-then-i-ge-STEPS c =
 pub returns-then-i-lt512 : goal.returns-then-i-lt512
 returns-then-i-lt512 c =
     let i = c.args.i in
-    record { more = λ key own x. rw (held_all (suc i) (omega arith)) (extended-low own (omega arith) (rw (held_all i (omega arith)) at x) (omega arith)) }
+    record {
+      more = λ key own x. rw (held_all (suc i) (omega arith))
+          (extended-low own (omega arith) (rw (held_all i (omega arith)) at x) (omega arith));
+    }
 
 pub returns-else-i-lt512 : goal.returns-else-i-lt512
 returns-else-i-lt512 c =
     let i = c.args.i in
-    record { more = λ key own x. rw (held_all (suc i) (omega arith)) (extended-high own (omega arith) (rw (held_all i (omega arith)) at x) (omega arith) (omega arith)) }
+    record {
+      more = λ key own x. rw (held_all (suc i) (omega arith))
+          (extended-high own (omega arith) (rw (held_all i (omega arith)) at x) (omega arith) (omega arith));
+    }

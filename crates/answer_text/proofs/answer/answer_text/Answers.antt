@@ -35,4 +35,7 @@ returns c =
     let a = c.put_solved.ensures in
     let k = c.put_solved.result in
     let bytes = c.put_solved.new.out in
-    record { out_after = taken a ∙ (told (goal.at.returns c).After-solve_within-solved).is; prefix_len = (within a, sym (length-take-le k bytes (within a))) }
+    record {
+      out_after = taken a ∙ (told (goal.at.returns c).After-solve_within-solved).is;
+      prefix_len = (within a, sym (length-take-le k bytes (within a)));
+    }

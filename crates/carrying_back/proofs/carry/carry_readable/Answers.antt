@@ -11,8 +11,6 @@ use Rattle.carrying_back.specs.Carry.{gives, NewRationals, gives-many, gives-sho
 use Rattle.carrying_back.specs.Carry.{gives-done}
 use Rattle.carrying_back.proofs.carry.carry_readable.Goals as goal
 use Rattle.carrying_back.proofs.carry.carry_readable.Goals.{After-place_of-r, After-read_model-new}
-use Rattle.carrying_back.proofs.carry.carry_readable.Goals.{then-bytes-lt-MODEL_BYTES-via-then-bytes-lt-MODEL_BYTES}
-use Rattle.carrying_back.proofs.carry.carry_readable.Goals.{then-bytes-lt-MODEL_BYTES-via-else-bytes-lt-MODEL_BYTES+then-target-lt-MODEL_BYTES}
 
 -- how many rational variables the new problem has
 new-rationals : (p : After-place_of-r) → NewRationals p.args.input.now p.args.sizes (inside p.gather-mask.result.mask) p.place_of-r.result
@@ -20,16 +18,21 @@ new-rationals p =
     record { given = p.requires; masked = p.gather-mask.ensures.mask; count = p.place_of-r.ensures }
 
 pub returns-then-r-gt-RATIONALS : goal.returns-then-r-gt-RATIONALS
-returns-then-r-gt-RATIONALS c = record { value = (gives (gives-many (new-rationals (goal.at.returns-then-r-gt-RATIONALS c).After-place_of-r) _ _ c.if-r-gt-RATIONALS.true)).0; target_after = (gives (gives-many (new-rationals (goal.at.returns-then-r-gt-RATIONALS c).After-place_of-r) _ _ c.if-r-gt-RATIONALS.true)).1 }
+returns-then-r-gt-RATIONALS c = record {
+  value = (gives (gives-many
+      (new-rationals (goal.at.returns-then-r-gt-RATIONALS c).After-place_of-r) _ _ c.if-r-gt-RATIONALS.true)).0;
+  target_after =
+      (gives (gives-many (new-rationals (goal.at.returns-then-r-gt-RATIONALS c).After-place_of-r) _ _ c.if-r-gt-RATIONALS.true)).1;
+}
 
 pub returns-then-bytes-lt-MODEL_BYTES : goal.returns-then-bytes-lt-MODEL_BYTES
 returns-then-bytes-lt-MODEL_BYTES c =
     let new = new-rationals (goal.at.returns-then-bytes-lt-MODEL_BYTES c).After-place_of-r in
     elim c.then-bytes-lt-MODEL_BYTES.branch [
-      | then-bytes-lt-MODEL_BYTES-via-then-bytes-lt-MODEL_BYTES w ↦
+      | goal.then-bytes-lt-MODEL_BYTES-via-then-bytes-lt-MODEL_BYTES w ↦
           let t = gives (gives-short new _ _ c.if-r-gt-RATIONALS.false w.if-bytes-lt-MODEL_BYTES.true) in
           record { value = t.0; target_after = t.1 }
-      | then-bytes-lt-MODEL_BYTES-via-else-bytes-lt-MODEL_BYTES+then-target-lt-MODEL_BYTES w ↦
+      | goal.then-bytes-lt-MODEL_BYTES-via-else-bytes-lt-MODEL_BYTES+then-target-lt-MODEL_BYTES w ↦
           let t = gives (gives-no-room new _ _ c.if-r-gt-RATIONALS.false w.if-bytes-lt-MODEL_BYTES.false w.if-target-lt-MODEL_BYTES.true) in
           record { value = t.0; target_after = t.1 }
     ]
@@ -57,7 +60,11 @@ returns-then-not-new c =
     record { value = t.0; target_after = t.1 }
 
 pub carried-back-requires : goal.carried-back-requires
-carried-back-requires c = record { r_le_rationals = c.requires.parsed.rationals; r_bound = omega (arith, c.place_of-r.ensures, c.if-r-gt-RATIONALS.false); amounts = c.read_model-new.ensures.numerators }
+carried-back-requires c = record {
+  r_le_rationals = c.requires.parsed.rationals;
+  r_bound = omega (arith, c.place_of-r.ensures, c.if-r-gt-RATIONALS.false);
+  amounts = c.read_model-new.ensures.numerators;
+}
 
 pub returns-then-not-back : goal.returns-then-not-back
 returns-then-not-back c =
@@ -66,7 +73,12 @@ returns-then-not-back c =
     record { value = t.0; target_after = t.1 }
 
 pub write_model-requires : goal.write_model-requires
-write_model-requires c = record { model_bytes_in_bounds = room (goal.at.write_model-requires c).After-read_model-new; b_le_booleans = c.requires.parsed.booleans; r_le_rationals = c.requires.parsed.rationals; amounts = c.carried-back.ensures.small }
+write_model-requires c = record {
+  model_bytes_in_bounds = room (goal.at.write_model-requires c).After-read_model-new;
+  b_le_booleans = c.requires.parsed.booleans;
+  r_le_rationals = c.requires.parsed.rationals;
+  amounts = c.carried-back.ensures.small;
+}
 
 pub returns : goal.returns
 returns c =

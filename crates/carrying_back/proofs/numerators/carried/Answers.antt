@@ -28,11 +28,16 @@ numerator-is : (c : After-numerator-z) → to_z w64 (of_z w64 c.numerator-z.resu
 numerator-is c = to_z-of_z {w = w64} (sfits_of c.numerator-z.type_inv) ∙ c.numerator-z.ensures
 
 pub numerator-z-requires : goal.numerator-z-requires
-numerator-z-requires c = record { kept_bound = halves-within c.loop-f.invariant.2 c.args.r c.loop-f-test.true _ (is-kept c) c.requires.r_bound; amounts = c.requires.amounts }
+numerator-z-requires c = record {
+  kept_bound = halves-within c.loop-f.invariant.2 c.args.r c.loop-f-test.true _
+      (is-kept c) c.requires.r_bound;
+  amounts = c.requires.amounts;
+}
 
 pub returns-then-not-in_range : goal.returns-then-not-in_range
 returns-then-not-in_range c =
-    carried-bad c.loop-f.invariant.2 c.args.r c.loop-f-test.true _ (is-kept (goal.at.returns-then-not-in_range c).After-member) _ (numerator-is (goal.at.returns-then-not-in_range c).After-numerator-z)
+    carried-bad c.loop-f.invariant.2 c.args.r c.loop-f-test.true _ (is-kept (goal.at.returns-then-not-in_range c).After-member) _
+    (numerator-is (goal.at.returns-then-not-in_range c).After-numerator-z)
     (sym c.in_range.ensures ∙ c.if-not-in_range.true)
 
 pub overflow_add-at : goal.overflow_add-at
@@ -44,7 +49,8 @@ pub loop-f-preserved : goal.loop-f-preserved
 loop-f-preserved c = (
   omega (arith, c.loop-f-test.true),
   length-set c.loop-f.out c.loop-f.f (to_z w64 (of_z w64 c.numerator-z.result)) ∙ c.loop-f.invariant.1,
-  carried-more c.loop-f.invariant.2 c.args.r c.loop-f-test.true _ (is-kept (goal.at.loop-f-preserved c).After-member) _ (numerator-is (goal.at.loop-f-preserved c).After-numerator-z)
+  carried-more c.loop-f.invariant.2 c.args.r c.loop-f-test.true _ (is-kept (goal.at.loop-f-preserved c).After-member) _
+      (numerator-is (goal.at.loop-f-preserved c).After-numerator-z)
       (sym c.in_range.ensures ∙ c.if-not-in_range.false)
       (omega (arith, c.loop-f.invariant.1, c.loop-f-test.true, c.requires.r_le_rationals)) _ c.halves.ensures,
 )

@@ -32,12 +32,19 @@ ordered s =
     (taken-ordered taken (taken_more s.args.r limit.rationals taken s.requires.r_le_rationals s.requires.taken))
 
 pub counted-counts-requires : goal.counted-counts-requires
-counted-counts-requires c = record { held = c.requires.held; m_le_most_steps = c.requires.m_le_most_steps; t_le_rationals = omega arith; ordered = ordered (goal.at.counted-counts-requires c).Start }
+counted-counts-requires c = record {
+  held = c.requires.held;
+  m_le_most_steps = c.requires.m_le_most_steps;
+  t_le_rationals = omega arith;
+  ordered = ordered (goal.at.counted-counts-requires c).Start;
+}
 
 -- the counts are small
 few : (c : After-counted-counts) → Within limit.most_steps c.counted-counts.result
-few c f k =
-    (omega (arith, (c.counted-counts.ensures.within f k).0, c.requires.m_le_most_steps), omega (arith, (c.counted-counts.ensures.within f k).1, c.requires.m_le_most_steps))
+few c f k = (
+  omega (arith, (c.counted-counts.ensures.within f k).0, c.requires.m_le_most_steps),
+  omega (arith, (c.counted-counts.ensures.within f k).1, c.requires.m_le_most_steps),
+)
 
 -- the cost of what stands at place j
 module _ (c : After-counted-counts) where
@@ -57,15 +64,21 @@ pub rational-requires : goal.rational-requires
 rational-requires c = record { ordered = ordered (goal.at.rational-requires c).Start; t_lt_rationals = omega arith }
 
 pub cost-least-requires : goal.cost-least-requires
-cost-least-requires c = record { f_lt_rationals = c.rational.ensures.upper_bound; within = few (goal.at.cost-least-requires c).After-counted-counts }
+cost-least-requires c = record {
+  f_lt_rationals = c.rational.ensures.upper_bound;
+  within = few (goal.at.cost-least-requires c).After-counted-counts;
+}
 
 pub loop-j-init : goal.loop-j-init
 loop-j-init c = (
-  looked-first c.args.order.rationals c.args.t c.requires.rationals_value (row (goal.at.loop-j-init c).Start) c.args.r c.requires.r_le_rationals
+  looked-first c.args.order.rationals c.args.t c.requires.rationals_value
+      (row (goal.at.loop-j-init c).Start) c.args.r c.requires.r_le_rationals
       c.requires.t_lt_r
       c.requires.taken (steps_in c.args.proof.now c.args.m),
   to_z-of_z {w = w64} (sfits_of c.cost-least.type_inv)
-      ∙ priced (goal.at.loop-j-init c).After-counted-counts c.args.t c.rational.result c.cost-least.result c.rational.ensures.value c.rational.ensures.upper_bound
+      ∙ priced
+      (goal.at.loop-j-init c).After-counted-counts c.args.t c.rational.result c.cost-least.result c.rational.ensures.value
+      c.rational.ensures.upper_bound
       c.cost-least.ensures,
 )
 
@@ -73,20 +86,26 @@ pub rational-requires-in-loop-j : goal.rational-requires-in-loop-j
 rational-requires-in-loop-j c = record { ordered = ordered (goal.at.rational-requires-in-loop-j c).Start; t_lt_rationals = omega arith }
 
 pub cost-cost-requires : goal.cost-cost-requires
-cost-cost-requires c = record { f_lt_rationals = c.rational-in-loop-j.ensures.upper_bound; within = few (goal.at.cost-cost-requires c).After-counted-counts }
+cost-cost-requires c = record {
+  f_lt_rationals = c.rational-in-loop-j.ensures.upper_bound;
+  within = few (goal.at.cost-cost-requires c).After-counted-counts;
+}
 
 -- the comparison of the two words, as one of costs
 module _ (c : After-cost-cost) where
   here : c.cost-cost.result ≡ price (goal.at.After-cost-cost c).After-counted-counts c.loop-j.j
   here =
       let r = c.rational-in-loop-j in
-      priced (goal.at.After-cost-cost c).After-counted-counts c.loop-j.j r.result c.cost-cost.result r.ensures.value r.ensures.upper_bound c.cost-cost.ensures
+      priced
+      (goal.at.After-cost-cost c).After-counted-counts c.loop-j.j r.result c.cost-cost.result r.ensures.value r.ensures.upper_bound
+      c.cost-cost.ensures
 
   word : to_z w64 (of_z w64 c.cost-cost.result) ≡ price (goal.at.After-cost-cost c).After-counted-counts c.loop-j.j
   word = to_z-of_z {w = w64} (sfits_of c.cost-cost.type_inv) ∙ here
 
   compared : lt_z (to_z w64 (of_z w64 c.cost-cost.result)) (to_z w64 c.loop-j.least-bits)
-      ≡ lt_z (price (goal.at.After-cost-cost c).After-counted-counts c.loop-j.j) (price (goal.at.After-cost-cost c).After-counted-counts c.loop-j.best)
+      ≡ lt_z (price (goal.at.After-cost-cost c).After-counted-counts c.loop-j.j)
+      (price (goal.at.After-cost-cost c).After-counted-counts c.loop-j.best)
   compared = λ i. lt_z (word i) (c.loop-j.invariant.1 i)
 
 pub loop-j-preserved : goal.loop-j-preserved
@@ -119,13 +138,17 @@ loop-j-preserved c =
 
 pub moved-requires : goal.moved-requires
 moved-requires c =
-    let l = c.loop-j in record { to_le_from = l.invariant.0.from; from_lt_rationals = omega (arith, l.invariant.0.before, l.invariant.0.within) }
+    let l = c.loop-j in record {
+      to_le_from = l.invariant.0.from;
+      from_lt_rationals = omega (arith, l.invariant.0.before, l.invariant.0.within);
+    }
 
 pub returns : goal.returns
 returns c =
     let l = c.loop-j in
     let e : l.j ≡ c.args.r = omega (arith, l.invariant.0.within) in
     c.moved.ensures
-    ∙ looked-last c.args.order.rationals c.args.t c.requires.rationals_value (row (goal.at.returns c).Start) c.args.r c.requires.r_le_rationals
+    ∙ looked-last c.args.order.rationals c.args.t c.requires.rationals_value
+    (row (goal.at.returns c).Start) c.args.r c.requires.r_le_rationals
     c.requires.t_lt_r
     c.requires.taken (steps_in c.args.proof.now c.args.m) l.best (rw e at l.invariant.0)

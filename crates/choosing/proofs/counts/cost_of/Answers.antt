@@ -37,11 +37,22 @@ pub overflow_mul-result : goal.overflow_mul-result
 overflow_mul-result c = rw (widened (u c) c.requires.u_le_most_steps, widened (l c) c.requires.l_le_most_steps) (product c)
 
 pub overflow_sub-result : goal.overflow_sub-result
-overflow_sub-result c = rw (widened (u c) c.requires.u_le_most_steps, widened (l c) c.requires.l_le_most_steps, to_z-of_z (product c)) (less c)
+overflow_sub-result c = rw (widened (u c) c.requires.u_le_most_steps, widened (l c) c.requires.l_le_most_steps, to_z-of_z (product c))
+    (less c)
 
 pub overflow_sub-result-2 : goal.overflow_sub-result-2
-overflow_sub-result-2 c = rw (widened (u c) c.requires.u_le_most_steps, widened (l c) c.requires.l_le_most_steps, to_z-of_z (product c), to_z-of_z (less c)) (all c)
+overflow_sub-result-2 c = rw (
+  widened (u c) c.requires.u_le_most_steps,
+  widened (l c) c.requires.l_le_most_steps,
+  to_z-of_z (product c),
+  to_z-of_z (less c),
+) (all c)
 
 pub returns : goal.returns
 unfolding cost_of
-returns c = rw (widened (u c) c.requires.u_le_most_steps, widened (l c) c.requires.l_le_most_steps, to_z-of_z (product c), to_z-of_z (less c)) (to_z-of_z (all c))
+returns c = rw (
+  widened (u c) c.requires.u_le_most_steps,
+  widened (l c) c.requires.l_le_most_steps,
+  to_z-of_z (product c),
+  to_z-of_z (less c),
+) (to_z-of_z (all c))

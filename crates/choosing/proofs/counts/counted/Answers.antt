@@ -43,7 +43,11 @@ round-requires c = record { shaped = shaped c; ordered = c.requires.ordered }
 pub with-counts-requires : goal.with-counts-requires
 with-counts-requires c =
     let taken = take c.args.t c.args.order.rationals in
-    let few = counted-within taken c.args.proof.now c.loop-i.i c.loop-i.counts c.loop-i.invariant.1 in record { shaped = shaped (goal.at.with-counts-requires c).After-line_at-line; within = λ f k. (omega (arith, (few f k).0, c.requires.m_le_most_steps), omega (arith, (few f k).1, c.requires.m_le_most_steps)) }
+    let few = counted-within taken c.args.proof.now c.loop-i.i c.loop-i.counts c.loop-i.invariant.1 in
+    record {
+      shaped = shaped (goal.at.with-counts-requires c).After-line_at-line;
+      within = λ f k. (omega (arith, (few f k).0, c.requires.m_le_most_steps), omega (arith, (few f k).1, c.requires.m_le_most_steps));
+    }
 
 -- the line's round, and that of what it stands for
 line-round : (c : After-round) → let a = c.args in
@@ -65,11 +69,19 @@ loop-i-preserved c =
       elim c.if-round-t.branch [
         | then-round-t w ↦ subst⁻¹ (Counted (take t fs) (steps_in proof (i + 1))) w.counts-is (rw (add-one i)
             (counted-line (take t fs) proof i c.loop-i.counts w.with-counts.result
-            (untaken-yes fs t m few (omega (arith, w.if-round-t.true, line-round (goal.at.loop-i-preserved c).After-round))) c.loop-i.invariant.1
+            (untaken-yes fs t m few (omega (
+              arith,
+              w.if-round-t.true,
+              line-round (goal.at.loop-i-preserved c).After-round,
+            ))) c.loop-i.invariant.1
             (rw c.line_at-line.ensures at w.with-counts.ensures)))
         | else-round-t w ↦ subst⁻¹ (Counted (take t fs) (steps_in proof (i + 1))) w.counts-is (rw (add-one i)
             (counted-past (take t fs) proof i c.loop-i.counts
-            (untaken-no fs t m few (omega (arith, w.if-round-t.false, line-round (goal.at.loop-i-preserved c).After-round))) c.loop-i.invariant.1))
+            (untaken-no fs t m few (omega (
+              arith,
+              w.if-round-t.false,
+              line-round (goal.at.loop-i-preserved c).After-round,
+            ))) c.loop-i.invariant.1))
       ],
     )
 
@@ -78,4 +90,5 @@ returns c =
     let l = c.loop-i in
     let e : l.i ≡ c.args.m = omega arith in
     let taken = take c.args.t c.args.order.rationals in
-    let all : Counted taken (steps_in c.args.proof.now c.args.m) l.counts = rw e at l.invariant.1 in record { within = counted-within taken c.args.proof.now c.args.m l.counts all; counted = all }
+    let all : Counted taken (steps_in c.args.proof.now c.args.m) l.counts = rw e at l.invariant.1 in
+    record { within = counted-within taken c.args.proof.now c.args.m l.counts all; counted = all }

@@ -12,7 +12,8 @@ count_place-place-requires c =
     count-within c.args.input.now c.args.r c.args.at c.requires.at_in_bounds
 
 -- the count of comparisons is in the slice, behind the clause's first byte
-inside-place : (c : After-count_place-place) → (c.count_place-place.result < length c.args.input.now) × (c.args.at < c.count_place-place.result)
+inside-place : (c : After-count_place-place) → (c.count_place-place.result < length c.args.input.now)
+    × (c.args.at < c.count_place-place.result)
 inside-place c = (
   omega (arith, c.count_place-place.ensures, count-within c.args.input.now c.args.r c.args.at c.requires.at_in_bounds),
   omega (arith, c.count_place-place.ensures, count_of-is c.args.input.now c.args.at),
@@ -22,7 +23,11 @@ pub overflow_add-from : goal.overflow_add-from
 overflow_add-from c = omega (arith, (inside-place c).0, c.well_formed)
 
 pub slice_bounds-put_bytes-count : goal.slice_bounds-put_bytes-count
-slice_bounds-put_bytes-count c = omega (arith, (inside-place (goal.at.slice_bounds-put_bytes-count c).After-count_place-place).0, (inside-place (goal.at.slice_bounds-put_bytes-count c).After-count_place-place).1)
+slice_bounds-put_bytes-count c = omega (
+  arith,
+  (inside-place (goal.at.slice_bounds-put_bytes-count c).After-count_place-place).0,
+  (inside-place (goal.at.slice_bounds-put_bytes-count c).After-count_place-place).1,
+)
 
 pub slice_bounds-put_bytes-start : goal.slice_bounds-put_bytes-start
 slice_bounds-put_bytes-start c = omega (arith, (inside-place (goal.at.slice_bounds-put_bytes-start c).After-count_place-place).1)
@@ -39,15 +44,26 @@ overflow_sub-from c = omega (arith, (inside-place (goal.at.overflow_sub-from c).
 
 pub overflow_add-to : goal.overflow_add-to
 overflow_add-to c =
-    omega (arith, place-fits _ _ _ c.args.out.now _ _ c.requires.at_in_bounds_2 c.requires.at_in_bounds _ c.count_place-place.ensures, c.well_formed)
+    omega (
+      arith,
+      place-fits _ _ _ c.args.out.now _ _ c.requires.at_in_bounds_2 c.requires.at_in_bounds _ c.count_place-place.ensures,
+      c.well_formed,
+    )
 
 pub bounds-input-place : goal.bounds-input-place
 bounds-input-place c = omega (arith, (inside-place (goal.at.bounds-input-place c).After-count_place-place).0)
 
 pub put_comparisons-requires : goal.put_comparisons-requires
-put_comparisons-requires c = record { r_le_rationals = c.requires.r_le_rationals; from_in_bounds = constraints-within c.args.input.now c.args.r c.args.at c.requires.at_in_bounds _ c.count_place-place.ensures; from_in_bounds_2 = rest-fits _ _ _ c.args.out.now _ _ c.requires.at_in_bounds_2 c.requires.at_in_bounds _ c.count_place-place.ensures c.put_bytes.ensures }
+put_comparisons-requires c = record {
+  r_le_rationals = c.requires.r_le_rationals;
+  from_in_bounds = constraints-within c.args.input.now c.args.r c.args.at c.requires.at_in_bounds _ c.count_place-place.ensures;
+  from_in_bounds_2 =
+      rest-fits _ _ _ c.args.out.now _ _ c.requires.at_in_bounds_2 c.requires.at_in_bounds _ c.count_place-place.ensures
+      c.put_bytes.ensures;
+}
 
 pub returns : goal.returns
 returns c =
-    wrote-clause _ _ _ c.args.out.now _ _ c.requires.at_in_bounds_2 c.requires.at_in_bounds _ c.count_place-place.ensures c.put_bytes.ensures
+    wrote-clause _ _ _ c.args.out.now _ _ c.requires.at_in_bounds_2 c.requires.at_in_bounds _ c.count_place-place.ensures
+    c.put_bytes.ensures
     c.put_comparisons.ensures

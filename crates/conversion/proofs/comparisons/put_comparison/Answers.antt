@@ -26,7 +26,8 @@ put_u32-requires c =
     bound-fits _ _ _ c.args.out.now _ _ c.requires.from_in_bounds refl c.put_row-bound.ensures
 
 -- all of it
-wrote : (c : After-slice_known-3-1) → Wrote c.args.out.now c.args.to (split_comparison_at (inside c.args.mask) c.args.input.now c.args.r c.args.from)
+wrote : (c : After-slice_known-3-1) → Wrote c.args.out.now c.args.to
+    (split_comparison_at (inside c.args.mask) c.args.input.now c.args.r c.args.from)
     c.put_u32.new.s (c.put_row-bound.result + 4)
 wrote c =
     wrote-comparison _ _ _ c.args.out.now _ _ c.requires.from_in_bounds refl c.put_row-bound.ensures _

@@ -7,7 +7,15 @@ pub loop-left-init : goal.loop-left-init
 loop-left-init c = filling-start _ (comparison-places _) _ _ _ _ c.requires.from_in_bounds_2
 
 pub put_comparison-next-requires : goal.put_comparison-next-requires
-put_comparison-next-requires c = record { r_le_rationals = c.requires.r_le_rationals; r_in_bounds = omega (arith, filling-within _ (comparison-places _) c.loop-left.invariant c.loop-left-test.true, c.requires.from_in_bounds); from_in_bounds = filling-fits _ (comparison-places _) c.loop-left.invariant c.loop-left-test.true }
+put_comparison-next-requires c = record {
+  r_le_rationals = c.requires.r_le_rationals;
+  r_in_bounds = omega (
+    arith,
+    filling-within _ (comparison-places _) c.loop-left.invariant c.loop-left-test.true,
+    c.requires.from_in_bounds,
+  );
+  from_in_bounds = filling-fits _ (comparison-places _) c.loop-left.invariant c.loop-left-test.true;
+}
 
 pub overflow_add-at : goal.overflow_add-at
 overflow_add-at c =

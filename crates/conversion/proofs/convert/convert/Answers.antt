@@ -11,4 +11,5 @@ convert_readable-requires c =
 
 pub returns-in-Fault : goal.returns-in-Fault
 returns-in-Fault c =
-    let e = convert-fault c.args.input.now c.args.out.now _ _ (sym c.read-scan.ensures ∙ c.in-Fault.is) in record { value = sym (ap (λ (r : Converting). r.converted) e); out_after = sym (ap (λ (r : Converting). r.output) e) }
+    let e = convert-fault c.args.input.now c.args.out.now _ _ (sym c.read-scan.ensures ∙ c.in-Fault.is) in
+    record { value = sym (ap (λ (r : Converting). r.converted) e); out_after = sym (ap (λ (r : Converting). r.output) e) }

@@ -18,7 +18,11 @@ put_u16-requires c =
     rw length-sets (omega (arith, header-fits _ _ _ _ c.args.out.now c.requires.sizes_in_bounds))
 
 pub put_clauses-requires : goal.put_clauses-requires
-put_clauses-requires c = record { r_le_rationals = c.requires.readable.parsed.rationals; from_in_bounds = c.requires.readable.parsed.within; from_in_bounds_2 = rest-fits _ _ _ _ c.args.out.now c.requires.sizes_in_bounds c.put_u16.ensures }
+put_clauses-requires c = record {
+  r_le_rationals = c.requires.readable.parsed.rationals;
+  from_in_bounds = c.requires.readable.parsed.within;
+  from_in_bounds_2 = rest-fits _ _ _ _ c.args.out.now c.requires.sizes_in_bounds c.put_u16.ensures;
+}
 
 pub returns : goal.returns
 returns c =

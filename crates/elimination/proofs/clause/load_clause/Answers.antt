@@ -17,8 +17,10 @@ use Rattle.problem_parts.specs.Parts.{parts_from}
 use Rattle.placing.specs.Point.{running-yes}
 use Rattle.elimination.specs.LoadedParts.{first-few, both-few, clause-once, clause-stays, clause-twice}
 use Rattle.elimination.proofs.clause.load_clause.Goals as goal
-use Rattle.elimination.proofs.clause.load_clause.Goals.{then-not-is_running-via-then-not-is_running, then-not-is_running-via-else-not-is_running+then-not-read_twice}
-use Rattle.elimination.proofs.clause.load_clause.Goals.{After-begin-first, After-count, After-load_parts-p, After-splits-2, Else-not-read_twice, Start}
+use Rattle.elimination.proofs.clause.load_clause.Goals.{then-not-is_running-via-then-not-is_running}
+use Rattle.elimination.proofs.clause.load_clause.Goals.{then-not-is_running-via-else-not-is_running+then-not-read_twice}
+use Rattle.elimination.proofs.clause.load_clause.Goals.{After-begin-first, After-count, After-load_parts-p, After-splits-2}
+use Rattle.elimination.proofs.clause.load_clause.Goals.{Else-not-read_twice, Start}
 
 -- the clause
 abbrev here : Start → Clause
@@ -72,17 +74,27 @@ twice : (c : Else-not-read_twice) → has_equality (here (goal.at.Else-not-read_
 twice c = sym c.read_twice.ensures ∙ c.if-not-read_twice.false
 
 pub begin-second-requires : goal.begin-second-requires
-begin-second-requires c = record { sound_clause = c.requires.sound_clause; split_le_all_booleans = omega (arith, c.requires.at_bound, behind (goal.at.begin-second-requires c).After-load_parts-p, splits-twice (here (goal.at.begin-second-requires c).Start) (twice c)) }
+begin-second-requires c = record {
+  sound_clause = c.requires.sound_clause;
+  split_le_all_booleans = omega (
+    arith,
+    c.requires.at_bound,
+    behind (goal.at.begin-second-requires c).After-load_parts-p,
+    splits-twice (here (goal.at.begin-second-requires c).Start) (twice c),
+  );
+}
 
 -- the second reading's parts, and the number of the first of them
 module _ (c : After-count) where
   abbrev second : List rules.Line
-  second = reading_parts (c.args.split + reading_splits (reading false (here (goal.at.After-count c).Start))) (reading true (here (goal.at.After-count c).Start))
+  second = reading_parts (c.args.split + reading_splits (reading false (here (goal.at.After-count c).Start)))
+      (reading true (here (goal.at.After-count c).Start))
 
   second_is : parts_from c.args.input.now c.args.r c.begin-second.result ≡ second
   second_is =
       c.begin-second.ensures.parts
-      ∙ ap (λ (n : ℕ). reading_parts (c.args.split + n) (reading true (here (goal.at.After-count c).Start))) (behind (goal.at.After-count c).After-load_parts-p)
+      ∙ ap (λ (n : ℕ). reading_parts (c.args.split + n) (reading true (here (goal.at.After-count c).Start)))
+      (behind (goal.at.After-count c).After-load_parts-p)
 
   number : c.count.result ≡ length (first (goal.at.After-count c).After-begin-first)
   number =
@@ -93,7 +105,23 @@ module _ (c : After-count) where
 pub load_parts-requires : goal.load_parts-requires
 load_parts-requires c =
     let a = c.args in
-    let few = both-few a.input.now a.r a.at a.split a.clause (twice (goal.at.load_parts-requires c).Else-not-read_twice) in record { r_le_rationals = c.requires.r_le_rationals; sound_parts = c.begin-second.ensures.sound; first_bound = omega (arith, number (goal.at.load_parts-requires c).After-count, ap length (second_is (goal.at.load_parts-requires c).After-count), few, c.requires.at_bound_2); clause_lt_most_steps = c.requires.clause_lt_most_steps; standing = c.load_parts-p.ensures.leads.standing; progress_value = running-yes c.load_parts-p.result.progress (sym c.is_running.ensures ∙ c.if-not-is_running.false) }
+    let few = both-few a.input.now a.r a.at a.split a.clause (twice (goal.at.load_parts-requires c).Else-not-read_twice) in
+    record {
+      r_le_rationals = c.requires.r_le_rationals;
+      sound_parts = c.begin-second.ensures.sound;
+      first_bound = omega (
+        arith,
+        number (goal.at.load_parts-requires c).After-count,
+        ap length (second_is (goal.at.load_parts-requires c).After-count),
+        few,
+        c.requires.at_bound_2,
+      );
+      clause_lt_most_steps =
+          c.requires.clause_lt_most_steps;
+      standing = c.load_parts-p.ensures.leads.standing;
+      progress_value =
+          running-yes c.load_parts-p.result.progress (sym c.is_running.ensures ∙ c.if-not-is_running.false);
+    }
 
 -- the split variables of both
 both : (c : After-splits-2) → c.splits.result + c.splits-2.result ≡ splits_of (here (goal.at.After-splits-2 c).Start)
@@ -108,6 +136,7 @@ pub returns : goal.returns
 returns c =
     let a = c.args in record {
       loads_clause = clause-twice a.input.now a.r a.at a.split a.clause (rw c.begin-first.ensures.parts at c.load_parts-p.ensures)
-          (twice (goal.at.returns c).Else-not-read_twice) c.count.result _ (number (goal.at.returns c).After-count) (second_is (goal.at.returns c).After-count) c.load_parts.ensures;
+          (twice (goal.at.returns c).Else-not-read_twice) c.count.result _ (number (goal.at.returns c).After-count)
+          (second_is (goal.at.returns c).After-count) c.load_parts.ensures;
       split_value = λ e. omega (arith, both c);
     }

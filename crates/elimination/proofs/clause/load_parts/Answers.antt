@@ -12,13 +12,22 @@ pub loop-parts-init : goal.loop-parts-init
 loop-parts-init c = parts-start c.requires.progress_value c.requires.standing c.requires.sound_parts
 
 pub next-part-requires : goal.next-part-requires
-next-part-requires c = record { r_le_rationals = c.requires.r_le_rationals; sound_parts = c.loop-parts.invariant.sound; more_value = c.loop-parts-test.true }
+next-part-requires c = record {
+  r_le_rationals = c.requires.r_le_rationals;
+  sound_parts = c.loop-parts.invariant.sound;
+  more_value = c.loop-parts-test.true;
+}
 
 few : (c : At-loop-parts) → c.loop-parts.j ≤ limit.splits + 2
 few c = omega (arith, c.loop-parts.invariant.few, c.requires.first_bound)
 
 pub admit-p-requires : goal.admit-p-requires
-admit-p-requires c = record { standing = c.loop-parts.invariant.leads.standing; ready = c.next-part.ensures.ready; named = rw c.loaded.ensures (named-loaded c.args.clause c.loop-parts.j c.requires.clause_lt_most_steps (omega (arith, few (goal.at.admit-p-requires c).At-loop-parts))) }
+admit-p-requires c = record {
+  standing = c.loop-parts.invariant.leads.standing;
+  ready = c.next-part.ensures.ready;
+  named = rw c.loaded.ensures (named-loaded c.args.clause c.loop-parts.j c.requires.clause_lt_most_steps
+      (omega (arith, few (goal.at.admit-p-requires c).At-loop-parts)));
+}
 
 pub returns-then-not-is_running : goal.returns-then-not-is_running
 returns-then-not-is_running c =

@@ -11,7 +11,13 @@ use Rattle.elimination.proofs.eliminate.eliminate.Goals as goal
 
 pub rounds-requires : goal.rounds-requires
 rounds-requires c =
-    let a = c.args in record { standing = c.load-loaded.ensures.leads.standing; r_le_rationals = c.requires.readable.parsed.rationals; steps_le_most_steps = c.requires.steps_le_most_steps; pairs_le_most_steps = omega (arith, no_pairs (loadable_of (posed_at a.terms.edition a.input.now a.sizes)) c.load-loaded.ensures) }
+    let a = c.args in record {
+      standing = c.load-loaded.ensures.leads.standing;
+      r_le_rationals = c.requires.readable.parsed.rationals;
+      steps_le_most_steps = c.requires.steps_le_most_steps;
+      pairs_le_most_steps =
+          omega (arith, no_pairs (loadable_of (posed_at a.terms.edition a.input.now a.sizes)) c.load-loaded.ensures);
+    }
 
 pub returns : goal.returns
 unfolding variables_of order_after
@@ -19,4 +25,7 @@ returns c =
     let a = c.args in
     let p = posed_at a.terms.edition a.input.now a.sizes in
     let w = posed-well-formed a.terms.edition a.input.now (problem_at a.input.now a.sizes) c.requires.readable.is_read in
-    let all = c.rounds.ensures in record { eliminated = eliminated p c.load-loaded.ensures all.reaches w; order_value = ap order_by (all.order_is ∙ ap rationals_after (order-taken p c.load-loaded.ensures all.reaches)) }
+    let all = c.rounds.ensures in record {
+      eliminated = eliminated p c.load-loaded.ensures all.reaches w;
+      order_value = ap order_by (all.order_is ∙ ap rationals_after (order-taken p c.load-loaded.ensures all.reaches));
+    }

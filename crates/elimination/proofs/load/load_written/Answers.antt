@@ -15,7 +15,19 @@ sound c = clause-sound c.loop-clause.invariant c.loop-clause-test.true
 pub load_clause-loaded-requires : goal.load_clause-loaded-requires
 load_clause-loaded-requires c =
     let l = c.loop-clause in
-    let few = clause-splits l.invariant c.loop-clause-test.true in record { r_le_rationals = c.requires.readable.parsed.rationals; sound_clause = sound (goal.at.load_clause-loaded-requires c).In-loop-clause; at_bound = omega (arith, l.invariant.low, few, c.requires.readable.parsed.booleans); at_bound_2 = omega (arith, few); clause_lt_most_steps = omega (arith, c.loop-clause-test.true, c.requires.readable.parsed.clauses); standing = l.invariant.leads.standing; progress_value = l.invariant.going }
+    let few = clause-splits l.invariant c.loop-clause-test.true in
+    record {
+      r_le_rationals = c.requires.readable.parsed.rationals;
+      sound_clause = sound (goal.at.load_clause-loaded-requires c).In-loop-clause;
+      at_bound =
+          omega (arith, l.invariant.low, few, c.requires.readable.parsed.booleans);
+      at_bound_2 = omega (arith, few);
+      clause_lt_most_steps =
+          omega (arith, c.loop-clause-test.true, c.requires.readable.parsed.clauses);
+      standing = l.invariant.leads.standing;
+      progress_value =
+          l.invariant.going;
+    }
 
 pub returns-then-not-is_running : goal.returns-then-not-is_running
 returns-then-not-is_running c =

@@ -18,17 +18,20 @@ returns-then-refused c =
 
 pub returns-then-number-eq-SATISFIABLE : goal.returns-then-number-eq-SATISFIABLE
 returns-then-number-eq-SATISFIABLE c =
-    sym (part-model c.args.limits c.args.number c.args.steps c.args.proof.now c.args.model.now (passed (goal.at.returns-then-number-eq-SATISFIABLE c).Else-refused)
+    sym (part-model c.args.limits c.args.number c.args.steps c.args.proof.now c.args.model.now
+    (passed (goal.at.returns-then-number-eq-SATISFIABLE c).Else-refused)
     (eq-eqb c.args.number 64 c.if-number-eq-SATISFIABLE.true))
 
 pub overflow_mul-result : goal.overflow_mul-result
 overflow_mul-result c =
-    let h = full c.args.limits c.args.number c.args.steps c.args.proof.now c.args.model.now (passed (goal.at.overflow_mul-result c).Else-refused) in
+    let h = full c.args.limits c.args.number c.args.steps c.args.proof.now c.args.model.now
+    (passed (goal.at.overflow_mul-result c).Else-refused) in
     omega (arith, h.0, h.2, c.well_formed)
 
 pub returns-then-number-eq-UNSATISFIABLE : goal.returns-then-number-eq-UNSATISFIABLE
 returns-then-number-eq-UNSATISFIABLE c =
-    sym (part-proof c.args.limits c.args.number c.args.steps c.args.proof.now c.args.model.now (passed (goal.at.returns-then-number-eq-UNSATISFIABLE c).Else-refused)
+    sym (part-proof c.args.limits c.args.number c.args.steps c.args.proof.now c.args.model.now
+    (passed (goal.at.returns-then-number-eq-UNSATISFIABLE c).Else-refused)
     (ne_eqb c.args.number 64 c.if-number-eq-SATISFIABLE.false) (eq-eqb c.args.number 65 c.if-number-eq-UNSATISFIABLE.true))
 
 pub returns : goal.returns

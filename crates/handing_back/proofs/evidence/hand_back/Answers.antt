@@ -5,7 +5,8 @@ use Rattle.handing_back.proofs.evidence.hand_back.Goals as goal
 use Rattle.handing_back.proofs.evidence.hand_back.Goals.{After-evidence-part}
 
 -- the part that was found, within its buffer
-within : (a : After-evidence-part) → Within a.args.limits a.args.number a.args.steps a.args.proof.now a.args.model.now a.evidence-part.result
+within : (a : After-evidence-part)
+    → Within a.args.limits a.args.number a.args.steps a.args.proof.now a.args.model.now a.evidence-part.result
 within a =
     let place = Within a.args.limits a.args.number a.args.steps a.args.proof.now a.args.model.now in
     subst place (sym a.evidence-part.ensures)

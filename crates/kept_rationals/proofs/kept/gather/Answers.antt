@@ -41,4 +41,9 @@ loop-left-preserved c =
     c.joined-mask.ensures _ c.count_place.ensures (omega (arith, c.shared_slice_known-in-loop-left-1.given c.count_place.result)))
 
 pub returns : goal.returns
-returns c = record { mask = (keeping-done c.requires c.loop-left.invariant c.loop-left-test.false).0; comparisons = (keeping-done c.requires c.loop-left.invariant c.loop-left-test.false).1.0; few = (keeping-done c.requires c.loop-left.invariant c.loop-left-test.false).1.1 }
+returns c = record {
+  mask = (keeping-done c.requires c.loop-left.invariant c.loop-left-test.false).0;
+  comparisons = (keeping-done c.requires c.loop-left.invariant c.loop-left-test.false).1.0;
+  few =
+      (keeping-done c.requires c.loop-left.invariant c.loop-left-test.false).1.1;
+}

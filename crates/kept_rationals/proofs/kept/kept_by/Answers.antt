@@ -30,7 +30,11 @@ returns-then-input-place-ne1 c =
 -- the one comparison ends in the slice
 within : (c : Else-input-place-ne1) → c.count_place-place.result + 1 + comparison_bytes c.args.r ≤ length c.args.input.now
 within c =
-    omega (arith, rw c.if-input-place-ne1.false at (clause_end-is c.args.input.now c.args.r c.args.at _ c.count_place-place.ensures), c.requires)
+    omega (
+      arith,
+      rw c.if-input-place-ne1.false at (clause_end-is c.args.input.now c.args.r c.args.at _ c.count_place-place.ensures),
+      c.requires,
+    )
 
 pub overflow_add-place : goal.overflow_add-place
 overflow_add-place c = omega (arith, within c, c.well_formed)

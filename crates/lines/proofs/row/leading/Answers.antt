@@ -21,7 +21,8 @@ here : (c : After-is_zero) → let a = c.args in
 here c =
     let a = c.args in
     ap (λ (f : ℕ). not (is_zero (get_or a.row f (pos 0)))) (sym c.rational-f.ensures.value)
-    ∙ ap not (told is_zero (get_or a.row c.rational-f.result (pos 0)) (search (rules, (goal.at.After-is_zero c).After-is_zero-arg-1)) c.is_zero.ensures)
+    ∙ ap not (told is_zero (get_or a.row c.rational-f.result (pos 0))
+    (search (rules, (goal.at.After-is_zero c).After-is_zero-arg-1)) c.is_zero.ensures)
 
 -- a round for each rational variable
 row : (s : Start) → length s.args.order.rationals ≡ limit.rationals
@@ -30,11 +31,13 @@ row s = search (rules, s.well_formed)
 pub returns-then-not-is_zero : goal.returns-then-not-is_zero
 returns-then-not-is_zero c =
     let a = c.args in
-    sym (leading_at a.order.rationals a.row c.loop-t.t a.rest c.loop-t.invariant.none (omega (arith, row (goal.at.returns-then-not-is_zero c).Start))
+    sym (leading_at a.order.rationals a.row c.loop-t.t a.rest c.loop-t.invariant.none
+    (omega (arith, row (goal.at.returns-then-not-is_zero c).Start))
     (here (goal.at.returns-then-not-is_zero c).After-is_zero ∙ ap not c.if-not-is_zero.true))
 
 pub loop-t-preserved : goal.loop-t-preserved
-loop-t-preserved c = scanned-next _ c.loop-t.t c.loop-t.invariant (omega arith) (here (goal.at.loop-t-preserved c).After-is_zero ∙ ap not c.if-not-is_zero.false)
+loop-t-preserved c = scanned-next _ c.loop-t.t c.loop-t.invariant (omega arith)
+    (here (goal.at.loop-t-preserved c).After-is_zero ∙ ap not c.if-not-is_zero.false)
 
 pub returns : goal.returns
 returns c =

@@ -22,10 +22,12 @@ here c = ap not (told in_range (get_or c.args.row c.loop-i.i (pos 0))
 
 pub returns-then-not-in_range : goal.returns-then-not-in_range
 returns-then-not-in_range c = let n : length c.args.row ≡ limit.rationals = search rules in
-    sym (any_at (pos 0) (λ z. not (in_range z)) c.args.row c.loop-i.i (omega arith) (here (goal.at.returns-then-not-in_range c).After-in_range ∙ ap not c.if-not-in_range.true))
+    sym (any_at (pos 0) (λ z. not (in_range z)) c.args.row c.loop-i.i (omega arith)
+    (here (goal.at.returns-then-not-in_range c).After-in_range ∙ ap not c.if-not-in_range.true))
 
 pub loop-i-preserved : goal.loop-i-preserved
-loop-i-preserved c = scanned-next _ c.loop-i.i c.loop-i.invariant (omega arith) (here (goal.at.loop-i-preserved c).After-in_range ∙ ap not c.if-not-in_range.false)
+loop-i-preserved c = scanned-next _ c.loop-i.i c.loop-i.invariant (omega arith)
+    (here (goal.at.loop-i-preserved c).After-in_range ∙ ap not c.if-not-in_range.false)
 
 pub returns : goal.returns
 returns c =

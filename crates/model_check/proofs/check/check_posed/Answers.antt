@@ -10,12 +10,21 @@ use Rattle.model_check.specs.Added.{posed-accepted, posed-fails, posed-refused}
 use Rattle.model_check.proofs.check.check_posed.Goals as goal
 
 pub check_clauses-written-requires : goal.check_clauses-written-requires
-check_clauses-written-requires c = record { r_le_rationals = c.requires.readable.parsed.rationals; sound_clauses = c.requires.readable.parsed.sound; amounts = c.requires.amounts }
+check_clauses-written-requires c = record {
+  r_le_rationals = c.requires.readable.parsed.rationals;
+  sound_clauses = c.requires.readable.parsed.sound;
+  amounts = c.requires.amounts;
+}
 
 pub check_added-requires : goal.check_added-requires
 check_added-requires c =
     let few = length-added c.args.edition c.args.sizes.rationals in
-    let r = c.requires.readable.parsed.rationals in record { count_bound = omega (arith, c.added.ensures, few, r, c.requires.readable.parsed.clauses); count_le_rationals = omega (arith, c.added.ensures, few, r); amounts = c.requires.amounts }
+    let r = c.requires.readable.parsed.rationals in record {
+      count_bound = omega
+          (arith, c.added.ensures, few, r, c.requires.readable.parsed.clauses);
+      count_le_rationals = omega (arith, c.added.ensures, few, r);
+      amounts = c.requires.amounts;
+    }
 
 pub returns-in-Accepted : goal.returns-in-Accepted
 returns-in-Accepted c =

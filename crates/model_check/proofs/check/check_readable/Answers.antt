@@ -18,7 +18,8 @@ read_back c = rw c.occurring.ensures at c.read_model-s.ensures
 
 pub returns-then-not-s : goal.returns-then-not-s
 returns-then-not-s c =
-    sym (checked-bad c.args.terms c.requires c.args.bytes.now c.if-bytes-lt-MODEL_BYTES.false (read_back (goal.at.returns-then-not-s c).After-read_model-s)
+    sym (checked-bad c.args.terms c.requires c.args.bytes.now c.if-bytes-lt-MODEL_BYTES.false
+    (read_back (goal.at.returns-then-not-s c).After-read_model-s)
     (not-true _ c.if-not-s.true))
 
 pub check_posed-requires : goal.check_posed-requires
@@ -27,5 +28,6 @@ check_posed-requires c = record { readable = c.requires; amounts = c.read_model-
 pub returns : goal.returns
 returns c =
     c.check_posed.ensures
-    ∙ sym (checked-clauses c.args.terms c.requires c.args.bytes.now c.if-bytes-lt-MODEL_BYTES.false (read_back (goal.at.returns c).After-read_model-s)
+    ∙ sym (checked-clauses c.args.terms c.requires c.args.bytes.now c.if-bytes-lt-MODEL_BYTES.false
+    (read_back (goal.at.returns c).After-read_model-s)
     (not-false _ c.if-not-s.false))

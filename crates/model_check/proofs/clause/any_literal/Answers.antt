@@ -32,7 +32,8 @@ tested c = c.literal_holds.ensures
 pub returns-then-literal_holds : goal.returns-then-literal_holds
 returns-then-literal_holds c =
     let l = c.loop-left in
-    asking-passed l.invariant c.loop-left-test.true c.literal_holds.result (tested (goal.at.returns-then-literal_holds c).After-literal_holds) c.if-literal_holds.true
+    asking-passed l.invariant c.loop-left-test.true c.literal_holds.result
+    (tested (goal.at.returns-then-literal_holds c).After-literal_holds) c.if-literal_holds.true
 
 pub bounds-input-at : goal.bounds-input-at
 bounds-input-at c = omega (arith, within (goal.at.bounds-input-at c).In-loop-left)
@@ -43,7 +44,8 @@ overflow_add-at c = omega (arith, within (goal.at.overflow_add-at c).In-loop-lef
 pub loop-left-preserved : goal.loop-left-preserved
 loop-left-preserved c =
     let l = c.loop-left in
-    asking-next l.invariant c.loop-left-test.true c.literal_holds.result (tested (goal.at.loop-left-preserved c).After-literal_holds) c.if-literal_holds.false
+    asking-next l.invariant c.loop-left-test.true c.literal_holds.result
+    (tested (goal.at.loop-left-preserved c).After-literal_holds) c.if-literal_holds.false
 
 pub returns : goal.returns
 returns c =

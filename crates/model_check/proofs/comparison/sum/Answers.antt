@@ -55,7 +55,15 @@ amount-here c =
 pub plus_product-total-requires : goal.plus_product-total-requires
 plus_product-total-requires c =
     let l = c.loop-left in
-    let x = c.requires.amounts.small l.i in record { total_bound = omega (arith, l.invariant.small, l.invariant.place, c.loop-left-test.true, c.requires.count_le_rationals); small = rw (read_is (goal.at.plus_product-total-requires c).After-amount_at-z) (amount-here (goal.at.plus_product-total-requires c).After-amount_at-z); small_2 = rw (amount-bits (get_or c.args.numerators l.i (pos 0)) x) x }
+    let x = c.requires.amounts.small l.i in record {
+      total_bound = omega
+          (arith, l.invariant.small, l.invariant.place, c.loop-left-test.true, c.requires.count_le_rationals);
+      small =
+          rw (read_is (goal.at.plus_product-total-requires c).After-amount_at-z)
+          (amount-here (goal.at.plus_product-total-requires c).After-amount_at-z);
+      small_2 =
+          rw (amount-bits (get_or c.args.numerators l.i (pos 0)) x) x;
+    }
 
 pub overflow_add-at : goal.overflow_add-at
 overflow_add-at c =
@@ -73,7 +81,10 @@ loop-left-preserved c =
     let e : to_z w64 (of_z w64 c.plus_product-total.result)
     ≡ to_z w64 l.total-bits +ℤ amount_at c.args.input.now l.at *ℤ get_or c.args.numerators l.i (pos 0) =
     to_z-of_z {w = w64} (sfits_of c.plus_product-total.type_inv)
-    ∙ (rw (read_is (goal.at.loop-left-preserved c).After-amount_at-z, amount-bits (get_or c.args.numerators l.i (pos 0)) x) at c.plus_product-total.ensures) in
+    ∙ (rw (
+      read_is (goal.at.loop-left-preserved c).After-amount_at-z,
+      amount-bits (get_or c.args.numerators l.i (pos 0)) x,
+    ) at c.plus_product-total.ensures) in
     rw e (summing-next c.args.input.now c.args.numerators c.args.from c.args.count l.at l.left l.i (to_z w64 l.total-bits)
     l.invariant c.loop-left-test.true x)
 

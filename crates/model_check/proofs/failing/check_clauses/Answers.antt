@@ -7,7 +7,11 @@ pub loop-left-init : goal.loop-left-init
 loop-left-init c = checking-start c.requires.sound_clauses
 
 pub clause_holds-requires : goal.clause_holds-requires
-clause_holds-requires c = record { r_le_rationals = c.requires.r_le_rationals; sound_clause = checking-clause c.loop-left.invariant c.loop-left-test.true; amounts = c.requires.amounts }
+clause_holds-requires c = record {
+  r_le_rationals = c.requires.r_le_rationals;
+  sound_clause = checking-clause c.loop-left.invariant c.loop-left-test.true;
+  amounts = c.requires.amounts;
+}
 
 pub returns-then-not-clause_holds : goal.returns-then-not-clause_holds
 returns-then-not-clause_holds c =

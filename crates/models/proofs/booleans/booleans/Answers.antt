@@ -13,7 +13,8 @@ pub loop-i-init : goal.loop-i-init
 loop-i-init c = (omega arith, flags-none)
 
 -- the test of the byte
-tested : (c : After-is_boolean_byte) → is_boolean_byte (outside c.args.occurring c.loop-i.i) (get_or c.args.s.now (c.args.from + c.loop-i.i) 0)
+tested : (c : After-is_boolean_byte) → is_boolean_byte (outside c.args.occurring c.loop-i.i)
+    (get_or c.args.s.now (c.args.from + c.loop-i.i) 0)
     ≡ c.is_boolean_byte.result
 unfolding outside
 tested c =

@@ -17,7 +17,12 @@ returns-then-not-member c = rw (opens (goal.at.returns-then-not-member c).After-
 
 pub returns-then-member : goal.returns-then-member
 unfolding boolean_byte
-returns-then-member c = rw (opens (goal.at.returns-then-member c).After-member, c.if-not-member.false, sym c.member-2.ensures ∙ c.if-member.true)
+returns-then-member c = rw (
+  opens (goal.at.returns-then-member c).After-member,
+  c.if-not-member.false,
+  sym c.member-2.ensures
+      ∙ c.if-member.true,
+)
 
 pub returns : goal.returns
 unfolding boolean_byte

@@ -28,7 +28,13 @@ put_u32-requires c =
 
 pub put_numerators-requires : goal.put_numerators-requires
 put_numerators-requires c =
-    let l = c.put_u32.auto.s in record { r_le_rationals = c.requires.r_le_rationals; rationals_bound = omega (arith, c.model_numerators.ensures, c.requires.b_le_booleans); model_bytes_in_bounds = omega (arith, l, all-bytes (goal.at.put_numerators-requires c).After-model_rationals); amounts = c.requires.amounts }
+    let l = c.put_u32.auto.s in record {
+      r_le_rationals = c.requires.r_le_rationals;
+      rationals_bound = omega (arith, c.model_numerators.ensures, c.requires.b_le_booleans);
+      model_bytes_in_bounds =
+          omega (arith, l, all-bytes (goal.at.put_numerators-requires c).After-model_rationals);
+      amounts = c.requires.amounts;
+    }
 
 pub returns : goal.returns
 unfolding assignment

@@ -17,7 +17,14 @@ loop-i-preserved c =
     let l = c.loop-i in
     let t = c.args.s.now in
     let g = flag_byte c.args.mask c.args.occurring in
-    let k : 1 + l.i < length l.s = omega (arith, l.invariant.0, l.invariant.1, c.loop-i-test.true, c.requires.b_le_booleans, c.requires.booleans_in_bounds) in (
+    let k : 1 + l.i < length l.s = omega (
+      arith,
+      l.invariant.0,
+      l.invariant.1,
+      c.loop-i-test.true,
+      c.requires.b_le_booleans,
+      c.requires.booleans_in_bounds,
+    ) in (
       omega (arith, c.loop-i-test.true),
       length-set l.s (1 + l.i) c.boolean_byte.result ∙ l.invariant.1,
       ap (λ (n : ℕ). set l.s (1 + l.i) n) c.boolean_byte.ensures

@@ -20,7 +20,12 @@ pub put_amount-requires : goal.put_amount-requires
 put_amount-requires c =
     let l = c.loop-i in
     let p = c.requires in
-    let h = p.amounts.small l.i in record { at_in_bounds = omega (arith, p.r_le_rationals, p.rationals_bound, p.model_bytes_in_bounds, l.invariant.2, c.loop-i-test.true); z_bound = rw (amount-bits (get_or c.args.numerators l.i (pos 0)) h) (omega (arith, h)) }
+    let h = p.amounts.small l.i in record {
+      at_in_bounds = omega
+          (arith, p.r_le_rationals, p.rationals_bound, p.model_bytes_in_bounds, l.invariant.2, c.loop-i-test.true);
+      z_bound =
+          rw (amount-bits (get_or c.args.numerators l.i (pos 0)) h) (omega (arith, h));
+    }
 
 pub loop-i-preserved : goal.loop-i-preserved
 loop-i-preserved c =
@@ -39,5 +44,6 @@ returns c =
     let l = c.loop-i in
     let zs = c.args.numerators in
     let e : l.i ≡ c.args.r = omega (arith, l.invariant.0, c.loop-i-test.false) in
-    let t = ap (λ (n : ℕ). take n zs) e ∙ sym (tabulate-take c.args.r zs (pos 0) (omega (arith, l.invariant.1, c.requires.r_le_rationals))) in
+    let t = ap (λ (n : ℕ). take n zs) e ∙ sym (tabulate-take c.args.r zs (pos 0)
+    (omega (arith, l.invariant.1, c.requires.r_le_rationals))) in
     l.invariant.3 ∙ ap (λ (x : List ℤ). stored c.args.at (amount_bytes x) c.args.s.now) t

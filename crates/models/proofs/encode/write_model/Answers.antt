@@ -14,5 +14,6 @@ sixty-four c = search (rules, c)
 pub returns : goal.returns
 returns c =
     c.put_bytes.ensures
-    ∙ ap (λ (k : ℕ). c.encode_model-bytes.result ++ drop (0 + k) c.args.buffer.now) (sixty-four (goal.at.returns c).After-encode_model-bytes)
+    ∙ ap (λ (k : ℕ). c.encode_model-bytes.result ++ drop (0 + k) c.args.buffer.now)
+    (sixty-four (goal.at.returns c).After-encode_model-bytes)
     ∙ ap (λ (x : List ℕ). x ++ drop limit.model_bytes c.args.buffer.now) c.encode_model-bytes.ensures

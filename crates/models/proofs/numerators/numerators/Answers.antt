@@ -31,7 +31,8 @@ loop-i-preserved c =
     let l = c.loop-i in (
       omega arith,
       length-set l.out l.i (to_z w64 (of_z w64 c.amount_at-z.result)) ∙ l.invariant.1,
-      row_more _ l.invariant.2 (omega arith) (read_is (goal.at.loop-i-preserved c).After-amount_at-z) (sym c.in_range.ensures ∙ c.if-not-in_range.false),
+      row_more _ l.invariant.2 (omega arith) (read_is (goal.at.loop-i-preserved c).After-amount_at-z)
+          (sym c.in_range.ensures ∙ c.if-not-in_range.false),
     )
 
 pub returns : goal.returns

@@ -15,7 +15,8 @@ use Rattle.models.specs.Numerators.{ReadNumerators}
 use Rattle.models.specs.Read.{is_denominator, refused, ReadModel, read-refused, Sized, BooleansRead, RationalsAhead, RationalsRead}
 use Rattle.models.specs.Read.{booleans-differ, boolean-bad, rationals-differ, denominator-bad, numerator-bad, model-read}
 use Rattle.models.proofs.read.read_model.Goals as goal
-use Rattle.models.proofs.read.read_model.Goals.{After-booleans-flags, After-is_denominator, After-numerators-row, After-u32_at-denominator, Else-s-count_at, Start}
+use Rattle.models.proofs.read.read_model.Goals.{After-booleans-flags, After-is_denominator, After-numerators-row, After-u32_at-denominator}
+use Rattle.models.proofs.read.read_model.Goals.{Else-s-count_at, Start}
 
 -- ---- the fields passed
 -- the open variables
@@ -29,10 +30,12 @@ refused-at : (s : Start) (place : ℕ) → model s.args.b s.args.r (opens s) s.a
     → ReadModel s.args.s.now s.args.b s.args.r (opens s) (refused place)
 refused-at s = read-refused s.args.s.now s.args.b s.args.r (opens s)
 
-booleans-read : (c : After-booleans-flags) → BooleansRead c.args.s.now c.args.b c.args.r (opens (goal.at.After-booleans-flags c).Start) c.booleans-flags.result
+booleans-read : (c : After-booleans-flags) → BooleansRead c.args.s.now c.args.b c.args.r
+    (opens (goal.at.After-booleans-flags c).Start) c.booleans-flags.result
 booleans-read c = record { sized = sized (goal.at.After-booleans-flags c).Start; count = c.if-s-b.false; given = c.booleans-flags.ensures }
 
-ahead : (c : Else-s-count_at) → RationalsAhead c.args.s.now c.args.b c.args.r (opens (goal.at.Else-s-count_at c).Start) c.booleans-flags.result
+ahead : (c : Else-s-count_at) → RationalsAhead c.args.s.now c.args.b c.args.r
+    (opens (goal.at.Else-s-count_at c).Start) c.booleans-flags.result
 ahead c =
     record {
       booleans = booleans-read (goal.at.Else-s-count_at c).After-booleans-flags;
@@ -44,10 +47,12 @@ denominator-is : (c : After-u32_at-denominator) → c.u32_at-denominator.result 
 denominator-is c = c.u32_at-denominator.ensures ∙ ap (λ (k : ℕ). field_at k 4 c.args.s.now) c.model_denominator-denominator_at.ensures
 
 -- the test of the denominator that was called
-tested-is : (c : After-is_denominator) → is_denominator (field_at (layout.model_denominator c.args.b) 4 c.args.s.now) ≡ c.is_denominator.result
+tested-is : (c : After-is_denominator) → is_denominator (field_at
+    (layout.model_denominator c.args.b) 4 c.args.s.now) ≡ c.is_denominator.result
 tested-is c = sym (c.is_denominator.ensures ∙ ap is_denominator (denominator-is (goal.at.After-is_denominator c).After-u32_at-denominator))
 
-rationals-read : (c : After-numerators-row) → RationalsRead c.args.s.now c.args.b c.args.r (opens (goal.at.After-numerators-row c).Start) c.booleans-flags.result
+rationals-read : (c : After-numerators-row) → RationalsRead c.args.s.now c.args.b c.args.r
+    (opens (goal.at.After-numerators-row c).Start) c.booleans-flags.result
     c.numerators-row.result
 rationals-read c =
     record {
@@ -59,12 +64,14 @@ rationals-read c =
 
 pub returns-then-s-b : goal.returns-then-s-b
 returns-then-s-b c = rw c.refused.ensures
-    (refused-at (goal.at.returns-then-s-b c).Start layout.model_booleans (booleans-differ (opens (goal.at.returns-then-s-b c).Start) (sized (goal.at.returns-then-s-b c).Start) c.if-s-b.true))
+    (refused-at (goal.at.returns-then-s-b c).Start layout.model_booleans
+    (booleans-differ (opens (goal.at.returns-then-s-b c).Start) (sized (goal.at.returns-then-s-b c).Start) c.if-s-b.true))
 
 pub returns-then-not-flags : goal.returns-then-not-flags
 returns-then-not-flags c =
     rw c.refused-then-not-flags.ensures
-    (refused-at (goal.at.returns-then-not-flags c).Start _ (boolean-bad (booleans-read (goal.at.returns-then-not-flags c).After-booleans-flags) (not-true _ c.if-not-flags.true)))
+    (refused-at (goal.at.returns-then-not-flags c).Start _ (boolean-bad
+    (booleans-read (goal.at.returns-then-not-flags c).After-booleans-flags) (not-true _ c.if-not-flags.true)))
 
 pub returns-then-s-count_at : goal.returns-then-s-count_at
 returns-then-s-count_at c =
@@ -74,13 +81,16 @@ returns-then-s-count_at c =
 
 pub returns-then-not-is_denominator : goal.returns-then-not-is_denominator
 returns-then-not-is_denominator c =
-    rw (c.refused-then-not-is_denominator.ensures, c.model_denominator-denominator_at.ensures) (refused-at (goal.at.returns-then-not-is_denominator c).Start _
-    (denominator-bad (ahead (goal.at.returns-then-not-is_denominator c).Else-s-count_at) (tested-is (goal.at.returns-then-not-is_denominator c).After-is_denominator ∙ c.if-not-is_denominator.true)))
+    rw (c.refused-then-not-is_denominator.ensures, c.model_denominator-denominator_at.ensures)
+    (refused-at (goal.at.returns-then-not-is_denominator c).Start _
+    (denominator-bad (ahead (goal.at.returns-then-not-is_denominator c).Else-s-count_at)
+    (tested-is (goal.at.returns-then-not-is_denominator c).After-is_denominator ∙ c.if-not-is_denominator.true)))
 
 pub returns-then-not-row : goal.returns-then-not-row
 returns-then-not-row c =
     rw c.refused-then-not-row.ensures
-    (refused-at (goal.at.returns-then-not-row c).Start _ (numerator-bad (rationals-read (goal.at.returns-then-not-row c).After-numerators-row) (not-true _ c.if-not-row.true)))
+    (refused-at (goal.at.returns-then-not-row c).Start _ (numerator-bad
+    (rationals-read (goal.at.returns-then-not-row c).After-numerators-row) (not-true _ c.if-not-row.true)))
 
 pub overflow_cast-result : goal.overflow_cast-result
 overflow_cast-result c =
@@ -92,4 +102,5 @@ overflow_cast-result c =
 
 pub returns : goal.returns
 returns c =
-    rw (denominator-is (goal.at.returns c).After-u32_at-denominator) (model-read (rationals-read (goal.at.returns c).After-numerators-row) (not-false _ c.if-not-row.false))
+    rw (denominator-is (goal.at.returns c).After-u32_at-denominator)
+    (model-read (rationals-read (goal.at.returns c).After-numerators-row) (not-false _ c.if-not-row.false))

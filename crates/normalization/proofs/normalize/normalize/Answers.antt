@@ -17,11 +17,15 @@ use Rattle.rules.specs.Lines.{meet}
 use Rattle.lines.specs.Line.{meaning}
 use Rattle.normalization.specs.Normal.{normalized, normal-clash, normal-plain, normal-reduced, normal-trivial, normal-struck}
 use Rattle.normalization.proofs.normalize.normalize.Goals as goal
-use Rattle.normalization.proofs.normalize.normalize.Goals.{After-trivial, Else-clashes, Else-not-zero_row, Else-relation-eq0, Then-not-zero_row}
+use Rattle.normalization.proofs.normalize.normalize.Goals.{After-trivial, Else-clashes, Else-not-zero_row, Else-relation-eq0}
+use Rattle.normalization.proofs.normalize.normalize.Goals.{Then-not-zero_row}
 
 pub returns-then-clashes : goal.returns-then-clashes
 unfolding normalized
-returns-then-clashes c = record { result_value = sym (normal-clash c.args.line (sym c.clashes.ensures ∙ c.if-clashes.true)); shaped_2 = c.requires.shaped }
+returns-then-clashes c = record {
+  result_value = sym (normal-clash c.args.line (sym c.clashes.ensures ∙ c.if-clashes.true));
+  shaped_2 = c.requires.shaped;
+}
 
 consistent : (c : Else-clashes)
     → meet (meaning c.args.line).positive (meaning c.args.line).negative ≡ false
@@ -29,7 +33,11 @@ consistent c = sym c.clashes.ensures ∙ c.if-clashes.false
 
 pub returns-then-relation-eq0 : goal.returns-then-relation-eq0
 unfolding normalized
-returns-then-relation-eq0 c = record { result_value = sym (normal-plain c.args.line (consistent (goal.at.returns-then-relation-eq0 c).Else-clashes) c.if-relation-eq0.true); shaped_2 = c.requires.shaped }
+returns-then-relation-eq0 c = record {
+  result_value = sym (normal-plain c.args.line
+      (consistent (goal.at.returns-then-relation-eq0 c).Else-clashes) c.if-relation-eq0.true);
+  shaped_2 = c.requires.shaped;
+}
 
 some-relation : (c : Else-relation-eq0) → 0 < c.args.line.relation
 some-relation c = omega (arith, c.if-relation-eq0.false)
@@ -44,7 +52,9 @@ pub returns-then-not-zero_row : goal.returns-then-not-zero_row
 unfolding normalized
 returns-then-not-zero_row c = record {
   result_value = ap some c.reduce.ensures.result_value
-      ∙ sym (normal-reduced c.args.line (consistent (goal.at.returns-then-not-zero_row c).Else-clashes) (some-relation (goal.at.returns-then-not-zero_row c).Else-relation-eq0) (nonzero (goal.at.returns-then-not-zero_row c).Then-not-zero_row));
+      ∙ sym (normal-reduced c.args.line (consistent (goal.at.returns-then-not-zero_row c).Else-clashes)
+      (some-relation (goal.at.returns-then-not-zero_row c).Else-relation-eq0)
+      (nonzero (goal.at.returns-then-not-zero_row c).Then-not-zero_row));
   shaped_2 = c.reduce.ensures.shaped_2;
 }
 
@@ -61,7 +71,8 @@ bound-test c =
 pub returns-then-trivial : goal.returns-then-trivial
 unfolding normalized
 returns-then-trivial c = record {
-  result_value = sym (normal-trivial c.args.line (consistent (goal.at.returns-then-trivial c).Else-clashes) (some-relation (goal.at.returns-then-trivial c).Else-relation-eq0) (zeros (goal.at.returns-then-trivial c).Else-not-zero_row)
+  result_value = sym (normal-trivial c.args.line (consistent (goal.at.returns-then-trivial c).Else-clashes)
+      (some-relation (goal.at.returns-then-trivial c).Else-relation-eq0) (zeros (goal.at.returns-then-trivial c).Else-not-zero_row)
       (sym (bound-test (goal.at.returns-then-trivial c).After-trivial) ∙ c.if-trivial.true));
   shaped_2 = c.requires.shaped;
 }
@@ -69,7 +80,9 @@ returns-then-trivial c = record {
 pub returns : goal.returns
 unfolding normalized
 returns c = record {
-  result_value = ap some c.unconstrained.ensures.result_value ∙ sym (normal-struck c.args.line (consistent (goal.at.returns c).Else-clashes) (some-relation (goal.at.returns c).Else-relation-eq0) (zeros (goal.at.returns c).Else-not-zero_row)
+  result_value = ap some c.unconstrained.ensures.result_value ∙ sym
+      (normal-struck c.args.line (consistent (goal.at.returns c).Else-clashes) (some-relation (goal.at.returns c).Else-relation-eq0)
+      (zeros (goal.at.returns c).Else-not-zero_row)
       (sym (bound-test (goal.at.returns c).After-trivial) ∙ c.if-trivial.false));
   shaped_2 = c.unconstrained.ensures.shaped;
 }

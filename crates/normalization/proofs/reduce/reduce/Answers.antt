@@ -37,13 +37,25 @@ pub divide-out-requires : goal.divide-out-requires
 divide-out-requires c = record { g_nonzero = (divisor c).0; g_bound = (divisor c).1 }
 
 pub quotient-end-requires : goal.quotient-end-requires
-quotient-end-requires c = record { g_nonzero = (divisor (goal.at.quotient-end-requires c).After-content-g).0; g_bound = (divisor (goal.at.quotient-end-requires c).After-content-g).1 }
+quotient-end-requires c = record {
+  g_nonzero = (divisor (goal.at.quotient-end-requires c).After-content-g).0;
+  g_bound = (divisor (goal.at.quotient-end-requires c).After-content-g).1;
+}
 
 pub returns : goal.returns
 unfolding meaning reduced_line
 returns c =
     let l = c.args.line in
     let row = c.divide-out.ensures ∙ ap (λ (g : ℕ). quotients g l.coefficients) (content-is (goal.at.returns c).After-content-g) in
-    let bound = to_z-of_z {w = w64} (sfits_of c.quotient-end.type_inv) ∙ (rw (to_z-of_z (bound-fits (goal.at.returns c).Start), content-is (goal.at.returns c).After-content-g) at c.quotient-end.ensures) in
+    let bound = to_z-of_z {w = w64} (sfits_of c.quotient-end.type_inv)
+    ∙ (rw (to_z-of_z (bound-fits (goal.at.returns c).Start), content-is (goal.at.returns c).After-content-g) at c.quotient-end.ensures) in
     let some-relation : 0 < l.relation = with-constraint l c.requires.shaped c.requires.coefficients_value in
-    let x = (λ i. constraint_of l.relation (row i) (bound i)) ∙ reduced-is l.relation l.coefficients l.bound in record { result_value = λ i. record { positive = (meaning l).positive; negative = (meaning l).negative; constraint = x i }; shaped_2 = record { related = c.requires.shaped.related; coefficients = λ z. absurd (omega arith); bound = λ z. absurd (omega arith) } }
+    let x = (λ i. constraint_of l.relation (row i) (bound i)) ∙ reduced-is l.relation l.coefficients l.bound in
+    record {
+      result_value = λ i. record { positive = (meaning l).positive; negative = (meaning l).negative; constraint = x i };
+      shaped_2 = record {
+        related = c.requires.shaped.related;
+        coefficients = λ z. absurd (omega arith);
+        bound = λ z. absurd (omega arith);
+      };
+    }

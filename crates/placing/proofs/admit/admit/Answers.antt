@@ -41,4 +41,5 @@ returns c =
     let whole : length bytes ≡ limit.step_bytes = ap length (sym c.encode-bytes.ensures) ∙ search rules in
     rw (wrote, c.progress_of.ensures)
     (admit-new p c.requires.standing c.args.step (sym c.covered.ensures ∙ c.if-covered.false) bytes
-    (step-bytes a.step c.requires.named (words (goal.at.returns c).Start)) (step_back a.step c.requires.named (words (goal.at.returns c).Start)) (omega arith) whole)
+    (step-bytes a.step c.requires.named (words (goal.at.returns c).Start))
+    (step_back a.step c.requires.named (words (goal.at.returns c).Start)) (omega arith) whole)

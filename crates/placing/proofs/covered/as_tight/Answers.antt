@@ -36,21 +36,32 @@ module _ (c : After-relation_at-relation) where
   this-is = c.relation_at-relation.ensures ∙ relation-bytes c.args.bytes.now 0 c.requires.has_step_2
 
 pub returns-then-earlier-eq0 : goal.returns-then-earlier-eq0
-returns-then-earlier-eq0 c = sym (tight-none (earlier (goal.at.returns-then-earlier-eq0 c).After-relation_at-relation) (this (goal.at.returns-then-earlier-eq0 c).After-relation_at-relation) (sym (earlier-is (goal.at.returns-then-earlier-eq0 c).After-relation_at-relation) ∙ c.if-earlier-eq0.true))
+returns-then-earlier-eq0 c = sym (tight-none (earlier (goal.at.returns-then-earlier-eq0 c).After-relation_at-relation)
+    (this (goal.at.returns-then-earlier-eq0 c).After-relation_at-relation)
+    (sym (earlier-is (goal.at.returns-then-earlier-eq0 c).After-relation_at-relation) ∙ c.if-earlier-eq0.true))
 
 pub returns-then-relation-eq0 : goal.returns-then-relation-eq0
-returns-then-relation-eq0 c = sym (tight-never (earlier (goal.at.returns-then-relation-eq0 c).After-relation_at-relation) (this (goal.at.returns-then-relation-eq0 c).After-relation_at-relation) (λ e. c.if-earlier-eq0.false (earlier-is (goal.at.returns-then-relation-eq0 c).After-relation_at-relation ∙ e)) (sym (this-is (goal.at.returns-then-relation-eq0 c).After-relation_at-relation) ∙ c.if-relation-eq0.true))
+returns-then-relation-eq0 c = sym (tight-never (earlier (goal.at.returns-then-relation-eq0 c).After-relation_at-relation)
+    (this (goal.at.returns-then-relation-eq0 c).After-relation_at-relation)
+    (λ e. c.if-earlier-eq0.false (earlier-is (goal.at.returns-then-relation-eq0 c).After-relation_at-relation ∙ e))
+    (sym (this-is (goal.at.returns-then-relation-eq0 c).After-relation_at-relation) ∙ c.if-relation-eq0.true))
 
 -- both have a constraint
-decides : (c : Else-relation-eq0) → as_tight (meaning (earlier (goal.at.Else-relation-eq0 c).After-relation_at-relation)).constraint (meaning (this (goal.at.Else-relation-eq0 c).After-relation_at-relation)).constraint
-    ≡ same equal (earlier (goal.at.Else-relation-eq0 c).After-relation_at-relation).coefficients (this (goal.at.Else-relation-eq0 c).After-relation_at-relation).coefficients && bound_tight (goal.at.Else-relation-eq0 c).After-relation_at-relation
-decides c = tight-by (earlier (goal.at.Else-relation-eq0 c).After-relation_at-relation) (this (goal.at.Else-relation-eq0 c).After-relation_at-relation) c.requires.shaped.0 c.requires.shaped.1 (λ e. c.if-earlier-eq0.false (earlier-is (goal.at.Else-relation-eq0 c).After-relation_at-relation ∙ e))
+decides : (c : Else-relation-eq0) → as_tight (meaning (earlier (goal.at.Else-relation-eq0 c).After-relation_at-relation)).constraint
+    (meaning (this (goal.at.Else-relation-eq0 c).After-relation_at-relation)).constraint
+    ≡ same equal (earlier (goal.at.Else-relation-eq0 c).After-relation_at-relation).coefficients
+    (this (goal.at.Else-relation-eq0 c).After-relation_at-relation).coefficients
+    && bound_tight (goal.at.Else-relation-eq0 c).After-relation_at-relation
+decides c = tight-by (earlier (goal.at.Else-relation-eq0 c).After-relation_at-relation)
+    (this (goal.at.Else-relation-eq0 c).After-relation_at-relation) c.requires.shaped.0 c.requires.shaped.1
+    (λ e. c.if-earlier-eq0.false (earlier-is (goal.at.Else-relation-eq0 c).After-relation_at-relation ∙ e))
     (λ e. c.if-relation-eq0.false (this-is (goal.at.Else-relation-eq0 c).After-relation_at-relation ∙ e))
 
 pub returns-then-not-same_coefficients : goal.returns-then-not-same_coefficients
 returns-then-not-same_coefficients c =
     let differ : c.same_coefficients.result ≡ false = c.if-not-same_coefficients.true in
-    sym (decides (goal.at.returns-then-not-same_coefficients c).Else-relation-eq0 ∙ ap (λ (t : Bool). t && bound_tight (goal.at.returns-then-not-same_coefficients c).After-relation_at-relation)
+    sym (decides (goal.at.returns-then-not-same_coefficients c).Else-relation-eq0
+    ∙ ap (λ (t : Bool). t && bound_tight (goal.at.returns-then-not-same_coefficients c).After-relation_at-relation)
     (sym c.same_coefficients.ensures ∙ differ))
 
 pub returns : goal.returns
@@ -61,5 +72,7 @@ returns c =
     let other = to_z-of_z {w = w64} (sfits_of c.bound_at-2.type_inv) ∙ c.bound_at-2.ensures
     ∙ bound-bytes c.args.bytes.now 0 c.requires.has_step_2 in
     c.bound_as_tight.ensures
-    ∙ (λ j. lt_z (one j) (other j) || equal (one j) (other j) && leb (this-is (goal.at.returns c).After-relation_at-relation j) (earlier-is (goal.at.returns c).After-relation_at-relation j))
-    ∙ sym (decides (goal.at.returns c).Else-relation-eq0 ∙ ap (λ (t : Bool). t && bound_tight (goal.at.returns c).After-relation_at-relation) (sym c.same_coefficients.ensures ∙ alike))
+    ∙ (λ j. lt_z (one j) (other j) || equal (one j) (other j) && leb (this-is (goal.at.returns c).After-relation_at-relation j)
+    (earlier-is (goal.at.returns c).After-relation_at-relation j))
+    ∙ sym (decides (goal.at.returns c).Else-relation-eq0 ∙ ap (λ (t : Bool). t
+    && bound_tight (goal.at.returns c).After-relation_at-relation) (sym c.same_coefficients.ensures ∙ alike))

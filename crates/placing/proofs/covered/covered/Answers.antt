@@ -21,14 +21,22 @@ line-is : (c : After-encode-bytes) → line_at c.encode-bytes.result 0 ≡ c.arg
 line-is c =
     one-step c.encode-bytes.result (search (rules, c))
     ∙ ap decoded (c.encode-bytes.ensures ∙ ap (λ (o : Origin). encoded (header_of o) (meaning c.args.line)) c.loaded.ensures)
-    ∙ decoded-encoded (header_of (loaded_by 0 0)) c.args.line c.requires.ready (search (rules, c.well_formed)) (search (rules, c.well_formed))
+    ∙ decoded-encoded (header_of (loaded_by 0 0)) c.args.line c.requires.ready (search (rules, c.well_formed))
+    (search (rules, c.well_formed))
     (search (rules, c.well_formed))
 
 pub loop-i-init : goal.loop-i-init
 loop-i-init c = (omega arith, refl)
 
 pub drops-requires : goal.drops-requires
-drops-requires c = record { has_step = search rules; has_step_2 = search rules; shaped = ((held-ready c.requires.held (c.loop-i.i - 1) (omega arith)).shaped, rw (line-is (goal.at.drops-requires c).After-encode-bytes) c.requires.ready.shaped) }
+drops-requires c = record {
+  has_step = search rules;
+  has_step_2 = search rules;
+  shaped = (
+    (held-ready c.requires.held (c.loop-i.i - 1) (omega arith)).shaped,
+    rw (line-is (goal.at.drops-requires c).After-encode-bytes) c.requires.ready.shaped,
+  );
+}
 
 -- one step back
 module _ (c : After-drops) where
@@ -45,7 +53,8 @@ module _ (c : After-drops) where
 pub returns-then-drops : goal.returns-then-drops
 returns-then-drops c =
     let before = among (goal.at.returns-then-drops c).After-drops (c.loop-i.i - 1) in
-    rw (← line-is (goal.at.returns-then-drops c).After-encode-bytes) (sym (next (goal.at.returns-then-drops c).After-drops ∙ ap (λ (t : Bool). before || t) c.if-drops.true ∙ or-true before))
+    rw (← line-is (goal.at.returns-then-drops c).After-encode-bytes)
+    (sym (next (goal.at.returns-then-drops c).After-drops ∙ ap (λ (t : Bool). before || t) c.if-drops.true ∙ or-true before))
 
 pub loop-i-preserved : goal.loop-i-preserved
 loop-i-preserved c =
@@ -57,4 +66,5 @@ returns c =
     let proof = c.args.proof.now in
     let line = meaning (line_at c.encode-bytes.result 0) in
     let none : c.loop-i.i ≡ 0 = omega arith in
-    rw (← line-is (goal.at.returns c).After-encode-bytes) (sym (c.loop-i.invariant.1 ∙ ap (λ (k : ℕ). covered line (steps_in proof k)) none ∙ covered_none line proof))
+    rw (← line-is (goal.at.returns c).After-encode-bytes) (sym (c.loop-i.invariant.1 ∙ ap (λ (k : ℕ). covered line (steps_in proof k)) none
+    ∙ covered_none line proof))

@@ -36,8 +36,11 @@ module _ (c : After-as_tight) where
   is = sym (λ j. positives && negatives && c.as_tight.ensures j)
 
 pub returns-then-not-as_tight : goal.returns-then-not-as_tight
-returns-then-not-as_tight c = sym (is (goal.at.returns-then-not-as_tight c).After-as_tight ∙ ap (λ (t : Bool). positives (goal.at.returns-then-not-as_tight c).After-as_tight && negatives (goal.at.returns-then-not-as_tight c).After-as_tight && t) (c.if-not-as_tight.true)
-    ∙ and-false (positives (goal.at.returns-then-not-as_tight c).After-as_tight && negatives (goal.at.returns-then-not-as_tight c).After-as_tight))
+returns-then-not-as_tight c = sym (is (goal.at.returns-then-not-as_tight c).After-as_tight
+    ∙ ap (λ (t : Bool). positives (goal.at.returns-then-not-as_tight c).After-as_tight
+    && negatives (goal.at.returns-then-not-as_tight c).After-as_tight && t) (c.if-not-as_tight.true)
+    ∙ and-false (positives (goal.at.returns-then-not-as_tight c).After-as_tight
+    && negatives (goal.at.returns-then-not-as_tight c).After-as_tight))
 
 -- the test of the positive literals
 positives-are : (c : After-subset) → c.subset.result ≡ positives (goal.at.After-subset c).After-as_tight
@@ -48,7 +51,8 @@ positives-are c =
 
 pub returns-then-not-subset : goal.returns-then-not-subset
 returns-then-not-subset c =
-    sym (is (goal.at.returns-then-not-subset c).After-as_tight ∙ ap (λ (t : Bool). t && negatives (goal.at.returns-then-not-subset c).After-as_tight && c.as_tight.result)
+    sym (is (goal.at.returns-then-not-subset c).After-as_tight ∙ ap
+    (λ (t : Bool). t && negatives (goal.at.returns-then-not-subset c).After-as_tight && c.as_tight.result)
     (sym (positives-are (goal.at.returns-then-not-subset c).After-subset) ∙ c.if-not-subset.true))
 
 pub returns : goal.returns
@@ -59,4 +63,5 @@ returns c =
     let inside : c.subset.result ≡ true = c.if-not-subset.false in
     c.subset-2.ensures
     ∙ (λ j. within (goal.at.returns c).After-as_tight (one j) (other j))
-    ∙ sym (is (goal.at.returns c).After-as_tight ∙ (λ j. (sym (positives-are (goal.at.returns c).After-subset) ∙ inside) j && negatives (goal.at.returns c).After-as_tight && tight j) ∙ and-true (negatives (goal.at.returns c).After-as_tight))
+    ∙ sym (is (goal.at.returns c).After-as_tight ∙ (λ j. (sym (positives-are (goal.at.returns c).After-subset) ∙ inside) j
+    && negatives (goal.at.returns c).After-as_tight && tight j) ∙ and-true (negatives (goal.at.returns c).After-as_tight))

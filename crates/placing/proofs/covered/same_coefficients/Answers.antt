@@ -34,10 +34,15 @@ next c =
     ∙ sym (λ j. eqb (a.ensures j) (b.ensures j) && rest)
 
 pub returns-then-coefficient_word_at : goal.returns-then-coefficient_word_at
-returns-then-coefficient_word_at c = sym (next (goal.at.returns-then-coefficient_word_at c).After-coefficient_word_at-in-loop-f ∙ rw (ne_eqb _ _ c.if-coefficient_word_at.true))
+returns-then-coefficient_word_at c = sym (next (goal.at.returns-then-coefficient_word_at c).After-coefficient_word_at-in-loop-f
+    ∙ rw (ne_eqb _ _ c.if-coefficient_word_at.true))
 
 pub loop-f-preserved : goal.loop-f-preserved
-loop-f-preserved c = (omega arith, next (goal.at.loop-f-preserved c).After-coefficient_word_at-in-loop-f ∙ rw (eq-eqb _ _ c.if-coefficient_word_at.false))
+loop-f-preserved c = (
+  omega arith,
+  next (goal.at.loop-f-preserved c).After-coefficient_word_at-in-loop-f
+      ∙ rw (eq-eqb _ _ c.if-coefficient_word_at.false),
+)
 
 pub returns : goal.returns
 returns c = sym (c.loop-f.invariant.1 ∙ same-last _ _ _ c.loop-f.f (omega arith))

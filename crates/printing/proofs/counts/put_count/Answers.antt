@@ -9,4 +9,7 @@ put_number-requires c = omega (arith, c.put_word-next.ensures.value, c.put_word-
 
 pub returns : goal.returns
 unfolding print_line ascii
-returns c = record { appended = appended-++ (omega (arith, c.requires)) c.put_word-next.ensures.appended c.put_number.ensures.appended; upper_bound = omega (arith, c.put_word-next.ensures.value, c.put_number.ensures.upper_bound) }
+returns c = record {
+  appended = appended-++ (omega (arith, c.requires)) c.put_word-next.ensures.appended c.put_number.ensures.appended;
+  upper_bound = omega (arith, c.put_word-next.ensures.value, c.put_number.ensures.upper_bound);
+}

@@ -9,4 +9,7 @@ put_pair-requires c = omega (arith, c.put_word-next.ensures.value, c.put_word-ne
 
 pub returns : goal.returns
 unfolding print_line ascii
-returns c = record { appended = appended-++ (omega (arith, c.requires)) c.put_word-next.ensures.appended c.put_pair.ensures.appended; upper_bound = omega (arith, c.put_word-next.ensures.value, c.put_pair.ensures.upper_bound) }
+returns c = record {
+  appended = appended-++ (omega (arith, c.requires)) c.put_word-next.ensures.appended c.put_pair.ensures.appended;
+  upper_bound = omega (arith, c.put_word-next.ensures.value, c.put_pair.ensures.upper_bound);
+}

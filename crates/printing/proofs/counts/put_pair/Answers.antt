@@ -6,4 +6,7 @@ use Rattle.printing.proofs.counts.put_pair.Goals as goal
 
 pub returns : goal.returns
 unfolding print_line ascii
-returns c = record { appended = appended-++ (omega (arith, c.requires)) c.put_number-next.ensures.appended c.put_number.ensures.appended; upper_bound = omega (arith, c.put_number-next.ensures.upper_bound, c.put_number.ensures.upper_bound) }
+returns c = record {
+  appended = appended-++ (omega (arith, c.requires)) c.put_number-next.ensures.appended c.put_number.ensures.appended;
+  upper_bound = omega (arith, c.put_number-next.ensures.upper_bound, c.put_number.ensures.upper_bound);
+}

@@ -21,7 +21,8 @@ loop-i-preserved c =
     let e = c.put_number-next.ensures in
     let t = rw c.u8_at-value.ensures at e.appended in (
       omega (arith, c.loop-i-test.true),
-      making-more a.at number_room (flag_text a.model.now) a.out.now c.loop-i.i (omega (arith, c.requires.b_in_bounds_2)) c.loop-i.invariant.1
+      making-more a.at number_room (flag_text a.model.now) a.out.now c.loop-i.i
+          (omega (arith, c.requires.b_in_bounds_2)) c.loop-i.invariant.1
           c.put_number-next.auto.out t e.upper_bound,
     )
 

@@ -27,7 +27,23 @@ few-r : (c : After-u8_at-r) → c.u8_at-r.result ≤ limit.rationals
 few-r c = omega (arith, r-is c, c.requires.printable.rationals)
 
 pub put_rationals-requires : goal.put_rationals-requires
-put_rationals-requires c = record { r_in_bounds = omega (arith, few-b (goal.at.put_rationals-requires c).After-u8_at-b, few-r (goal.at.put_rationals-requires c).After-u8_at-r, c.requires.printable.whole); r_in_bounds_2 = omega (arith, few-b (goal.at.put_rationals-requires c).After-u8_at-b, few-r (goal.at.put_rationals-requires c).After-u8_at-r, c.requires.model_room_in_bounds, c.put_booleans-next.ensures.upper_bound, c.put_booleans-next.auto.out) }
+put_rationals-requires c = record {
+  r_in_bounds = omega (
+    arith,
+    few-b (goal.at.put_rationals-requires c).After-u8_at-b,
+    few-r (goal.at.put_rationals-requires c).After-u8_at-r,
+    c.requires.printable.whole,
+  );
+  r_in_bounds_2 =
+      omega (
+        arith,
+        few-b (goal.at.put_rationals-requires c).After-u8_at-b,
+        few-r (goal.at.put_rationals-requires c).After-u8_at-r,
+        c.requires.model_room_in_bounds,
+        c.put_booleans-next.ensures.upper_bound,
+        c.put_booleans-next.auto.out,
+      );
+}
 
 pub returns : goal.returns
 unfolding print_model
@@ -40,4 +56,13 @@ returns c =
     let all = appended-++ (omega (arith, c.requires.model_room_in_bounds)) front back in
     let assoc = append_assoc (booleans_text a.model.now b) (print_line (ascii "figures") (decimal r ∷ []))
     (numerators_text a.model.now b r) in
-    record { appended = rw assoc all; upper_bound = omega (arith, few-b (goal.at.returns c).After-u8_at-b, few-r (goal.at.returns c).After-u8_at-r, c.put_booleans-next.ensures.upper_bound, c.put_rationals.ensures.upper_bound) }
+    record {
+      appended = rw assoc all;
+      upper_bound = omega (
+        arith,
+        few-b (goal.at.returns c).After-u8_at-b,
+        few-r (goal.at.returns c).After-u8_at-r,
+        c.put_booleans-next.ensures.upper_bound,
+        c.put_rationals.ensures.upper_bound,
+      );
+    }

@@ -24,7 +24,9 @@ pub loop-i-preserved : goal.loop-i-preserved
 loop-i-preserved c =
     let a = c.args in
     let e = c.put_rational-next.ensures in
-    let y : c.amount_at-numerator.result ≡ from_unsigned (field_at (layout.model_numerators a.b + 4 * c.loop-i.i) 4 a.model.now) = c.amount_at-numerator.ensures ∙ ap (λ (k : ℕ). from_unsigned (field_at (k + 4 * c.loop-i.i) 4 a.model.now)) c.model_numerators-numerators.ensures in
+    let y : c.amount_at-numerator.result ≡ from_unsigned (field_at (layout.model_numerators a.b + 4 * c.loop-i.i) 4 a.model.now) =
+    c.amount_at-numerator.ensures ∙ ap (λ (k : ℕ). from_unsigned
+    (field_at (k + 4 * c.loop-i.i) 4 a.model.now)) c.model_numerators-numerators.ensures in
     let z : c.u32_at-denominator.result ≡ field_at (layout.model_denominator a.b) 4 a.model.now = c.u32_at-denominator.ensures
     ∙ ap (λ (k : ℕ). field_at k 4 a.model.now) c.model_denominator.ensures in
     let f : SFits w64 c.amount_at-numerator.result = record { sfits = c.amount_at-numerator.type_inv } in

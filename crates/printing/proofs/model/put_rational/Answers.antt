@@ -9,4 +9,7 @@ pub returns : goal.returns
 unfolding print_line ascii
 returns c =
     let t = rw (to_z-of_z c.ranges.numerator) at c.put_signed-next.ensures.appended in
-    record { appended = appended-++ (omega (arith, c.requires)) t c.put_number.ensures.appended; upper_bound = omega (arith, c.put_signed-next.ensures.upper_bound, c.put_number.ensures.upper_bound) }
+    record {
+      appended = appended-++ (omega (arith, c.requires)) t c.put_number.ensures.appended;
+      upper_bound = omega (arith, c.put_signed-next.ensures.upper_bound, c.put_number.ensures.upper_bound);
+    }

@@ -6,4 +6,10 @@ use Rattle.printing.proofs.model.put_rationals.Goals as goal
 
 pub returns : goal.returns
 unfolding ascii
-returns c = record { appended = appended-++ (omega (arith, c.requires.r_in_bounds_2)) c.put_count-next.ensures.appended c.put_numerators.ensures.appended; upper_bound = omega (arith, c.put_count-next.ensures.upper_bound, c.put_numerators.ensures.upper_bound) }
+returns c =
+    record {
+      appended = appended-++
+          (omega (arith, c.requires.r_in_bounds_2)) c.put_count-next.ensures.appended c.put_numerators.ensures.appended;
+      upper_bound =
+          omega (arith, c.put_count-next.ensures.upper_bound, c.put_numerators.ensures.upper_bound);
+    }

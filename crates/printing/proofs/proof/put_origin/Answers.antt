@@ -9,4 +9,12 @@ pub returns : goal.returns
 unfolding print_line ascii
 returns c =
     let two = appended-++ (omega (arith, c.requires)) c.put_number-which.ensures.appended c.put_number-parents.ensures.appended in
-    record { appended = rw append_assoc at (appended-++ (omega (arith, c.requires)) two c.put_pair.ensures.appended); upper_bound = omega (arith, c.put_number-which.ensures.upper_bound, c.put_number-parents.ensures.upper_bound, c.put_pair.ensures.upper_bound) }
+    record {
+      appended = rw append_assoc at (appended-++ (omega (arith, c.requires)) two c.put_pair.ensures.appended);
+      upper_bound = omega (
+        arith,
+        c.put_number-which.ensures.upper_bound,
+        c.put_number-parents.ensures.upper_bound,
+        c.put_pair.ensures.upper_bound,
+      );
+    }

@@ -22,4 +22,14 @@ returns c =
     let e : take c.decimal-k.result c.decimal-k.new.out ≡ decimal c.args.n = f.digits
     ∙ decimal-digits c.decimal-k.result c.args.n f.len in
     let t = rw e at c.put_word.ensures.appended in
-    record { appended = t; upper_bound = omega (arith, t.ends, length-append (decimal c.args.n) (c.args.end ∷ []), ap length e, f.in_bounds.1, few (goal.at.returns c).After-decimal-k) }
+    record {
+      appended = t;
+      upper_bound = omega (
+        arith,
+        t.ends,
+        length-append (decimal c.args.n) (c.args.end ∷ []),
+        ap length e,
+        f.in_bounds.1,
+        few (goal.at.returns c).After-decimal-k,
+      );
+    }

@@ -22,7 +22,10 @@ returns-then-z-lt0 c =
     let e = signed-negative a.z (rw (to_z-of_z c.ranges.z) at c.if-z-lt0.true) in
     let t = rw n at c.put_number.ensures.appended in
     let minus = appended-byte a.at 45 a.out.now (omega (arith, c.requires)) in
-    record { appended = rw e (appended-++ (omega (arith, c.requires)) minus t); upper_bound = omega (arith, c.put_number.ensures.upper_bound) }
+    record {
+      appended = rw e (appended-++ (omega (arith, c.requires)) minus t);
+      upper_bound = omega (arith, c.put_number.ensures.upper_bound);
+    }
 
 pub returns : goal.returns
 returns c =

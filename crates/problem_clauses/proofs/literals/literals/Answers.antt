@@ -15,7 +15,11 @@ bounds-input-from c =
     omega (arith, behind-is 1 c.args.count c.args.from, c.requires, c.loop-left.invariant.few, c.loop-left-test.true)
 
 pub loop-left-preserved : goal.loop-left-preserved
-loop-left-preserved c = gathered_next c.loop-left.invariant c.loop-left-test.true _ _ c.including-l.ensures.positive c.including-l.ensures.negative
+loop-left-preserved c =
+    gathered_next c.loop-left.invariant c.loop-left-test.true _ _ c.including-l.ensures.positive c.including-l.ensures.negative
 
 pub returns : goal.returns
-returns c = record { positive = (gathered-done c.loop-left.invariant c.loop-left-test.false).0; negative = (gathered-done c.loop-left.invariant c.loop-left-test.false).1 }
+returns c = record {
+  positive = (gathered-done c.loop-left.invariant c.loop-left-test.false).0;
+  negative = (gathered-done c.loop-left.invariant c.loop-left-test.false).1;
+}

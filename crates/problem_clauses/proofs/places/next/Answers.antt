@@ -30,7 +30,12 @@ overflow_mul-result c =
 
 pub overflow_add-result-2 : goal.overflow_add-result-2
 overflow_add-result-2 c =
-    rw c.comparison_bytes.ensures (omega (arith, end_is (goal.at.overflow_add-result-2 c).After-count_place-place, c.requires, c.well_formed))
+    rw c.comparison_bytes.ensures (omega (
+      arith,
+      end_is (goal.at.overflow_add-result-2 c).After-count_place-place,
+      c.requires,
+      c.well_formed,
+    ))
 
 pub returns : goal.returns
 returns c = rw c.comparison_bytes.ensures (sym (end_is (goal.at.returns c).After-count_place-place))

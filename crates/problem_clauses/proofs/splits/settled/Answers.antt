@@ -25,7 +25,8 @@ pub returns-then-not-zeros : goal.returns-then-not-zeros
 returns-then-not-zeros c = sym (fate-kept c.args.input.now c.args.second c.args.r c.args.at
     (sym c.zeros.ensures ∙ c.if-not-zeros.true))
 
-zeros-hold : (c : Else-not-zeros) → all is_zero (values_at (amount_at c.args.input.now) 4 c.args.r (c.args.at + layout.comparison_coefficients)) ≡ true
+zeros-hold : (c : Else-not-zeros) → all is_zero (values_at (amount_at c.args.input.now) 4 c.args.r
+    (c.args.at + layout.comparison_coefficients)) ≡ true
 zeros-hold c = sym c.zeros.ensures ∙ c.if-not-zeros.false
 
 -- the test is the definition's
@@ -38,7 +39,8 @@ test-is c =
 
 pub returns-then-zero_related : goal.returns-then-zero_related
 returns-then-zero_related c =
-    sym (fate-always c.args.input.now c.args.second c.args.r c.args.at (zeros-hold (goal.at.returns-then-zero_related c).Else-not-zeros) c.zero_related.result
+    sym (fate-always c.args.input.now c.args.second c.args.r c.args.at
+    (zeros-hold (goal.at.returns-then-zero_related c).Else-not-zeros) c.zero_related.result
     (test-is (goal.at.returns-then-zero_related c).After-zero_related) c.if-zero_related.true)
 
 pub returns : goal.returns

@@ -62,7 +62,11 @@ pub bounds-input-place : goal.bounds-input-place
 bounds-input-place c = place-within (goal.at.bounds-input-place c).After-count_place-place
 
 pub returns-then-count-lt2 : goal.returns-then-count-lt2
-returns-then-count-lt2 c = omega (arith, splits-few (here (goal.at.returns-then-count-lt2 c).After-count_place-place) 1 (omega (arith, many (goal.at.returns-then-count-lt2 c).After-count_place-place, c.if-count-lt2.true)))
+returns-then-count-lt2 c = omega (
+  arith,
+  splits-few (here (goal.at.returns-then-count-lt2 c).After-count_place-place) 1
+      (omega (arith, many (goal.at.returns-then-count-lt2 c).After-count_place-place, c.if-count-lt2.true)),
+)
 
 pub overflow_add-at : goal.overflow_add-at
 overflow_add-at c = omega (arith, clause-within c.args.input.now c.args.r c.args.at c.requires, c.well_formed)
@@ -85,12 +89,17 @@ module _ (c : After-literals-l) where
 
   -- the split variables of a reading, by the constraints that stay
   known : clash ≡ false → (second : Bool) (k : Staying)
-      → k ≡ counted 0 (settled_all (constraints_at (q (goal.at.After-literals-l c).After-count_place-place) second c.args.r (get_or (q (goal.at.After-literals-l c).After-count_place-place) (place (goal.at.After-literals-l c).After-count_place-place) 0) (place (goal.at.After-literals-l c).After-count_place-place + 1)))
+      → k ≡ counted 0 (settled_all (constraints_at (q (goal.at.After-literals-l c).After-count_place-place) second c.args.r
+      (get_or (q (goal.at.After-literals-l c).After-count_place-place) (place (goal.at.After-literals-l c).After-count_place-place) 0)
+      (place (goal.at.After-literals-l c).After-count_place-place + 1)))
       → (n : ℕ) → n ≡ splits_by false k → n ≡ reading_splits (reading second (here (goal.at.After-literals-l c).After-count_place-place))
   known e second k i n h =
       h ∙ ap (splits_by false) i
-      ∙ sym (splits-at (q (goal.at.After-literals-l c).After-count_place-place) c.args.r c.args.at c.literals-l.result.positive c.literals-l.result.negative
-      c.literals-l.ensures.positive c.literals-l.ensures.negative second false (place (goal.at.After-literals-l c).After-count_place-place) e c.count_place-place.ensures)
+      ∙ sym
+      (splits-at
+      (q (goal.at.After-literals-l c).After-count_place-place) c.args.r c.args.at c.literals-l.result.positive c.literals-l.result.negative
+      c.literals-l.ensures.positive c.literals-l.ensures.negative second false
+      (place (goal.at.After-literals-l c).After-count_place-place) e c.count_place-place.ensures)
 
 pub returns-then-meets : goal.returns-then-meets
 returns-then-meets c = sym (none_of (goal.at.returns-then-meets c).After-literals-l (sym c.meets.ensures ∙ c.if-meets.true))
@@ -102,9 +111,11 @@ pub remaining-requires : goal.remaining-requires
 remaining-requires c = all-within (goal.at.remaining-requires c).After-count_place-place
 
 -- the first reading's
-first-is : (c : After-between-first) → c.between-first.result ≡ reading_splits (reading false (here (goal.at.After-between-first c).After-count_place-place))
+first-is : (c : After-between-first) → c.between-first.result ≡ reading_splits
+    (reading false (here (goal.at.After-between-first c).After-count_place-place))
 first-is c =
-    known (goal.at.After-between-first c).After-literals-l (sym c.meets.ensures ∙ c.if-meets.false) false c.remaining.result c.remaining.ensures
+    known (goal.at.After-between-first c).After-literals-l (sym c.meets.ensures
+    ∙ c.if-meets.false) false c.remaining.result c.remaining.ensures
     c.between-first.result c.between-first.ensures
 
 pub has_equality-requires : goal.has_equality-requires
@@ -113,14 +124,17 @@ has_equality-requires c = all-within (goal.at.has_equality-requires c).After-cou
 pub returns-then-not-has_equality : goal.returns-then-not-has_equality
 returns-then-not-has_equality c =
     first-is (goal.at.returns-then-not-has_equality c).After-between-first
-    ∙ sym (splits-once (here (goal.at.returns-then-not-has_equality c).After-count_place-place) (sym (twice-is (goal.at.returns-then-not-has_equality c).After-count_place-place c.has_equality.result c.has_equality.ensures) ∙ c.if-not-has_equality.true))
+    ∙ sym (splits-once (here (goal.at.returns-then-not-has_equality c).After-count_place-place)
+    (sym (twice-is (goal.at.returns-then-not-has_equality c).After-count_place-place c.has_equality.result c.has_equality.ensures)
+    ∙ c.if-not-has_equality.true))
 
 pub remaining-requires-2 : goal.remaining-requires-2
 remaining-requires-2 c = all-within (goal.at.remaining-requires-2 c).After-count_place-place
 
 pub returns : goal.returns
 returns c =
-    (λ i. first-is (goal.at.returns c).After-between-first i + known (goal.at.returns c).After-literals-l (sym c.meets.ensures ∙ c.if-meets.false) true c.remaining-2.result c.remaining-2.ensures
+    (λ i. first-is (goal.at.returns c).After-between-first i + known (goal.at.returns c).After-literals-l
+    (sym c.meets.ensures ∙ c.if-meets.false) true c.remaining-2.result c.remaining-2.ensures
     c.between.result c.between.ensures i)
     ∙ sym (splits-twice (here (goal.at.returns c).After-count_place-place)
     (sym (twice-is (goal.at.returns c).After-count_place-place c.has_equality.result c.has_equality.ensures) ∙ c.if-not-has_equality.false))

@@ -28,7 +28,10 @@ use Rattle.problem_parts.proofs.constraint.constraint_line.Goals as goal
 use Rattle.problem_parts.proofs.constraint.constraint_line.Goals.{After-relation_of, Start}
 
 pub row-coefficients-requires : goal.row-coefficients-requires
-row-coefficients-requires c = record { count_le_rationals = c.requires.r_le_rationals; from_in_bounds = omega (arith, behind-is 4 c.args.r (c.args.at + layout.comparison_coefficients), c.requires.sound_comparison.within) }
+row-coefficients-requires c = record {
+  count_le_rationals = c.requires.r_le_rationals;
+  from_in_bounds = omega (arith, behind-is 4 c.args.r (c.args.at + layout.comparison_coefficients), c.requires.sound_comparison.within);
+}
 
 -- the line as written
 module _ (c : After-relation_of) where
@@ -91,8 +94,21 @@ whole s o = record {
 pub returns-then-turns : goal.returns-then-turns
 unfolding meaning
 returns-then-turns c =
-    let e = c.turned_line.ensures in record { result_value = ap meaning e ∙ ap (whole (goal.at.returns-then-turns c).Start) (words (goal.at.returns-then-turns c).After-relation_of true (sym c.if-turns.true ∙ c.turns.ensures) _ _ refl refl); ready = subst Ready (sym e) (turned-ready (line (goal.at.returns-then-turns c).After-relation_of) (ready (goal.at.returns-then-turns c).After-relation_of)) }
+    let e = c.turned_line.ensures in record {
+      result_value = ap meaning e
+          ∙ ap (whole (goal.at.returns-then-turns c).Start) (words (goal.at.returns-then-turns c).After-relation_of true
+          (sym c.if-turns.true ∙ c.turns.ensures) _ _ refl refl);
+      ready =
+          subst Ready (sym e) (turned-ready (line (goal.at.returns-then-turns c).After-relation_of)
+          (ready (goal.at.returns-then-turns c).After-relation_of));
+    }
 
 pub returns : goal.returns
 unfolding meaning signed
-returns c = record { result_value = ap (whole (goal.at.returns c).Start) (words (goal.at.returns c).After-relation_of false (sym c.if-turns.false ∙ c.turns.ensures) _ _ (sym (signed_same (line (goal.at.returns c).After-relation_of).coefficients)) refl); ready = ready (goal.at.returns c).After-relation_of }
+returns c = record {
+  result_value = ap (whole (goal.at.returns c).Start)
+      (words (goal.at.returns c).After-relation_of false (sym c.if-turns.false ∙ c.turns.ensures) _ _
+      (sym (signed_same (line (goal.at.returns c).After-relation_of).coefficients)) refl);
+  ready =
+      ready (goal.at.returns c).After-relation_of;
+}

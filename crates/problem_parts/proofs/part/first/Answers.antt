@@ -8,7 +8,11 @@ use Rattle.problem_parts.proofs.part.first.Goals as goal
 
 pub returns-then-parts : goal.returns-then-parts
 unfolding part_of
-returns-then-parts c = let n = c.next-p in record { result_value = sym (ap (λ (ls : List rules.Line). get_elem? ls 0) n.ensures.parts_value); ready = n.ensures.ready }
+returns-then-parts c = let n = c.next-p in record {
+  result_value = sym
+      (ap (λ (ls : List rules.Line). get_elem? ls 0) n.ensures.parts_value);
+  ready = n.ensures.ready;
+}
 
 pub returns : goal.returns
 unfolding part_of

@@ -26,13 +26,18 @@ first-requires c = record { r_le_rationals = c.requires.r_le_rationals; sound_pa
 pub returns-then-not-parts : goal.returns-then-not-parts
 returns-then-not-parts c =
     let l = c.loop-left in record {
-      result_value = c.first.ensures.result_value ∙ looking-none c.args.input.now c.args.r (wanted (goal.at.returns-then-not-parts c).Start) l.parts l.left l.invariant
+      result_value = c.first.ensures.result_value ∙ looking-none c.args.input.now c.args.r
+          (wanted (goal.at.returns-then-not-parts c).Start) l.parts l.left l.invariant
           (not-true _ c.if-not-parts.true);
       ready = c.first.ensures.ready;
     }
 
 pub next-p-requires : goal.next-p-requires
-next-p-requires c = record { r_le_rationals = c.requires.r_le_rationals; sound_parts = c.loop-left.invariant.sound; more_value = not-false _ c.if-not-parts.false }
+next-p-requires c = record {
+  r_le_rationals = c.requires.r_le_rationals;
+  sound_parts = c.loop-left.invariant.sound;
+  more_value = not-false _ c.if-not-parts.false;
+}
 
 pub loop-left-preserved : goal.loop-left-preserved
 loop-left-preserved c =
@@ -48,7 +53,8 @@ first-requires-2 c = record { r_le_rationals = c.requires.r_le_rationals; sound_
 pub returns : goal.returns
 returns c =
     let l = c.loop-left in record {
-      result_value = c.first-2.ensures.result_value ∙ looking-here c.args.input.now c.args.r (wanted (goal.at.returns c).Start) l.parts l.left l.invariant
+      result_value = c.first-2.ensures.result_value ∙ looking-here c.args.input.now c.args.r
+          (wanted (goal.at.returns c).Start) l.parts l.left l.invariant
           c.loop-left-test.false;
       ready = c.first-2.ensures.ready;
     }

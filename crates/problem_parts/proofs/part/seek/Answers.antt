@@ -13,7 +13,8 @@ use Rattle.theory_splitting.specs.Twice.{splits-twice}
 use Rattle.problem_scan.specs.Values.{clause_at}
 use Rattle.problem_parts.specs.Part.{Looking, begun-count, part-once, part-first, part-second}
 use Rattle.problem_parts.proofs.part.seek.Goals as goal
-use Rattle.problem_parts.proofs.part.seek.Goals.{After-count-n, After-splits, then-j-n-via-then-j-n, then-j-n-via-else-j-n+then-not-read_twice}
+use Rattle.problem_parts.proofs.part.seek.Goals.{After-count-n, After-splits, then-j-n-via-then-j-n}
+use Rattle.problem_parts.proofs.part.seek.Goals.{then-j-n-via-else-j-n+then-not-read_twice}
 
 pub begin-first-requires : goal.begin-first-requires
 begin-first-requires c = record { sound_clause = c.requires.sound_clause; split_le_all_booleans = omega (arith, c.requires.at_bound) }
@@ -57,18 +58,29 @@ behind : (c : After-splits) → c.splits.result ≡ reading_splits (reading fals
 behind c = let b = c.begin-first in c.splits.ensures ∙ b.ensures.splits
 
 pub begin-requires : goal.begin-requires
-begin-requires c = record { sound_clause = c.requires.sound_clause; split_le_all_booleans = omega (arith, c.requires.at_bound, behind c, splits-twice (here (goal.at.begin-requires c).After-count-n) (twice c)) }
+begin-requires c = record {
+  sound_clause = c.requires.sound_clause;
+  split_le_all_booleans = omega (
+    arith,
+    c.requires.at_bound,
+    behind c,
+    splits-twice (here (goal.at.begin-requires c).After-count-n) (twice c),
+  );
+}
 
 pub returns : goal.returns
 returns c =
     let a = c.args in
     let n = c.count-n.result in
-    let second = reading_parts (a.split + reading_splits (reading false (here (goal.at.returns c).After-count-n))) (reading true (here (goal.at.returns c).After-count-n)) in
+    let second = reading_parts (a.split + reading_splits (reading false (here (goal.at.returns c).After-count-n)))
+    (reading true (here (goal.at.returns c).After-count-n)) in
     record {
       sound = c.begin.ensures.sound;
       same =
           ap (λ (ls : List rules.Line). get_elem? ls (a.j - n)) c.begin.ensures.parts
-          ∙ ap (λ (m : ℕ). get_elem? (reading_parts (a.split + m) (reading true (here (goal.at.returns c).After-count-n))) (a.j - n)) (behind (goal.at.returns c).After-splits)
+          ∙ ap (λ (m : ℕ). get_elem? (reading_parts (a.split + m) (reading true (here (goal.at.returns c).After-count-n))) (a.j - n))
+          (behind (goal.at.returns c).After-splits)
           ∙ ap (λ (m : ℕ). get_elem? second (a.j - m)) (many (goal.at.returns c).After-count-n)
-          ∙ part-second a.split (here (goal.at.returns c).After-count-n) a.j (twice (goal.at.returns c).After-splits) (omega (arith, many (goal.at.returns c).After-count-n, c.if-j-n.false));
+          ∙ part-second a.split (here (goal.at.returns c).After-count-n) a.j (twice (goal.at.returns c).After-splits)
+          (omega (arith, many (goal.at.returns c).After-count-n, c.if-j-n.false));
     }

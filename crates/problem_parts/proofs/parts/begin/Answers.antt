@@ -76,16 +76,19 @@ started c m n =
     }
 
 -- so they are those of the reading
-all : (c : After-literals-l) (m : Bool) (n : ℕ) → n < 256 → (t : Bool) (k : Staying) → meet (positive_of (first c m n)) (negative_of (first c m n)) ≡ t
+all : (c : After-literals-l) (m : Bool) (n : ℕ) → n < 256 → (t : Bool) (k : Staying)
+    → meet (positive_of (first c m n)) (negative_of (first c m n)) ≡ t
     → k ≡ staying_of c.args.input.now c.args.r (first c m n) → Agreeing t k (first c m n)
     → Begun c.args.input.now c.args.r c.args.at c.args.split c.args.second (first c m n)
 unfolding first
 all c m n few =
-    begun c.args.input.now c.args.r c.args.at (first c m n) (started c m n) c.requires.sound_clause (omega (arith, c.requires.split_le_all_booleans, few))
+    begun c.args.input.now c.args.r c.args.at (first c m n) (started c m n) c.requires.sound_clause
+    (omega (arith, c.requires.split_le_all_booleans, few))
 
 pub returns-then-meets : goal.returns-then-meets
 unfolding first
-returns-then-meets c = all (goal.at.returns-then-meets c).After-literals-l false 0 (omega arith) true _ (sym c.meets.ensures ∙ c.if-meets.true) refl (refl, refl)
+returns-then-meets c = all (goal.at.returns-then-meets c).After-literals-l false 0 (omega arith) true _
+    (sym c.meets.ensures ∙ c.if-meets.true) refl (refl, refl)
 
 -- no variable has both signs
 apart : (c : Else-meets) → let l = c.literals-l.result in
@@ -102,7 +105,8 @@ remaining-k-requires c = rw c.count_place-place.ensures c.requires.sound_clause.
 pub returns-in_default : goal.returns-in_default
 unfolding first
 returns-in_default c =
-    all (goal.at.returns-in_default c).After-literals-l false 0 (omega arith) false Dropped (apart (goal.at.returns-in_default c).Else-meets)
+    all (goal.at.returns-in_default c).After-literals-l false 0 (omega arith) false Dropped
+    (apart (goal.at.returns-in_default c).Else-meets)
     (sym c.in_default.is ∙ c.remaining-k.ensures) (refl, refl)
 
 pub returns : goal.returns
@@ -110,5 +114,6 @@ unfolding first
 returns c =
     let n = c.in-Count.n in
     let f : n < 256 = omega arith in
-    all (goal.at.returns c).After-literals-l true n f false (Count n) (apart (goal.at.returns c).Else-meets) (sym c.in-Count.is ∙ c.remaining-k.ensures)
+    all (goal.at.returns c).After-literals-l true n f false (Count n) (apart (goal.at.returns c).Else-meets)
+    (sym c.in-Count.is ∙ c.remaining-k.ensures)
     (refl, refl)

@@ -17,7 +17,11 @@ pub returns-then-not-parts : goal.returns-then-not-parts
 returns-then-not-parts c = sym (left_by (goal.at.returns-then-not-parts c).Start false (not-true _ c.if-not-parts.true))
 
 pub returns-then-parts-eq0 : goal.returns-then-parts-eq0
-returns-then-parts-eq0 c = omega (arith, left_by (goal.at.returns-then-parts-eq0 c).Start true (not-false _ c.if-not-parts.false), c.if-parts-eq0.true)
+returns-then-parts-eq0 c = omega (
+  arith,
+  left_by (goal.at.returns-then-parts-eq0 c).Start true (not-false _ c.if-not-parts.false),
+  c.if-parts-eq0.true,
+)
 
 pub returns : goal.returns
 returns c = omega (arith, left_by (goal.at.returns c).Start true (not-false _ c.if-not-parts.false), c.if-parts-eq0.false)

@@ -33,7 +33,11 @@ some_stay : (c : Else-parts-eq0) → 0 < c.args.parts.stay
 some_stay c = omega (arith, c.if-parts-eq0.false)
 
 pub skip-first-requires : goal.skip-first-requires
-skip-first-requires c = record { each = c.requires.sound_parts.each; from_value = c.requires.sound_parts.stays c.requires.more_value; stay_nonzero = some_stay c }
+skip-first-requires c = record {
+  each = c.requires.sound_parts.each;
+  from_value = c.requires.sound_parts.stays c.requires.more_value;
+  stay_nonzero = some_stay c;
+}
 
 pub reduced_line-requires : goal.reduced_line-requires
 reduced_line-requires c =
@@ -45,7 +49,11 @@ reduced_line-requires c =
     }
 
 pub rest-requires : goal.rest-requires
-rest-requires c = record { sound_parts = c.requires.sound_parts; skipped = c.skip-first.ensures; more_value = (c.requires.more_value, some_stay (goal.at.rest-requires c).Else-parts-eq0) }
+rest-requires c = record {
+  sound_parts = c.requires.sound_parts;
+  skipped = c.skip-first.ensures;
+  more_value = (c.requires.more_value, some_stay (goal.at.rest-requires c).Else-parts-eq0);
+}
 
 pub returns : goal.returns
 returns c =
@@ -58,7 +66,8 @@ returns c =
     }
     ≡ meaning c.reduced_line.result =
     rw (← c.own.ensures) (sym c.reduced_line.ensures.result_value) in record {
-      parts_value = from-kept c.args.input.now c.args.r parts c.requires.sound_parts c.requires.more_value c.skip-first.result c.skip-first.ensures
+      parts_value =
+          from-kept c.args.input.now c.args.r parts c.requires.sound_parts c.requires.more_value c.skip-first.result c.skip-first.ensures
           ∙ (λ i. line i ∷ sym c.rest.ensures.result_value i);
       ready = c.reduced_line.ensures.ready;
       sound_parts_2 = c.rest.ensures.sound_parts_2;

@@ -11,7 +11,8 @@ pub reduce-requires : goal.reduce-requires
 reduce-requires c =
     let l = c.constraint_line in
     let e = coefficients-of l.result (constraint_at c.args.input.now c.args.second c.args.r c.args.at)
-    (ap (λ (m : rules.Line). m.constraint) l.ensures.result_value) in record { shaped = l.ensures.ready.shaped; coefficients_value = rw e c.requires.at_value; bounded = ready-bounded l.ensures.ready }
+    (ap (λ (m : rules.Line). m.constraint) l.ensures.result_value) in
+    record { shaped = l.ensures.ready.shaped; coefficients_value = rw e c.requires.at_value; bounded = ready-bounded l.ensures.ready }
 
 pub returns : goal.returns
 returns c =

@@ -19,7 +19,8 @@ returns-then-input-at-lt4 c = sym (amount-short c.args.input.now c.args.at c.req
 
 pub returns-then-in_range : goal.returns-then-in_range
 returns-then-in_range c =
-    sym (amount-good c.args.input.now c.args.at (omega arith) (tested-is (goal.at.returns-then-in_range c).After-in_range ∙ c.if-in_range.true))
+    sym (amount-good c.args.input.now c.args.at (omega arith) (tested-is (goal.at.returns-then-in_range c).After-in_range
+    ∙ c.if-in_range.true))
 
 pub returns : goal.returns
 returns c =

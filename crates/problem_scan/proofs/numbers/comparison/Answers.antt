@@ -7,7 +7,8 @@ use Rattle.rules.specs.Problem.{got, relation_of, is_equality, relation}
 use Rattle.problem_scan.specs.Comparisons.{relation-short, relation-bad, relation-second, relation-good, comparison-refused}
 use Rattle.problem_scan.specs.Comparisons.{comparison-fault, comparison-within, comparison-bound}
 use Rattle.problem_scan.proofs.numbers.comparison.Goals as goal
-use Rattle.problem_scan.proofs.numbers.comparison.Goals.{Joined-else-equated, else-equated-via-then-equated+else-is_equality, else-equated-via-else-equated}
+use Rattle.problem_scan.proofs.numbers.comparison.Goals.{Joined-else-equated, else-equated-via-then-equated+else-is_equality}
+use Rattle.problem_scan.proofs.numbers.comparison.Goals.{else-equated-via-else-equated}
 
 -- the relation is read
 relation-is : (c : Joined-else-equated) → let q = c.args.input.now in
@@ -19,7 +20,8 @@ relation-is c =
     relation-good q c.args.equated at c.if-input-at.false (sym c.is_relation.ensures ∙ c.if-not-is_relation.false)
     (elim c.else-equated.branch [
       | else-equated-via-then-equated+else-is_equality w ↦
-          ap (λ (t : Bool). t && is_equality (relation_of (get_or q at 0))) w.if-equated.true ∙ sym w.is_equality.ensures ∙ w.if-is_equality.false
+          ap (λ (t : Bool). t && is_equality (relation_of (get_or q at 0))) w.if-equated.true ∙ sym w.is_equality.ensures
+          ∙ w.if-is_equality.false
       | else-equated-via-else-equated w ↦ ap (λ (t : Bool). t && is_equality (relation_of (get_or q at 0))) w.if-equated.false
     ])
 
@@ -45,12 +47,14 @@ returns-then-is_equality c =
 
 pub returns-in_default : goal.returns-in_default
 returns-in_default c =
-    comparison-fault c.args.input.now c.args.equated c.args.at c.args.r c.if-input-at.false _ (relation-is (goal.at.returns-in_default c).Joined-else-equated)
+    comparison-fault c.args.input.now c.args.equated c.args.at c.args.r c.if-input-at.false _
+    (relation-is (goal.at.returns-in_default c).Joined-else-equated)
     c.amounts-coefficients.result c.amounts-coefficients.ensures _ _ c.in_default.is
 
 pub amount-requires : goal.amount-requires
 amount-requires c =
-    comparison-within c.args.input.now c.args.equated c.args.at c.args.r c.if-input-at.false _ (relation-is (goal.at.amount-requires c).Joined-else-equated)
+    comparison-within c.args.input.now c.args.equated c.args.at c.args.r c.if-input-at.false _
+    (relation-is (goal.at.amount-requires c).Joined-else-equated)
     c.amounts-coefficients.result c.amounts-coefficients.ensures _ c.in-Next.is
 
 pub returns : goal.returns

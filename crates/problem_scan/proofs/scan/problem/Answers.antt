@@ -21,18 +21,21 @@ returns-then-b-gt-BOOLEANS c =
 
 pub returns-then-input-le-PROBLEM_RATIONALS : goal.returns-then-input-le-PROBLEM_RATIONALS
 returns-then-input-le-PROBLEM_RATIONALS c =
-    sym (problem-short-r c.args.input.now c.if-input-le-PROBLEM_BOOLEANS.false c.if-b-gt-BOOLEANS.false c.if-input-le-PROBLEM_RATIONALS.true)
+    sym (problem-short-r c.args.input.now c.if-input-le-PROBLEM_BOOLEANS.false c.if-b-gt-BOOLEANS.false
+    c.if-input-le-PROBLEM_RATIONALS.true)
 
 pub overflow_cast-r : goal.overflow_cast-r
 overflow_cast-r c = omega (arith, c.shared_slice_known-3-1.given layout.problem_rationals)
 
 pub returns-then-r-gt-RATIONALS : goal.returns-then-r-gt-RATIONALS
 returns-then-r-gt-RATIONALS c =
-    sym (problem-bad-r c.args.input.now c.if-input-le-PROBLEM_BOOLEANS.false c.if-b-gt-BOOLEANS.false c.if-input-le-PROBLEM_RATIONALS.false c.if-r-gt-RATIONALS.true)
+    sym (problem-bad-r c.args.input.now c.if-input-le-PROBLEM_BOOLEANS.false c.if-b-gt-BOOLEANS.false c.if-input-le-PROBLEM_RATIONALS.false
+    c.if-r-gt-RATIONALS.true)
 
 pub returns-then-input-lt-FIRST_CLAUSE : goal.returns-then-input-lt-FIRST_CLAUSE
 returns-then-input-lt-FIRST_CLAUSE c =
-    sym (problem-short-n c.args.input.now c.if-input-le-PROBLEM_BOOLEANS.false c.if-b-gt-BOOLEANS.false c.if-input-le-PROBLEM_RATIONALS.false c.if-r-gt-RATIONALS.false c.if-input-lt-FIRST_CLAUSE.true)
+    sym (problem-short-n c.args.input.now c.if-input-le-PROBLEM_BOOLEANS.false c.if-b-gt-BOOLEANS.false
+    c.if-input-le-PROBLEM_RATIONALS.false c.if-r-gt-RATIONALS.false c.if-input-lt-FIRST_CLAUSE.true)
 
 -- the tests passed when n is known
 header : (u : After-u16_at-n) → Header u.args.input.now

@@ -10,7 +10,8 @@ pub returns-then-not-whole_steps : goal.returns-then-not-whole_steps
 returns-then-not-whole_steps c =
     let a = c.args in
     let t : c.whole_steps.result ≡ false = search rules in
-    called-length a.terms a.input.now a.proof.now (readable a.input.now _ (sym c.read-s.ensures ∙ c.in-Sound.is)) (sym c.whole_steps.ensures ∙ t)
+    called-length a.terms a.input.now a.proof.now (readable a.input.now _ (sym c.read-s.ensures ∙ c.in-Sound.is))
+    (sym c.whole_steps.ensures ∙ t)
 
 pub check_readable-requires : goal.check_readable-requires
 check_readable-requires c = readable c.args.input.now _ (sym c.read-s.ensures ∙ c.in-Sound.is)
@@ -24,4 +25,5 @@ pub returns-else-not-whole_steps : goal.returns-else-not-whole_steps
 returns-else-not-whole_steps c =
     let a = c.args in
     let t : c.whole_steps.result ≡ true = search rules in
-    c.check_readable.ensures ∙ called-whole a.terms a.input.now a.proof.now (readable a.input.now _ (sym c.read-s.ensures ∙ c.in-Sound.is)) (sym c.whole_steps.ensures ∙ t)
+    c.check_readable.ensures ∙ called-whole a.terms a.input.now a.proof.now (readable a.input.now _ (sym c.read-s.ensures ∙ c.in-Sound.is))
+    (sym c.whole_steps.ensures ∙ t)

@@ -22,7 +22,11 @@ pub get-bytes-requires : goal.get-bytes-requires
 get-bytes-requires c = omega (arith, c.loop-i-test.true)
 
 pub line_stated-s-requires : goal.line_stated-s-requires
-line_stated-s-requires c = record { known = c.requires; i_in_bounds = omega (arith, c.loop-i-test.true); ready_lines = c.loop-i.invariant.ready }
+line_stated-s-requires c = record {
+  known = c.requires;
+  i_in_bounds = omega (arith, c.loop-i-test.true);
+  ready_lines = c.loop-i.invariant.ready;
+}
 
 -- what step i states
 stated : (c : After-line_stated-s) → let l = c.loop-i in let a =
@@ -41,7 +45,8 @@ pub returns-then-not-s : goal.returns-then-not-s
 unfolding followed_lines followed_as
 returns-then-not-s c =
     let t : c.line_stated-s.result.found ≡ false = search (rules, not-true, not-false, c.if-not-s) in
-    following-stop c.loop-i.invariant c.loop-i-test.true c.line_stated-s.result (stated (goal.at.returns-then-not-s c).After-line_stated-s) t
+    following-stop c.loop-i.invariant c.loop-i-test.true c.line_stated-s.result
+    (stated (goal.at.returns-then-not-s c).After-line_stated-s) t
 
 pub overflow_add-i : goal.overflow_add-i
 overflow_add-i c =

@@ -19,8 +19,10 @@ room : (c : In-loop-c) → (c.loop-c.c < length c.loop-c.places)
     × (c.loop-c.c < length c.loop-c.variables)
 room c =
     let l = c.loop-c in
-    let k = c.requires.readable.parsed.clauses in
-    (omega (arith, c.loop-c-test.true, l.invariant.0, c.requires.places_len), omega (arith, c.loop-c-test.true, l.invariant.1, c.requires.variables_len))
+    let k = c.requires.readable.parsed.clauses in (
+      omega (arith, c.loop-c-test.true, l.invariant.0, c.requires.places_len),
+      omega (arith, c.loop-c-test.true, l.invariant.1, c.requires.variables_len),
+    )
 
 pub overflow_cast-places : goal.overflow_cast-places
 overflow_cast-places c =
@@ -55,7 +57,8 @@ loop-c-preserved c =
       length-set l.places l.c l.at ∙ l.invariant.0,
       length-set l.variables l.c l.variable ∙ l.invariant.1,
       rw (c.next-at.ensures, c.splits.ensures)
-          (indexing-next l.invariant.2 c.loop-c-test.true c.requires.readable.parsed.booleans (room (goal.at.loop-c-preserved c).In-loop-c).0 (room (goal.at.loop-c-preserved c).In-loop-c).1),
+          (indexing-next l.invariant.2 c.loop-c-test.true c.requires.readable.parsed.booleans
+          (room (goal.at.loop-c-preserved c).In-loop-c).0 (room (goal.at.loop-c-preserved c).In-loop-c).1),
     )
 
 pub returns : goal.returns

@@ -18,11 +18,15 @@ named-part : (k : After-origin_at-origin) → k.origin_at-origin.result.second �
 named-part k = ap (λ (o : Origin). o.second) k.origin_at-origin.ensures
 
 pub loaded_behind-requires : goal.loaded_behind-requires
-loaded_behind-requires c = record { rationals_le_rationals = c.requires.readable.parsed.rationals; clauses_bound = omega (arith, c.if-sizes-clause.true, named-clause (goal.at.loaded_behind-requires c).After-origin_at-origin) }
+loaded_behind-requires c = record {
+  rationals_le_rationals = c.requires.readable.parsed.rationals;
+  clauses_bound = omega (arith, c.if-sizes-clause.true, named-clause (goal.at.loaded_behind-requires c).After-origin_at-origin);
+}
 
 pub returns-then-sizes-clause : goal.returns-then-sizes-clause
 returns-then-sizes-clause c =
-    states-same (loaded-behind c.args.edition c.requires.readable c.args.bytes (omega (arith, c.if-sizes-clause.true, named-clause (goal.at.returns-then-sizes-clause c).After-origin_at-origin)))
+    states-same (loaded-behind c.args.edition c.requires.readable c.args.bytes
+    (omega (arith, c.if-sizes-clause.true, named-clause (goal.at.returns-then-sizes-clause c).After-origin_at-origin)))
     c.loaded_behind.ensures
 
 -- the entry of the clause that the bytes name
@@ -35,10 +39,12 @@ entry c = c.requires.entries
 
 pub part-f-requires : goal.part-f-requires
 part-f-requires c =
-    let i = entry (goal.at.part-f-requires c).Else-sizes-clause in record { r_le_rationals = c.requires.readable.parsed.rationals; sound_clause = i.sound; at_bound = i.small }
+    let i = entry (goal.at.part-f-requires c).Else-sizes-clause in
+    record { r_le_rationals = c.requires.readable.parsed.rationals; sound_clause = i.sound; at_bound = i.small }
 
 pub returns : goal.returns
 returns c =
     states-same (loaded_found c.args.edition c.requires.readable c.args.bytes c.part-f.result
-    (named-clause (goal.at.returns c).After-origin_at-origin) (named-part (goal.at.returns c).After-origin_at-origin) (omega (arith, c.if-sizes-clause.false))
+    (named-clause (goal.at.returns c).After-origin_at-origin) (named-part (goal.at.returns c).After-origin_at-origin)
+    (omega (arith, c.if-sizes-clause.false))
     (entry (goal.at.returns c).Else-sizes-clause) c.part-f.ensures.result_value) (rw c.loaded.ensures at c.compared.ensures)

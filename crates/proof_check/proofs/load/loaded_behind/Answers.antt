@@ -30,16 +30,25 @@ returns-then-added-f c =
 pub returns-then-number-ne0 : goal.returns-then-number-ne0
 returns-then-number-ne0 c =
     states-none c.args.bytes c.unstated-then-number-ne0.result c.unstated-then-number-ne0.ensures
-    (added-second c.args.edition c.args.sizes c.args.bytes c.requires.rationals_le_rationals (λ e. c.if-number-ne0.true (named-part (goal.at.returns-then-number-ne0 c).After-origin_at-origin ∙ e)))
+    (added-second c.args.edition c.args.sizes c.args.bytes c.requires.rationals_le_rationals
+    (λ e. c.if-number-ne0.true (named-part (goal.at.returns-then-number-ne0 c).After-origin_at-origin ∙ e)))
 
 pub non_negative-requires : goal.non_negative-requires
 non_negative-requires c =
-    omega (arith, c.if-added-f.false, c.added.ensures, length-added c.args.edition c.args.sizes.rationals, c.requires.rationals_le_rationals)
+    omega (
+      arith,
+      c.if-added-f.false,
+      c.added.ensures,
+      length-added c.args.edition c.args.sizes.rationals,
+      c.requires.rationals_le_rationals,
+    )
 
 pub returns : goal.returns
 returns c =
     let at : c.origin_at-origin.result.first - c.args.sizes.clauses ≡ clause c.args.bytes - c.args.sizes.clauses =
     ap (λ (i : ℕ). i - c.args.sizes.clauses) (named-clause (goal.at.returns c).After-origin_at-origin) in
-    states-same (added-found c.args.edition c.args.sizes c.args.bytes c.requires.rationals_le_rationals c.non_negative.result (named-clause (goal.at.returns c).After-origin_at-origin)
-    (named-part (goal.at.returns c).After-origin_at-origin) c.if-number-ne0.false (omega (arith, c.if-added-f.false, c.added.ensures, named-clause (goal.at.returns c).After-origin_at-origin))
+    states-same (added-found c.args.edition c.args.sizes c.args.bytes c.requires.rationals_le_rationals c.non_negative.result
+    (named-clause (goal.at.returns c).After-origin_at-origin)
+    (named-part (goal.at.returns c).After-origin_at-origin) c.if-number-ne0.false
+    (omega (arith, c.if-added-f.false, c.added.ensures, named-clause (goal.at.returns c).After-origin_at-origin))
     (c.non_negative.ensures.result_value ∙ ap non_negative_line at)) (rw c.loaded.ensures at c.compared.ensures)

@@ -7,9 +7,17 @@ use Rattle.resolvents.proofs.boolean.constrained.Goals as goal
 pub returns-then-upper-ne0 : goal.returns-then-upper-ne0
 unfolding meaning
 returns-then-upper-ne0 c =
-    let u = c.args.upper in record { result_value = sym (one-upper u.relation u.coefficients u.bound (meaning c.args.lower).constraint c.if-upper-ne0.true); ready_3 = c.requires.ready }
+    let u = c.args.upper in record {
+      result_value = sym (one-upper u.relation u.coefficients u.bound
+          (meaning c.args.lower).constraint c.if-upper-ne0.true);
+      ready_3 = c.requires.ready;
+    }
 
 pub returns : goal.returns
 unfolding meaning
 returns c =
-    let u = c.args.upper in record { result_value = sym (one_lower u.relation u.coefficients u.bound (meaning c.args.lower).constraint c.if-upper-ne0.false); ready_3 = c.requires.ready_2 }
+    let u = c.args.upper in record {
+      result_value = sym (one_lower u.relation u.coefficients u.bound
+          (meaning c.args.lower).constraint c.if-upper-ne0.false);
+      ready_3 = c.requires.ready_2;
+    }

@@ -36,13 +36,27 @@ pub combine_rows-row-requires : goal.combine_rows-row-requires
 combine_rows-row-requires c =
     let u = c.requires.ready in
     let l = c.requires.ready_2 in
-    let ha = u.coefficients.small c.args.f in record { small = rw (factor-is c) (l.coefficients.small c.args.f); small_2 = rw (amount-bits (get_or c.args.upper.coefficients c.args.f (pos 0)) ha) ha; amounts = u.coefficients; amounts_2 = l.coefficients }
+    let ha = u.coefficients.small c.args.f in record {
+      small = rw (factor-is c) (l.coefficients.small c.args.f);
+      small_2 = rw (amount-bits (get_or c.args.upper.coefficients c.args.f (pos 0)) ha) ha;
+      amounts = u.coefficients;
+      amounts_2 =
+          l.coefficients;
+    }
 
 pub combine-bound-requires : goal.combine-bound-requires
 combine-bound-requires c =
     let u = c.requires.ready in
     let l = c.requires.ready_2 in
-    let ha = u.coefficients.small c.args.f in record { small = rw (factor-is (goal.at.combine-bound-requires c).After-factor-c) (l.coefficients.small c.args.f); small_2 = rw (amount-bits c.args.upper.bound u.bound) u.bound; small_3 = rw (amount-bits (get_or c.args.upper.coefficients c.args.f (pos 0)) ha) ha; small_4 = rw (amount-bits c.args.lower.bound l.bound) l.bound }
+    let ha = u.coefficients.small c.args.f in record {
+      small = rw (factor-is (goal.at.combine-bound-requires c).After-factor-c)
+          (l.coefficients.small c.args.f);
+      small_2 = rw (amount-bits c.args.upper.bound u.bound) u.bound;
+      small_3 =
+          rw (amount-bits (get_or c.args.upper.coefficients c.args.f (pos 0)) ha) ha;
+      small_4 =
+          rw (amount-bits c.args.lower.bound l.bound) l.bound;
+    }
 
 -- both lines have a constraint
 related : (s : Start) → (0 < s.args.upper.relation) × (0 < s.args.lower.relation)
@@ -64,7 +78,12 @@ returns c =
     let ea = amount-bits (get_or u.coefficients f (pos 0)) ha in
     let row = rw (factor-is (goal.at.returns c).After-factor-c, ea) at c.combine_rows-row.ensures in
     let bound = to_z-of_z {w = w64} (sfits_of c.combine-bound.type_inv)
-    ∙ (rw (factor-is (goal.at.returns c).After-factor-c, ea, amount-bits u.bound hu.bound, amount-bits l.bound hl.bound) at c.combine-bound.ensures) in
+    ∙ (rw (
+      factor-is (goal.at.returns c).After-factor-c,
+      ea,
+      amount-bits u.bound hu.bound,
+      amount-bits l.bound hl.bound,
+    ) at c.combine-bound.ensures) in
     let e = combination-is f u.coefficients u.bound l.coefficients l.bound u.relation l.relation hu.shaped.related
     hl.shaped.related hr.0 hr.1 in
     let r = constraints-agree c.stricter.ensures row bound in

@@ -21,8 +21,10 @@ left c = sym (normalized-left c.normalize-n.result c.if-n.false) ∙ c.normalize
 
 pub returns-then-overflows : goal.returns-then-overflows
 returns-then-overflows c =
-    gives-overflow c.normalize-n.result.line c.normalize-n.ensures.shaped_2 (left (goal.at.returns-then-overflows c).Else-n) (sym c.overflows.ensures ∙ c.if-overflows.true)
+    gives-overflow c.normalize-n.result.line c.normalize-n.ensures.shaped_2 (left (goal.at.returns-then-overflows c).Else-n)
+    (sym c.overflows.ensures ∙ c.if-overflows.true)
 
 pub returns : goal.returns
 returns c =
-    gives_made c.normalize-n.result.line c.normalize-n.ensures.shaped_2 (left (goal.at.returns c).Else-n) (sym c.overflows.ensures ∙ c.if-overflows.false)
+    gives_made c.normalize-n.result.line c.normalize-n.ensures.shaped_2 (left (goal.at.returns c).Else-n)
+    (sym c.overflows.ensures ∙ c.if-overflows.false)

@@ -7,7 +7,13 @@ pub resolve_rational-requires : goal.resolve_rational-requires
 unfolding variable_of
 resolve_rational-requires c =
     let p = c.requires in
-    let e = c.in-Rational.is in record { f_lt_rationals = subst Ranged e p.ranged; ready = p.ready; ready_2 = p.ready_2; upper_value = rw e at p.upper_value; lower_value = rw e at p.lower_value }
+    let e = c.in-Rational.is in record {
+      f_lt_rationals = subst Ranged e p.ranged;
+      ready = p.ready;
+      ready_2 = p.ready_2;
+      upper_value = rw e at p.upper_value;
+      lower_value = rw e at p.lower_value;
+    }
 
 pub resolve_boolean-requires : goal.resolve_boolean-requires
 unfolding variable_of

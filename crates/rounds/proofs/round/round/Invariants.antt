@@ -7,7 +7,8 @@ use Rattle.rounds.proofs.round.round.Given as goal
 
 abbrev pub invariant-loop-j : goal.invariant-loop-j
 invariant-loop-j l = (start : List ℕ) (from : Point)
-    → Entered l.limits l.current l.m l.initial.j start from l.initial.proof l.initial.p l.i → AtLower l.limits l.current start from l.proof l.p l.i l.j
+    → Entered l.limits l.current l.m l.initial.j start from l.initial.proof l.initial.p l.i
+    → AtLower l.limits l.current start from l.proof l.p l.i l.j
 
 abbrev pub decreases-loop-j : goal.decreases-loop-j
 decreases-loop-j l = l.m - l.j

@@ -5,7 +5,11 @@ use Rattle.rounds.proofs.side.has_side.Goals as goal
 
 pub rational_side-requires : goal.rational_side-requires
 unfolding variable_of
-rational_side-requires c = record { has_step = c.requires.has_step; f_lt_rationals = subst Ranged c.in-Rational.is c.requires.ranged; shaped = c.requires.shaped }
+rational_side-requires c = record {
+  has_step = c.requires.has_step;
+  f_lt_rationals = subst Ranged c.in-Rational.is c.requires.ranged;
+  shaped = c.requires.shaped;
+}
 
 pub boolean_side-requires : goal.boolean_side-requires
 unfolding variable_of

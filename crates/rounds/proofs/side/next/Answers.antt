@@ -11,7 +11,11 @@ loop-i-init c = (omega arith, search rules, refl)
 pub stands-requires : goal.stands-requires
 unfolding line_at
 stands-requires c =
-    let i = c.loop-i.i in record { has_step = omega (arith, c.requires.held.room); scheduled = c.requires.scheduled; shaped = (c.requires.held.steps i (omega arith)).ready.shaped }
+    let i = c.loop-i.i in record {
+      has_step = omega (arith, c.requires.held.room);
+      scheduled = c.requires.scheduled;
+      shaped = (c.requires.held.steps i (omega arith)).ready.shaped;
+    }
 
 pub returns-then-stands : goal.returns-then-stands
 returns-then-stands c =

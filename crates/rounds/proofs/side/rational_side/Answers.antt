@@ -26,10 +26,18 @@ pub returns-then-upper : goal.returns-then-upper
 unfolding on_side positively
 returns-then-upper c =
     let f : SFits w64 c.coefficient_at-z.result = search (rules, (goal.at.returns-then-upper c).After-coefficient_at-z) in
-    rw (to_z-of_z f) at c.is_positive.ensures ∙ rw (c.coefficient_at-z.ensures ∙ is (goal.at.returns-then-upper c).After-coefficient_at-z, c.if-upper.true)
+    rw (to_z-of_z f) at c.is_positive.ensures ∙ rw (
+      c.coefficient_at-z.ensures
+          ∙ is (goal.at.returns-then-upper c).After-coefficient_at-z,
+      c.if-upper.true,
+    )
 
 pub returns : goal.returns
 unfolding on_side negatively
 returns c =
     let f : SFits w64 c.coefficient_at-z.result = search (rules, (goal.at.returns c).After-coefficient_at-z) in
-    rw (to_z-of_z f) at c.is_negative.ensures ∙ rw (c.coefficient_at-z.ensures ∙ is (goal.at.returns c).After-coefficient_at-z, c.if-upper.false)
+    rw (to_z-of_z f) at c.is_negative.ensures ∙ rw (
+      c.coefficient_at-z.ensures
+          ∙ is (goal.at.returns c).After-coefficient_at-z,
+      c.if-upper.false,
+    )

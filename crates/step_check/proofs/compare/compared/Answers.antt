@@ -38,15 +38,19 @@ found : (c : Else-not-s) → c.args.s.found ≡ true
 found c = search (rules, not-true, not-false, c.if-not-s)
 
 -- what comparing with the own bytes says
-test : (c : After-same_bytes) → c.same_bytes.result ≡ same eqb (encoded (header (goal.at.After-same_bytes c).Start) (meaning c.args.s.line)) c.args.bytes
+test : (c : After-same_bytes) → c.same_bytes.result ≡ same eqb (encoded (header (goal.at.After-same_bytes c).Start)
+    (meaning c.args.s.line)) c.args.bytes
 test c = rw c.encode-own.ensures at c.same_bytes.ensures
 
 pub returns-then-same_bytes : goal.returns-then-same_bytes
 returns-then-same_bytes c =
-    matched-same (header (goal.at.returns-then-same_bytes c).Start) c.args.bytes c.args.s (found (goal.at.returns-then-same_bytes c).Else-not-s) c.requires (eight (goal.at.returns-then-same_bytes c).Start) (positive-fits (goal.at.returns-then-same_bytes c).Start) (negative_fits (goal.at.returns-then-same_bytes c).Start)
+    matched-same (header (goal.at.returns-then-same_bytes c).Start) c.args.bytes c.args.s
+    (found (goal.at.returns-then-same_bytes c).Else-not-s) c.requires (eight (goal.at.returns-then-same_bytes c).Start)
+    (positive-fits (goal.at.returns-then-same_bytes c).Start) (negative_fits (goal.at.returns-then-same_bytes c).Start)
     (sym (test (goal.at.returns-then-same_bytes c).After-same_bytes) ∙ c.if-same_bytes.true)
 
 pub returns : goal.returns
 returns c =
     states-none c.args.bytes c.unstated-2.result c.unstated-2.ensures
-    (matched-other (header (goal.at.returns c).Start) c.args.bytes c.args.s (found (goal.at.returns c).Else-not-s) (sym (test (goal.at.returns c).After-same_bytes) ∙ c.if-same_bytes.false))
+    (matched-other (header (goal.at.returns c).Start) c.args.bytes c.args.s (found (goal.at.returns c).Else-not-s)
+    (sym (test (goal.at.returns c).After-same_bytes) ∙ c.if-same_bytes.false))

@@ -8,7 +8,8 @@ use Rattle.rules.specs.Lists.{same}
 use Rattle.step_check.proofs.compare.same_bytes.Given as goal
 
 abbrev pub invariant-loop-i : goal.invariant-loop-i
-invariant-loop-i l = (l.i ≤ step_bytes) × (length l.a ≡ step_bytes) × (length l.b ≡ step_bytes) × (same eqb l.a l.b ≡ same eqb (drop l.i l.a) (drop l.i l.b))
+invariant-loop-i l = (l.i ≤ step_bytes) × (length l.a ≡ step_bytes) × (length l.b ≡ step_bytes)
+    × (same eqb l.a l.b ≡ same eqb (drop l.i l.a) (drop l.i l.b))
 
 abbrev pub decreases-loop-i : goal.decreases-loop-i
 decreases-loop-i l = step_bytes - l.i

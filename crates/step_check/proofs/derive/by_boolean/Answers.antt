@@ -19,7 +19,12 @@ returns-then-i-ge-ALL_BOOLEANS c =
 
 pub returns-then-not-resolvable : goal.returns-then-not-resolvable
 returns-then-not-resolvable c =
-    let t : c.resolvable.result ≡ false = search (rules, not-true, not-false, (goal.at.returns-then-not-resolvable c).Then-not-resolvable) in
+    let t : c.resolvable.result ≡ false = search (
+      rules,
+      not-true,
+      not-false,
+      (goal.at.returns-then-not-resolvable c).Then-not-resolvable,
+    ) in
     holds-no (boolean c.args.i) (meaning c.args.upper) (meaning c.args.lower)
     (sym c.resolvable.ensures ∙ t) c.unstated-then-not-resolvable.ensures
 

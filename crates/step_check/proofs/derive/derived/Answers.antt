@@ -14,11 +14,17 @@ returns-then-i-first c =
 
 pub returns-then-i-second : goal.returns-then-i-second
 returns-then-i-second c =
-    states-none c.args.bytes c.unstated-then-i-second.result c.unstated-then-i-second.ensures (second-beyond c.args.proof.now c.args.bytes c.args.i
+    states-none c.args.bytes c.unstated-then-i-second.result c.unstated-then-i-second.ensures
+    (second-beyond c.args.proof.now c.args.bytes c.args.i
     (omega (arith, c.if-i-second.true, ap (λ (o : Origin). o.second) c.origin_at-origin.ensures)))
 
 pub by_named-s-requires : goal.by_named-s-requires
-by_named-s-requires c = record { ready = subst Ready (sym c.line_at-upper.ensures) (c.requires.ready_lines c.origin_at-origin.result.first c.if-i-first.false); ready_2 = subst Ready (sym c.line_at-lower.ensures) (c.requires.ready_lines c.origin_at-origin.result.second c.if-i-second.false) }
+by_named-s-requires c = record {
+  ready = subst Ready (sym c.line_at-upper.ensures)
+      (c.requires.ready_lines c.origin_at-origin.result.first c.if-i-first.false);
+  ready_2 =
+      subst Ready (sym c.line_at-lower.ensures) (c.requires.ready_lines c.origin_at-origin.result.second c.if-i-second.false);
+}
 
 pub returns : goal.returns
 returns c =

@@ -23,7 +23,8 @@ upper-yes c = let t : c.has_positive_boolean.result ≡ true = search (rules, no
 pub returns-then-not-has_negative_boolean : goal.returns-then-not-has_negative_boolean
 returns-then-not-has_negative_boolean c =
     let t : c.has_negative_boolean.result ≡ false = search (rules, not-true, not-false, c.if-not-has_negative_boolean) in
-    sym (suited-lower (boolean c.args.i) (meaning c.args.upper) (meaning c.args.lower) (upper-yes (goal.at.returns-then-not-has_negative_boolean c).Else-not-has_positive_boolean)
+    sym (suited-lower (boolean c.args.i) (meaning c.args.upper) (meaning c.args.lower)
+    (upper-yes (goal.at.returns-then-not-has_negative_boolean c).Else-not-has_positive_boolean)
     (sym c.has_negative_boolean.ensures ∙ t))
 
 pub returns : goal.returns

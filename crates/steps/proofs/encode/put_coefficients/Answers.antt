@@ -19,7 +19,10 @@ loop-i-init c = (omega arith, search rules, refl, amounts-none step_coefficients
 pub put_amount-requires : goal.put_amount-requires
 put_amount-requires c =
     let l = c.loop-i in
-    let h = c.requires.amounts.small l.i in record { at_in_bounds = omega (arith, c.requires.step_bound_bound, l.invariant.2); z_bound = rw (amount-bits (get_or c.args.row l.i (pos 0)) h) (omega (arith, h)) }
+    let h = c.requires.amounts.small l.i in record {
+      at_in_bounds = omega (arith, c.requires.step_bound_bound, l.invariant.2);
+      z_bound = rw (amount-bits (get_or c.args.row l.i (pos 0)) h) (omega (arith, h));
+    }
 
 pub loop-i-preserved : goal.loop-i-preserved
 loop-i-preserved c =

@@ -14,7 +14,10 @@ use borrow.Author.Rules.{rules}
 use Rattle.steps.proofs.encode.put_row.Goals as goal
 
 pub put_amount-requires : goal.put_amount-requires
-put_amount-requires c = record { at_in_bounds = omega (arith, c.requires.step_zeros_bound, c.put_coefficients.auto.s); z_bound = rw (amount-bits c.args.bound c.requires.small) (omega (arith, c.requires.small)) }
+put_amount-requires c = record {
+  at_in_bounds = omega (arith, c.requires.step_zeros_bound, c.put_coefficients.auto.s);
+  z_bound = rw (amount-bits c.args.bound c.requires.small) (omega (arith, c.requires.small));
+}
 
 pub returns : goal.returns
 returns c =

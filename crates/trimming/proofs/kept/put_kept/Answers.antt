@@ -13,7 +13,8 @@ pub put_marked-n-requires : goal.put_marked-n-requires
 unfolding step_count
 put_marked-n-requires c =
     let h = c.loop-k-test.true in
-    let f = putting-fits c.requires.trimmable (is_marked c.args.marks.now) c.requires.standard_in_bounds c.loop-k.invariant h in record { trimmable = c.requires.trimmable; k_bound = h; marks_len = c.requires.marks_len; counted = c.requires.counted; has_step = f }
+    let f = putting-fits c.requires.trimmable (is_marked c.args.marks.now) c.requires.standard_in_bounds c.loop-k.invariant h in
+    record { trimmable = c.requires.trimmable; k_bound = h; marks_len = c.requires.marks_len; counted = c.requires.counted; has_step = f }
 
 pub loop-k-preserved : goal.loop-k-preserved
 unfolding step_count

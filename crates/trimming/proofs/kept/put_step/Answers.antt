@@ -23,14 +23,17 @@ returns-then-origin-eq0 c =
 -- what both calls of `number` ask for
 asked : (c : Else-origin-eq0) → (length c.args.marks.now ≡ words) × (Counted c.args.marks.now c.args.before.now
     × ((c.origin_at-origin.result.first < steps) × (c.origin_at-origin.result.second < steps)))
-asked c =
-    (c.requires.marks_len, (c.requires.counted, parents-fit c.requires.trimmable c.requires.k_bound c.origin_at-origin.ensures c.if-origin-eq0.false))
+asked c = (
+  c.requires.marks_len,
+  (c.requires.counted, parents-fit c.requires.trimmable c.requires.k_bound c.origin_at-origin.ensures c.if-origin-eq0.false),
+)
 
 pub number-first-requires : goal.number-first-requires
 number-first-requires c = let a = asked c in record { marks_len = a.0; counted = a.1.0; i_lt_steps = a.1.1.0 }
 
 pub number-second-requires : goal.number-second-requires
-number-second-requires c = let a = asked (goal.at.number-second-requires c).Else-origin-eq0 in record { marks_len = a.0; counted = a.1.0; i_lt_steps = a.1.1.1 }
+number-second-requires c = let a = asked (goal.at.number-second-requires c).Else-origin-eq0 in
+    record { marks_len = a.0; counted = a.1.0; i_lt_steps = a.1.1.1 }
 
 pub put_u16-requires-2 : goal.put_u16-requires-2
 put_u16-requires-2 c =

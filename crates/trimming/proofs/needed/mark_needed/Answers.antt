@@ -11,7 +11,11 @@ loop-k-init c =
 pub mark_parents-requires : goal.mark_parents-requires
 unfolding step_count
 mark_parents-requires c =
-    let l = c.loop-k in record { trimmable = c.requires.trimmable; k_bound = omega (arith, l.invariant.few, c.loop-k-test.true); marks_len = l.invariant.size }
+    let l = c.loop-k in record {
+      trimmable = c.requires.trimmable;
+      k_bound = omega (arith, l.invariant.few, c.loop-k-test.true);
+      marks_len = l.invariant.size;
+    }
 
 pub loop-k-preserved : goal.loop-k-preserved
 loop-k-preserved c =

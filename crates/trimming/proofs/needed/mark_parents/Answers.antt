@@ -18,11 +18,13 @@ returns-then-origin-eq0 c =
 
 pub mark-requires : goal.mark-requires
 mark-requires c =
-    let f = parents-fit c.requires.trimmable c.requires.k_bound c.origin_at-origin.ensures c.if-origin-eq0.false in record { marks_len = c.requires.marks_len; i_lt_steps = f.0 }
+    let f = parents-fit c.requires.trimmable c.requires.k_bound c.origin_at-origin.ensures c.if-origin-eq0.false in
+    record { marks_len = c.requires.marks_len; i_lt_steps = f.0 }
 
 pub mark-requires-2 : goal.mark-requires-2
 mark-requires-2 c =
-    let f = parents-fit c.requires.trimmable c.requires.k_bound c.origin_at-origin.ensures c.if-origin-eq0.false in record { marks_len = c.mark.ensures.size ∙ c.requires.marks_len; i_lt_steps = f.1 }
+    let f = parents-fit c.requires.trimmable c.requires.k_bound c.origin_at-origin.ensures c.if-origin-eq0.false in
+    record { marks_len = c.mark.ensures.size ∙ c.requires.marks_len; i_lt_steps = f.1 }
 
 pub returns : goal.returns
 returns c =

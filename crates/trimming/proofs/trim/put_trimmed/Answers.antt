@@ -11,12 +11,21 @@ mark_needed-requires c = record { trimmable = c.requires.trimmable; marks_len = 
 
 pub zero-requires : goal.zero-requires
 zero-requires c =
-    let k = c.put_kept-n.ensures in record { from_le_to = omega (arith, putting-below c.requires.trimmable _ c.requires.standard_in_bounds k, c.requires.trimmable.few); to_in_bounds = omega (arith, k.size, c.requires.standard_in_bounds) }
+    let k = c.put_kept-n.ensures in record {
+      from_le_to = omega (
+        arith,
+        putting-below c.requires.trimmable _ c.requires.standard_in_bounds k,
+        c.requires.trimmable.few,
+      );
+      to_in_bounds =
+          omega (arith, k.size, c.requires.standard_in_bounds);
+    }
 
 pub returns : goal.returns
 returns c =
     let k = c.put_kept-n.ensures in record {
       value = trimmed-count c.requires.trimmable c.mark_needed.ensures k;
-      target_after = trimmed-left c.requires.trimmable c.mark_needed.ensures k (omega (arith, putting-below c.requires.trimmable _ c.requires.standard_in_bounds k, c.requires.trimmable.few))
+      target_after = trimmed-left c.requires.trimmable c.mark_needed.ensures k
+          (omega (arith, putting-below c.requires.trimmable _ c.requires.standard_in_bounds k, c.requires.trimmable.few))
           c.zero.ensures;
     }

@@ -20,7 +20,13 @@ loop-j-init c = (omega arith, refl)
 pub forces-requires : goal.forces-requires
 forces-requires c =
     let l = c.loop-j in
-    let ready = c.requires.ready_lines l.j c.loop-j-test.true in record { ordered = c.requires.ordered; i_lt_all_booleans = c.requires.i_lt_all_booleans; ready = rw c.line_at-line.ensures ready; in_range = c.requires.in_range }
+    let ready = c.requires.ready_lines l.j c.loop-j-test.true in
+    record {
+      ordered = c.requires.ordered;
+      i_lt_all_booleans = c.requires.i_lt_all_booleans;
+      ready = rw c.line_at-line.ensures ready;
+      in_range = c.requires.in_range;
+    }
 
 -- the line that was read decides, or those behind it
 decided : (c : After-forces) → let l = c.loop-j in let test = forces (variables_of c.args.order) (assignment c.args.model) c.args.i in

@@ -35,7 +35,8 @@ compared c = λ k. eqb (c.round.ensures k) (c.boolean_round.ensures k)
 pub returns-then-round-boolean_round : goal.returns-then-round-boolean_round
 unfolding forces
 returns-then-round-boolean_round c =
-    rw (sym (compared (goal.at.returns-then-round-boolean_round c).After-boolean_round) ∙ ne_eqb c.round.result c.boolean_round.result c.if-round-boolean_round.true)
+    rw (sym (compared (goal.at.returns-then-round-boolean_round c).After-boolean_round)
+    ∙ ne_eqb c.round.result c.boolean_round.result c.if-round-boolean_round.true)
 
 pub returns : goal.returns
 unfolding forces

@@ -35,4 +35,5 @@ quotient-requires c =
 pub returns : goal.returns
 returns c =
     (rw (divided (goal.at.returns c).After-rest-n, divisor (goal.at.returns c).Start) at c.quotient.ensures)
-    ∙ bound-is c.args.line c.args.model c.args.f (row-length (goal.at.returns c).Start) c.requires.f_lt_rationals c.requires.ready c.requires.in_range
+    ∙ bound-is c.args.line c.args.model c.args.f
+    (row-length (goal.at.returns c).Start) c.requires.f_lt_rationals c.requires.ready c.requires.in_range

@@ -16,7 +16,15 @@ loop-j-init c =
 pub with_line-b-requires : goal.with_line-b-requires
 with_line-b-requires c =
     let l = c.loop-j in
-    let h : l.j - 1 < c.args.n = omega (arith, l.invariant.0, c.loop-j-test.true) in record { beyond_value = l.invariant.1; within = (l.invariant.2.lower.within, l.invariant.2.upper.within); scheduled_rational = c.requires.scheduled_rational; ready = rw c.line_at-line.ensures (c.requires.ready_lines (l.j - 1) h); in_range = c.requires.in_range }
+    let h : l.j - 1 < c.args.n = omega (arith, l.invariant.0, c.loop-j-test.true) in
+    record {
+      beyond_value = l.invariant.1;
+      within = (l.invariant.2.lower.within, l.invariant.2.upper.within);
+      scheduled_rational = c.requires.scheduled_rational;
+      ready = rw c.line_at-line.ensures (c.requires.ready_lines (l.j - 1) h);
+      in_range =
+          c.requires.in_range;
+    }
 
 -- the bounds with the line that was read
 gathering : (c : After-with_line-b) → GatheredIn c.with_line-b.result (assignment c.args.model) c.args.current

@@ -18,7 +18,10 @@ use Rattle.values.proofs.gather.rest.Goals as goal
 use Rattle.values.proofs.gather.rest.Goals.{After-sum-s, Start}
 
 pub sum-s-requires : goal.sum-s-requires
-sum-s-requires c = record { amounts = amounts-set c.args.line.coefficients c.args.f (pos 0) c.requires.ready.coefficients (omega arith); amounts_2 = c.requires.in_range.amounts }
+sum-s-requires c = record {
+  amounts = amounts-set c.args.line.coefficients c.args.f (pos 0) c.requires.ready.coefficients (omega arith);
+  amounts_2 = c.requires.in_range.amounts;
+}
 
 row-length : (s : Start) → length s.args.line.coefficients ≡ limit.rationals
 row-length s = search (rules, s.well_formed)
@@ -31,7 +34,8 @@ fits s =
     fits-size (rest s.args.f l.coefficients l.bound (value m.numerators) m.denominator)
     (omega (arith, rest-≤ l m s.args.f (row-length s) s.requires.f_lt_rationals s.requires.ready s.requires.in_range))
 
-computed : (c : After-sum-s) → to_z w64 (of_z w64 c.scaled-b.result) -ℤ to_z w64 (of_z w64 c.sum-s.result) ≡ rest c.args.f c.args.line.coefficients
+computed : (c : After-sum-s) → to_z w64 (of_z w64 c.scaled-b.result) -ℤ to_z w64
+    (of_z w64 c.sum-s.result) ≡ rest c.args.f c.args.line.coefficients
     c.args.line.bound (value c.args.model.numerators) c.args.model.denominator
 computed c =
     let b = rw (amount-bits c.args.line.bound c.requires.ready.bound) at c.scaled-b.ensures in

@@ -60,25 +60,35 @@ pub returns-then-literal_holds : goal.returns-then-literal_holds
 returns-then-literal_holds c = λ ls h.
     rw c.requires.beyond_value
     (collected-held (assignment c.args.model) c.args.current (meaning c.args.line) ls (bound_meaning c.args.earlier.lower)
-    (bound_meaning c.args.earlier.upper) h (own-round (goal.at.returns-then-literal_holds c).Else-round-current) (sym c.literal_holds.ensures ∙ c.if-literal_holds.true))
+    (bound_meaning c.args.earlier.upper) h (own-round (goal.at.returns-then-literal_holds c).Else-round-current)
+    (sym c.literal_holds.ensures ∙ c.if-literal_holds.true))
 
 free : (c : Else-literal_holds) → a_literal_holds (assignment c.args.model) (meaning c.args.line) ≡ false
 free c = sym c.literal_holds.ensures ∙ c.if-literal_holds.false
 
 pub bound_of-x-requires : goal.bound_of-x-requires
-bound_of-x-requires c = record { f_lt_rationals = c.requires.scheduled_rational.ranged; ready = c.requires.ready; nonzero = bounded (goal.at.bound_of-x-requires c).Else-round-current; in_range = c.requires.in_range }
+bound_of-x-requires c = record {
+  f_lt_rationals = c.requires.scheduled_rational.ranged;
+  ready = c.requires.ready;
+  nonzero = bounded (goal.at.bound_of-x-requires c).Else-round-current;
+  in_range = c.requires.in_range;
+}
 
 pub returns-then-beyond : goal.returns-then-beyond
 returns-then-beyond c = λ ls h.
     exceeding-here (assignment c.args.model) c.args.current (meaning c.args.line) ls (bound_meaning c.args.earlier.lower)
-    (bound_meaning c.args.earlier.upper) h (own-round (goal.at.returns-then-beyond c).Else-round-current) (free (goal.at.returns-then-beyond c).Else-literal_holds) (constraint_in c.args.line) (constrained (goal.at.returns-then-beyond c).Else-round-current)
-    (rw (one_side (goal.at.returns-then-beyond c).Else-round-current) (or-not_self (positively (rational c.args.current.rational) (meaning c.args.line))))
+    (bound_meaning c.args.earlier.upper) h (own-round (goal.at.returns-then-beyond c).Else-round-current)
+    (free (goal.at.returns-then-beyond c).Else-literal_holds) (constraint_in c.args.line)
+    (constrained (goal.at.returns-then-beyond c).Else-round-current)
+    (rw (one_side (goal.at.returns-then-beyond c).Else-round-current)
+    (or-not_self (positively (rational c.args.current.rational) (meaning c.args.line))))
     (rw (← c.bound_of-x.ensures, ← c.beyond.ensures) c.if-beyond.true)
 
 -- the bound is in range
 small : (c : Else-beyond) → Small (bound_of (assignment c.args.model) c.args.current.rational (constraint_in c.args.line))
 small c =
-    bound-small c.args.line c.args.model c.args.current.rational (row-length (goal.at.Else-beyond c).Start) c.requires.scheduled_rational.ranged
+    bound-small c.args.line c.args.model c.args.current.rational
+    (row-length (goal.at.Else-beyond c).Start) c.requires.scheduled_rational.ranged
     c.requires.ready c.requires.in_range
     (bounded (goal.at.Else-beyond c).Else-round-current) (rw (← c.bound_of-x.ensures, ← c.beyond.ensures) c.if-beyond.false)
 
@@ -94,15 +104,19 @@ more c t e = λ ls h.
     let p = sym c.has_positive_rational.ensures ∙ e in
     rw c.bound_of-x.ensures
     (collected-more (assignment c.args.model) c.args.current (meaning c.args.line) ls (bound_meaning c.args.earlier.lower)
-    (bound_meaning c.args.earlier.upper) h (own-round (goal.at.After-has_positive_rational c).Else-round-current) (free (goal.at.After-has_positive_rational c).Else-literal_holds) (constraint_in c.args.line) (constrained (goal.at.After-has_positive_rational c).Else-round-current)
-    t p (one_side (goal.at.After-has_positive_rational c).Else-round-current ∙ ap not p) (small (goal.at.After-has_positive_rational c).Else-beyond))
+    (bound_meaning c.args.earlier.upper) h (own-round (goal.at.After-has_positive_rational c).Else-round-current)
+    (free (goal.at.After-has_positive_rational c).Else-literal_holds) (constraint_in c.args.line)
+    (constrained (goal.at.After-has_positive_rational c).Else-round-current)
+    t p (one_side (goal.at.After-has_positive_rational c).Else-round-current ∙ ap not p)
+    (small (goal.at.After-has_positive_rational c).Else-beyond))
 
 pub or_upper-requires : goal.or_upper-requires
 or_upper-requires c =
     (c.requires.within.1, rw c.bound_of-x.ensures (small (goal.at.or_upper-requires c).Else-beyond))
 
 pub returns-then-has_positive_rational : goal.returns-then-has_positive_rational
-returns-then-has_positive_rational c = λ ls h. rw c.or_upper.ensures (more (goal.at.returns-then-has_positive_rational c).After-has_positive_rational true c.if-has_positive_rational.true ls h)
+returns-then-has_positive_rational c = λ ls h. rw c.or_upper.ensures
+    (more (goal.at.returns-then-has_positive_rational c).After-has_positive_rational true c.if-has_positive_rational.true ls h)
 
 pub or_lower-requires : goal.or_lower-requires
 or_lower-requires c =

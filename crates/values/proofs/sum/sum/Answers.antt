@@ -22,7 +22,12 @@ pub plus_product-total-requires : goal.plus_product-total-requires
 plus_product-total-requires c =
     let l = c.loop-i in
     let z = c.requires.amounts.small (l.i - 1) in
-    let x = c.requires.amounts_2.small (l.i - 1) in record { total_bound = omega (arith, l.invariant.4, c.loop-i-test.true); small = rw (amount-bits (get_or c.args.row (l.i - 1) (pos 0)) z) z; small_2 = rw (amount-bits (get_or c.args.numerators (l.i - 1) (pos 0)) x) x }
+    let x = c.requires.amounts_2.small (l.i - 1) in record {
+      total_bound = omega (arith, l.invariant.4, c.loop-i-test.true);
+      small = rw (amount-bits (get_or c.args.row (l.i - 1) (pos 0)) z) z;
+      small_2 =
+          rw (amount-bits (get_or c.args.numerators (l.i - 1) (pos 0)) x) x;
+    }
 
 pub loop-i-preserved : goal.loop-i-preserved
 unfolding value
@@ -48,7 +53,12 @@ loop-i-preserved c =
       l.invariant.1,
       l.invariant.2,
       f,
-      rw f (omega (arith, terms-≤ c.args.row c.args.numerators i h (limit.rationals - l.i) c.requires.amounts c.requires.amounts_2 b, n, l.invariant.0)),
+      rw f (omega (
+        arith,
+        terms-≤ c.args.row c.args.numerators i h (limit.rationals - l.i) c.requires.amounts c.requires.amounts_2 b,
+        n,
+        l.invariant.0,
+      )),
     )
 
 pub returns : goal.returns

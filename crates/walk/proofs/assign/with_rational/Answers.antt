@@ -28,7 +28,14 @@ over-numerators-requires c =
     let x = c.args.x in
     let h : D ≤ amount = omega (arith, c.if-common-gt-AMOUNT.false) in
     let k = div-le_self D c.args.model.denominator in
-    let m = div-le_self D x.denominator in record { amounts = c.requires.in_range.amounts; k_le_amount = omega arith; f_lt_rationals = c.requires.f_lt_rationals; a_bound = rw (amount-bits x.numerator c.requires.small.numerator) c.requires.small.numerator; m_le_amount = omega arith }
+    let m = div-le_self D x.denominator in record {
+      amounts = c.requires.in_range.amounts;
+      k_le_amount = omega arith;
+      f_lt_rationals = c.requires.f_lt_rationals;
+      a_bound =
+          rw (amount-bits x.numerator c.requires.small.numerator) c.requires.small.numerator;
+      m_le_amount = omega arith;
+    }
 
 -- the row that was computed
 scaled : (c : After-over-numerators) → let a = c.args in let D =
@@ -43,13 +50,16 @@ row-length c = search (rules, c)
 pub returns-then-overflowing_row : goal.returns-then-overflowing_row
 returns-then-overflowing_row c =
     let a = c.args in
-    numerators-large a.model a.f (meaning a.x) c.lcm-common.result c.lcm-common.ensures c.over-numerators.result (row-length (goal.at.returns-then-overflowing_row c).After-over-numerators) (scaled (goal.at.returns-then-overflowing_row c).After-over-numerators)
+    numerators-large a.model a.f (meaning a.x) c.lcm-common.result c.lcm-common.ensures c.over-numerators.result
+    (row-length (goal.at.returns-then-overflowing_row c).After-over-numerators)
+    (scaled (goal.at.returns-then-overflowing_row c).After-over-numerators)
     (sym c.overflowing_row.ensures ∙ c.if-overflowing_row.true)
 
 pub returns : goal.returns
 returns c =
     let a = c.args in
-    rational-words a.model a.f (meaning a.x) c.lcm-common.result c.lcm-common.ensures c.over-numerators.result (row-length (goal.at.returns c).After-over-numerators) (scaled (goal.at.returns c).After-over-numerators)
+    rational-words a.model a.f (meaning a.x) c.lcm-common.result c.lcm-common.ensures c.over-numerators.result
+    (row-length (goal.at.returns c).After-over-numerators) (scaled (goal.at.returns c).After-over-numerators)
     (sym c.overflowing_row.ensures ∙ c.if-overflowing_row.false)
     (rw c.lcm-common.ensures (lcm-positive a.model.denominator a.x.denominator c.requires.in_range.positive c.requires.small.positive))
     (omega (arith, c.if-common-gt-AMOUNT.false))

@@ -23,7 +23,12 @@ rational_round-requires c =
     let l = c.loop-t in record { ordered = c.requires.ordered; t_lt_rationals = omega (arith, l.invariant.0, c.loop-t-test.true) }
 
 pub assign_rational-next-requires : goal.assign_rational-next-requires
-assign_rational-next-requires c = record { n_in_bounds = c.requires.n_in_bounds; ready_lines = c.requires.ready_lines; scheduled_rational = c.rational_round.ensures.scheduled_rational; in_range = c.loop-t.invariant.1.range }
+assign_rational-next-requires c = record {
+  n_in_bounds = c.requires.n_in_bounds;
+  ready_lines = c.requires.ready_lines;
+  scheduled_rational = c.rational_round.ensures.scheduled_rational;
+  in_range = c.loop-t.invariant.1.range;
+}
 
 -- the round that is walked: its number, its variable, and the walk before it
 module _ (i : In-loop-t) where

@@ -15,7 +15,13 @@ loop-i-init c = (omega arith, walking_start c.requires.ordered (lines_in c.args.
 
 pub assign_boolean-model-requires : goal.assign_boolean-model-requires
 assign_boolean-model-requires c =
-    let l = c.loop-i in record { n_in_bounds = c.requires.n_in_bounds; ready_lines = c.requires.ready_lines; ordered = c.requires.ordered; i_lt_all_booleans = omega (arith, l.invariant.0, c.loop-i-test.true); in_range = l.invariant.1.range }
+    let l = c.loop-i in record {
+      n_in_bounds = c.requires.n_in_bounds;
+      ready_lines = c.requires.ready_lines;
+      ordered = c.requires.ordered;
+      i_lt_all_booleans = omega (arith, l.invariant.0, c.loop-i-test.true);
+      in_range = l.invariant.1.range;
+    }
 
 pub loop-i-preserved : goal.loop-i-preserved
 loop-i-preserved c =

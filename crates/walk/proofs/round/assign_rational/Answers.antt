@@ -16,7 +16,11 @@ chosen : (c : Else-found) → Value (assignment c.args.model) c.args.current
 chosen c = rw c.if-found.false at c.rational_value-found.ensures
 
 pub with_rational-requires : goal.with_rational-requires
-with_rational-requires c = record { f_lt_rationals = c.requires.scheduled_rational.ranged; small = (chosen (goal.at.with_rational-requires c).Else-found).small; in_range = c.requires.in_range }
+with_rational-requires c = record {
+  f_lt_rationals = c.requires.scheduled_rational.ranged;
+  small = (chosen (goal.at.with_rational-requires c).Else-found).small;
+  in_range = c.requires.in_range;
+}
 
 pub returns : goal.returns
 returns c =

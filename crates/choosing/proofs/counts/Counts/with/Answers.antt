@@ -53,7 +53,8 @@ loop-f-preserved c =
       through-next is_positive row c.args.self.uppers c.loop-f.uppers f _ (omega arith) c.loop-f.invariant.1
           (ap (λ (n : ℕ). get_or c.loop-f.uppers f 0 + n) (c.one.ensures ∙ ap one (above (goal.at.loop-f-preserved c).After-is_positive))),
       through-next is_negative row c.args.self.lowers c.loop-f.lowers f _ (omega arith) c.loop-f.invariant.2
-          (ap (λ (n : ℕ). get_or c.loop-f.lowers f 0 + n) (c.one-in-loop-f.ensures ∙ ap one (below (goal.at.loop-f-preserved c).After-is_negative))),
+          (ap (λ (n : ℕ). get_or c.loop-f.lowers f 0 + n) (c.one-in-loop-f.ensures
+          ∙ ap one (below (goal.at.loop-f-preserved c).After-is_negative))),
     )
 
 pub returns : goal.returns

@@ -14,7 +14,10 @@ sized c = rw (returned c.args.self.numerator c.struct_told-1.given.0.1) at c.siz
 
 pub returns-then-size-gt-AMOUNT : goal.returns-then-size-gt-AMOUNT
 unfolding beyond
-returns-then-size-gt-AMOUNT c = rw (← sized (goal.at.returns-then-size-gt-AMOUNT c).After-size, lt-ltb amount c.size.result c.if-size-gt-AMOUNT.true)
+returns-then-size-gt-AMOUNT c = rw (
+  ← sized (goal.at.returns-then-size-gt-AMOUNT c).After-size,
+  lt-ltb amount c.size.result c.if-size-gt-AMOUNT.true,
+)
 
 pub returns-else-size-gt-AMOUNT : goal.returns-else-size-gt-AMOUNT
 unfolding beyond

@@ -39,7 +39,12 @@ total c = returned c.sum.result c.sum.type_inv ∙ c.sum.ensures
 
 pub reduce-requires : goal.reduce-requires
 reduce-requires c =
-    rw (total (goal.at.reduce-requires c).After-sum, left (goal.at.reduce-requires c).After-cross, right (goal.at.reduce-requires c).After-cross-2, c.twice.ensures)
+    rw (
+      total (goal.at.reduce-requires c).After-sum,
+      left (goal.at.reduce-requires c).After-cross,
+      right (goal.at.reduce-requires c).After-cross-2,
+      c.twice.ensures,
+    )
     (midpoint-ratio (meaning c.args.self) (meaning c.args.other) c.requires.0 c.requires.1)
 
 pub returns : goal.returns

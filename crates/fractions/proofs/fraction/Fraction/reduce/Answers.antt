@@ -17,12 +17,19 @@ pub divided-requires : goal.divided-requires
 divided-requires c =
     let n = c.args.self.numerator in
     let d = c.args.self.denominator in
-    rw (same n c.requires.numerator, divisor (goal.at.divided-requires c).After-gcd-g) (c.requires.numerator, divisor-positive n d c.requires, divisor-≤ n d c.requires)
+    rw (same n c.requires.numerator, divisor (goal.at.divided-requires c).After-gcd-g)
+    (c.requires.numerator, divisor-positive n d c.requires, divisor-≤ n d c.requires)
 
 pub nonzero_div-result : goal.nonzero_div-result
-nonzero_div-result c = rw (divisor (goal.at.nonzero_div-result c).After-gcd-g) (divisor-positive c.args.self.numerator c.args.self.denominator c.requires)
+nonzero_div-result c = rw (divisor (goal.at.nonzero_div-result c).After-gcd-g)
+    (divisor-positive c.args.self.numerator c.args.self.denominator c.requires)
 
 pub returns : goal.returns
 unfolding reduce
 returns c =
-    rw (returned c.divided.result c.divided.type_inv, c.divided.ensures, same c.args.self.numerator c.requires.numerator, divisor (goal.at.returns c).After-gcd-g)
+    rw (
+      returned c.divided.result c.divided.type_inv,
+      c.divided.ensures,
+      same c.args.self.numerator c.requires.numerator,
+      divisor (goal.at.returns c).After-gcd-g,
+    )

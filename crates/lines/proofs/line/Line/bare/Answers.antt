@@ -7,4 +7,11 @@ use Rattle.lines.proofs.line.Line.bare.Goals as goal
 
 pub returns : goal.returns
 unfolding meaning constraint_of
-returns c = record { result_value = refl; ready = small-ready _ (record { related = omega arith; coefficients = λ e. refl; bound = λ e. refl }) tt }
+returns c = record {
+  result_value = refl;
+  ready = small-ready _ (record {
+    related = omega arith;
+    coefficients = λ e. refl;
+    bound = λ e. refl;
+  }) tt;
+}

@@ -8,4 +8,5 @@ use Rattle.lines.proofs.line.Line.has_negative_rational.Goals.{After-is_negative
 
 pub returns : goal.returns
 unfolding negatively
-returns c = coefficient-test is_negative c.args.self c.args.f c.requires.shaped (search (rules, (goal.at.returns c).After-is_negative-arg-1)) c.is_negative.ensures
+returns c = coefficient-test is_negative c.args.self c.args.f c.requires.shaped
+    (search (rules, (goal.at.returns c).After-is_negative-arg-1)) c.is_negative.ensures

@@ -8,4 +8,5 @@ use Rattle.lines.proofs.line.Line.has_positive_rational.Goals.{After-is_positive
 
 pub returns : goal.returns
 unfolding positively
-returns c = coefficient-test is_positive c.args.self c.args.f c.requires.shaped (search (rules, (goal.at.returns c).After-is_positive-arg-1)) c.is_positive.ensures
+returns c = coefficient-test is_positive c.args.self c.args.f c.requires.shaped
+    (search (rules, (goal.at.returns c).After-is_positive-arg-1)) c.is_positive.ensures

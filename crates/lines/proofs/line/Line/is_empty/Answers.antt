@@ -24,7 +24,10 @@ returns-then-self-ne0 c = sym (law (goal.at.returns-then-self-ne0 c).Start ∙ r
 
 pub returns-then-self-ne0-2 : goal.returns-then-self-ne0-2
 returns-then-self-ne0-2 c =
-    sym (law (goal.at.returns-then-self-ne0-2 c).Start ∙ rw (ne_eqb c.args.self.negative 0 c.if-self-ne0-2.true, eq-eqb c.args.self.positive 0 c.if-self-ne0.false))
+    sym (law (goal.at.returns-then-self-ne0-2 c).Start ∙ rw (
+      ne_eqb c.args.self.negative 0 c.if-self-ne0-2.true,
+      eq-eqb c.args.self.positive 0 c.if-self-ne0.false,
+    ))
 
 pub returns : goal.returns
 returns c =

@@ -10,7 +10,10 @@ use Rattle.lines.proofs.line.Line.round.Goals as goal
 
 pub leading-requires : goal.leading-requires
 leading-requires c =
-    let l = c.args.self in record { ordered = c.requires.ordered; rest_le_all_booleans = omega (arith, c.lowest.ensures, trailing_le limit.all_booleans (bit_or l.positive l.negative)) }
+    let l = c.args.self in record {
+      ordered = c.requires.ordered;
+      rest_le_all_booleans = omega (arith, c.lowest.ensures, trailing_le limit.all_booleans (bit_or l.positive l.negative));
+    }
 
 pub returns : goal.returns
 returns c =

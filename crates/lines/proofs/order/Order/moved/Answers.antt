@@ -21,7 +21,8 @@ loop-j-preserved c =
       omega arith,
       omega arith,
       ap (λ (list : List ℕ). set list l.j (get_or list (l.j - 1) 0)) l.invariant.2
-          ∙ shifted_next c.args.from l.j c.args.self.rationals (omega arith) l.invariant.1 (omega (arith, row (goal.at.loop-j-preserved c).Start)),
+          ∙ shifted_next c.args.from l.j c.args.self.rationals (omega arith) l.invariant.1
+          (omega (arith, row (goal.at.loop-j-preserved c).Start)),
     )
 
 pub returns : goal.returns

@@ -8,4 +8,5 @@ use Rattle.lines.proofs.order.Order.rational.Goals as goal
 
 pub returns : goal.returns
 returns c =
-    let n : length c.args.self.rationals ≡ limit.rationals = search (rules, c.well_formed) in record { value = refl; upper_bound = rational-ranged c.args.self n c.requires.ordered c.args.t c.requires.t_lt_rationals }
+    let n : length c.args.self.rationals ≡ limit.rationals = search (rules, c.well_formed) in
+    record { value = refl; upper_bound = rational-ranged c.args.self n c.requires.ordered c.args.t c.requires.t_lt_rationals }
