@@ -72,7 +72,7 @@ pub previewed-in : (edition : ℕ) (input lent_proof lent_model : List ℕ) (tol
     → Previewed limit.preview input told proof model large large_proof large_model
 unfolding solved_told answer_number answer_value refusal_number
 previewed-in edition input lent_proof lent_model told proof model full ours lent_large lent_sheet large large_proof large_model large_full
-theirs =
+    theirs =
     by (edition_named edition) refl
   where
     by : (n : Named) → edition_named edition ≡ n → Previewed limit.preview input told proof model large large_proof large_model

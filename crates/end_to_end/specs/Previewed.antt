@@ -76,7 +76,7 @@ pub previewed : (edition : Edition) (input lent_proof lent_model : List ℕ) (to
     → Solves (on limit.standard edition) input lent_large lent_sheet large large_proof large_model
     → Previewed limit.preview input told proof model large large_proof large_model
 previewed edition input lent_proof lent_model told proof model full ours lent_large lent_sheet large large_proof large_model large_full
-theirs =
+    theirs =
     rw (ours.tells, ours.leaves_proof, ours.leaves_model, theirs.tells, theirs.leaves_proof, theirs.leaves_model) (by (read input) refl)
   where
     small : Solving
