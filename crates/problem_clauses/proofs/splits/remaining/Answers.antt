@@ -1,6 +1,7 @@
 use mathlib.Core.Path.{refl, sym, ◌∙◌}
 use native.Mathlib.Omega.{arith}
-use Rattle.problem_clauses.specs.Remaining.{weight-≤, keeping-done, keeping-within, keeping-drop, keeping-next}
+use Rattle.problem_clauses.specs.Remaining.{weight-≤, keeping-done, keeping-within, keeping-drop}
+use Rattle.problem_clauses.proofs.Remaining.{keeping-next}
 use Rattle.problem_clauses.proofs.splits.remaining.Goals as goal
 
 pub loop-left-init : goal.loop-left-init
