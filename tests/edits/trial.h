@@ -13,7 +13,7 @@
 #include <unistd.h>
 
 /* An input that takes longer than this many seconds does not end. */
-#define PATIENCE 3
+#define PATIENCE 60
 
 static FILE *inputs, *answers, *expected;
 
