@@ -1,4 +1,4 @@
-//! Links the archive that `rt staticlib test_calls` leaves in the repository's target folder.
+//! Links the archive that `tools/build test_calls` leaves in the repository's target folder.
 
 use std::path::Path;
 
