@@ -90,7 +90,7 @@
  * preview's book is shortened by the one call that shortens.
  *
  * Beside what it is lent, a call takes stack and no other memory. Beyond its
- * caller's, in bytes as measured on x86-64, solving takes at most 1,920, the
+ * caller's, in bytes as measured on x86-64, solving takes at most 1,664, the
  * check of a book 2,560, the check of a sheet 896, converting 448, carrying back
  * 768, shortening a book 2,816, and handing back 64, for a preview too. Solving
  * is lent question, book and sheet alone, and holds no array over 1,024 bytes.

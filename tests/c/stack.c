@@ -22,7 +22,7 @@ static const struct {
     const char *name;
     size_t most;
 } said[CALLS] = {
-    [SOLVING] = { "solving", 1920 },
+    [SOLVING] = { "solving", 1664 },
     [BOOK] = { "the check of a book", 2560 },
     [SHEET] = { "the check of a sheet", 896 },
     [CONVERTING] = { "converting", 448 },

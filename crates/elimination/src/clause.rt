@@ -18,6 +18,7 @@ use steps::origin::{Origin, Step};
 
 // "Pieces load in order." "Loading does the same": a part that an earlier line covers is dropped, as a resolvent is. The first of these
 // is part `number` of its clause.
+#[inline(always)]
 fn load_parts(
     input: &[u8],
     r: u8,

@@ -20,6 +20,7 @@ pub struct Found {
     pub line: Line,
 }
 
+#[inline(always)]
 fn first(input: &[u8], r: u8, parts: Parts) -> Found
     requires r_le_rationals { r ≤ rationals }
     requires sound_parts { SoundParts input.now r parts }

@@ -124,6 +124,7 @@ pub fn bare(parts: Parts) -> Line
 }
 
 // A constraint that stays, divided by its content.
+#[inline(always)]
 fn reduced_line(input: &[u8], at: usize, r: u8, second: bool, positive: u32, negative: u32) -> Line
     requires r_le_rationals { r ≤ rationals }
     requires sound_comparison { SoundComparison input.now r at }
@@ -156,6 +157,7 @@ fn rest(input: &[u8], r: u8, parts: Parts, from: ConstraintsAt) -> Parts
 }
 
 // The next part, and those behind it.
+#[inline(always)]
 pub fn next(input: &[u8], r: u8, parts: Parts) -> Part
     requires r_le_rationals { r ≤ rationals }
     requires sound_parts { SoundParts input.now r parts }

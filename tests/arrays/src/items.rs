@@ -498,6 +498,7 @@ fn read_attribute(attribute: &str, of_file: bool) -> bool {
     match attribute {
         "#![tactic(auto)]" => of_file,
         "#[unsafe(no_mangle)]" | "#[repr(C)]" | "#[derive(Clone, Copy)]" => true,
+        "#[inline(always)]" => !of_file,
         _ => attribute.starts_with("#[tactic("),
     }
 }
