@@ -1,15 +1,21 @@
-use mathlib.Core.Path.{◌≡◌, sym, ap, subst, ◌∙◌}
+use mathlib.Core.Path.{◌≡◌, sym, subst, ◌∙◌}
 use mathlib.Core.Bool.{Bool, false, ◌||◌}
-use Prim.Native.Nat.{◌-◌}
+use Prim.Native.Nat.{ℕ, ◌-◌}
 use native.Mathlib.Omega.{arith}
 use lib.ListN.{drop}
+use mathlib.Core.List.{List}
+use Rattle.problem_scan.specs.declared.cursor.Cursor.{Cursor}
 use Rattle.rules.specs.Problem.{is_equality, comparisons}
 use Rattle.problem_scan.specs.Seen.{seen}
 use Rattle.problem_scan.specs.Run.{Run, run-start, run-stop, run-next, comparisons-more, comparisons-done}
 use Rattle.problem_scan.specs.Values.{comparison_at}
 use Rattle.problem_scan.specs.Valued.{comparison-valued, seen-valued}
 use Rattle.problem_scan.proofs.numbers.comparisons.Goals as goal
-use Rattle.problem_scan.proofs.numbers.comparisons.Goals.{Joined-equated, then-equated, else-equated}
+
+-- whether an = stands before the next one, by another name
+with-equated : (q : List ℕ) (all : Cursor) (left r next : ℕ) (e b : Bool) → Run q all (comparisons left e r) next → b ≡ e
+    → Run q all (comparisons left b r) next
+with-equated q all left r next e b run is = subst (λ (t : Bool). Run q all (comparisons left t r) next) (sym is) run
 
 pub loop-left-init : goal.loop-left-init
 loop-left-init c =
@@ -27,31 +33,16 @@ bounds-input-at c =
     let v = comparison-valued c.args.input.now l.equated c.args.r l.at l.invariant.within in
     omega (arith, (seen-valued v _ (sym c.comparison-one.ensures ∙ c.in-Next.is)).2.within)
 
--- an = stands before the next one
-equated-is : (c : Joined-equated) → let l = c.loop-left in
-    let a = c.args in
-    c.if-equated.equated ≡ (l.equated || is_equality (comparison_at a.input.now a.r l.at).relation)
-unfolding comparison_at
-equated-is c =
-    let l = c.loop-left in
-    let a = c.args in
-    let e = is_equality (comparison_at a.input.now a.r l.at).relation in
-    elim c.if-equated.branch [
-      | then-equated w ↦ w.equated-is ∙ w.if-equated.true ∙ sym (ap (λ (b : Bool). b || e) w.if-equated.true)
-      | else-equated w ↦ w.equated-is ∙ w.is_equality-equated.ensures ∙ ap (λ (b : Bool). b || e) (sym w.if-equated.false)
-    ]
-
 pub loop-left-preserved : goal.loop-left-preserved
+unfolding comparison_at
 loop-left-preserved c =
     let l = c.loop-left in
     let g = c.args in
     let q = g.input.now in
-    subst
-    (λ (b : Bool). Run q (seen (comparisons g.count false g.r (drop g.from q) g.from)) (comparisons (l.left - 1) b g.r)
-    c.in-Next.next)
-    (sym (equated-is c))
-    (run-next _ _ (comparisons-more g.r l.equated l.left l.invariant c.loop-left-test.true) c.comparison-one.ensures
-    (comparison-valued q l.equated g.r l.at l.invariant.within) _ c.in-Next.is)
+    let next = run-next _ _ (comparisons-more g.r l.equated l.left l.invariant c.loop-left-test.true) c.comparison-one.ensures
+    (comparison-valued q l.equated g.r l.at l.invariant.within) _ c.in-Next.is in
+    with-equated q (seen (comparisons g.count false g.r (drop g.from q) g.from)) (l.left - 1) g.r c.in-Next.next
+    (l.equated || is_equality (comparison_at q g.r l.at).relation) _ next (grind arith)
 
 pub returns : goal.returns
 returns c =
