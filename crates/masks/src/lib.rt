@@ -10,7 +10,7 @@ ghost use Rattle.masks.specs.Mask.{bits};
 use rules_types::limits::Limits;
 
 // Every variable.
-pub const ALL: u32 = 4294967295;
+pub const ALL: u32 = u32::MAX;
 
 pub fn member(mask: u32, i: usize) -> bool
     requires { i < all_booleans }
@@ -23,7 +23,7 @@ pub fn member(mask: u32, i: usize) -> bool
 pub fn lowest(mask: u32) -> usize
     ensures { result ≡ count_trailing_zeros all_booleans mask }
 {
-    u32::trailing_zeros(mask) as usize
+    mask.trailing_zeros() as usize
 }
 
 // With one member more; no mask has a variable past the last.
@@ -31,9 +31,10 @@ pub fn with(mask: u32, i: usize) -> u32
     ensures { bits all_booleans result ≡ including i (bits all_booleans mask) }
 {
     if Limits::ALL_BOOLEANS <= i {
-        return mask;
+        mask
+    } else {
+        mask | (1 << i)
     }
-    mask | (1 << i)
 }
 
 // Without one member.
@@ -41,10 +42,7 @@ pub fn without(mask: u32, i: usize) -> u32
     requires { i < all_booleans }
     ensures { bits all_booleans result ≡ excluding i (bits all_booleans mask) }
 {
-    if member(mask, i) {
-        return mask - (1 << i);
-    }
-    mask
+    mask & !(1 << i)
 }
 
 // Whether some variable is a member of both.

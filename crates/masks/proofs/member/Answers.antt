@@ -2,7 +2,6 @@
 use mathlib.Core.Path.{sym}
 use Rattle.rules_types.specs.Limits as limit
 use Rattle.masks.specs.Mask.{has-bits}
-use borrow.Author.Rules.{rules}
 use Rattle.masks.proofs.member.Goals as goal
 
 pub returns : goal.returns
