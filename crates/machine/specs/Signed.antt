@@ -1,9 +1,9 @@
 -- Signed machine numbers, of 64 bits: what fits, and what the tests of the sign say. Each law is of plain integers.
-use Rattle.std.specs.Prelude.{◌≡◌, Bool, ℕ, zero, suc, ◌^◌, ◌/◌, ◌≤◌, ◌<◌, ℤ, pos, negsuc, neg_ℤ, nat_abs, eqb}
+use Rattle.std.specs.Prelude.{◌≡◌, Bool, zero, suc, ◌^◌, ◌<◌, ℤ, pos, negsuc, nat_abs, eqb}
 use Rattle.std.proofs.Math.Path.{refl, sym}
-use Rattle.std.proofs.Common.{ap, ◌∙◌, subst, lt_of_le_of_lt, div-le_self, arith, SFits, of_z, to_z, to_z-of_z}
+use Rattle.std.proofs.Common.{ap, ◌∙◌, subst, arith, SFits, of_z, to_z, to_z-of_z}
 use Rattle.std.proofs.Math.Bool.{true, false}
-use Rattle.std.specs.Int.Signed.{mag, lt_z, quot_z}
+use Rattle.std.specs.Int.Signed.{lt_z}
 use Rattle.std.proofs.Math.Dec.{T}
 use Rattle.std.specs.Int.{w64}
 use Rattle.std.proofs.Math.Facts.{sfits_lit}
@@ -47,15 +47,3 @@ equal-test a b f g = by (equal a b) refl
     by : (t : Bool) → equal a b ≡ t → eqb (of_z w64 a) (of_z w64 b) ≡ t
     by true e = eq-eqb (of_z w64 a) (of_z w64 b) (ap (of_z w64) (equal-yes a b (subst T (sym e) tt)))
     by false e = ne_eqb (of_z w64 a) (of_z w64 b) (λ i. subst T e (yes-equal (bits-injective a b f g i)))
-
--- ---- quotients by a positive number
-mag-quot : (z : ℤ) (g : ℕ) → mag (quot_z z (pos g)) ≤ mag z
-mag-quot (pos n) g = div-le_self n g
-mag-quot (negsuc n) g = by (suc n / g) (div-le_self (suc n) g)
-  where
-    by : (q : ℕ) → q ≤ suc n → mag (neg_ℤ (pos q)) ≤ n
-    by zero h = omega arith
-    by (suc q) h = omega arith
-
-pub fits-quot : (z : ℤ) (g : ℕ) → SFits w64 z → SFits w64 (quot_z z (pos g))
-fits-quot z g f = record { sfits = lt_of_le_of_lt (mag-quot z g) f.sfits }
