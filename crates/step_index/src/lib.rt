@@ -9,18 +9,12 @@ ghost use Rattle.step_index.specs.Index.{link_at, Extends};
 // How many steps it holds.
 pub const STEPS: usize = 1024;
 
-fn wide(link: u16) -> usize
-    ensures { result ≡ link }
-{
-    link as usize
-}
-
 // The newest step of a key.
 pub fn newest(heads: &[u16; 512], key: usize) -> usize
     requires { key < 512 }
     ensures { result ≡ get_or heads.now key 0 }
 {
-    wide(heads[key])
+    usize::from(heads[key])
 }
 
 // The next older step of step i's key.
@@ -29,9 +23,10 @@ pub fn older(low: &[u16; 512], high: &[u16; 512], i: usize) -> usize
     ensures { result ≡ link_at low.now high.now i }
 {
     if i < 512 {
-        return wide(low[i]);
+        usize::from(low[i])
+    } else {
+        usize::from(high[i - 512])
     }
-    wide(high[i - 512])
 }
 
 // Step i, newer than all that are held, if there is room for it.

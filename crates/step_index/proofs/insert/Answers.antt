@@ -1,9 +1,7 @@
 -- `insert` meets its contract. Assumes nothing.
-use mathlib.Core.Path.{sym, subst, ◌∙◌}
 use Prim.Native.Nat.{suc}
 use native.Mathlib.Omega.{arith}
 use Rattle.step_index.specs.Index.{held_all, held-most, extended-low, extended-high}
-use borrow.Author.Rules.{rules}
 use Rattle.step_index.proofs.insert.Goals as goal
 
 pub returns-then-i-ge-STEPS : goal.returns-then-i-ge-STEPS
