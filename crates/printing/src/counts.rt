@@ -45,6 +45,6 @@ pub fn put_refusal(out: &mut [u8], at: usize, f: Refusal, place: usize, pairs: u
 {
     let number = f.number();
     let first = put_word(out, at, b"refused", b' ');
-    let second = put_number(out, first, number as u64, b' ');
+    let second = put_number(out, first, u64::from(number), b' ');
     put_pair(out, second, place as u64, pairs)
 }

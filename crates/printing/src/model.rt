@@ -20,13 +20,10 @@ fn put_flags(out: &mut [u8], at: usize, model: &[u8], b: u8) -> usize
     ensures appended { Appended at (flags_text model.now b) out.old out.new result }
     ensures upper_bound { result ≤ at + number_room * b }
 {
-    let count = b as usize;
     let mut next = at;
-    let mut i: usize = 0;
-    while i < count {
+    for i in 0..usize::from(b) {
         let value = u8_at(model, MODEL_FLAGS + i);
-        next = put_number(out, next, value as u64, b'\n');
-        i += 1;
+        next = put_number(out, next, u64::from(value), b'\n');
     }
     next
 }
@@ -37,7 +34,7 @@ fn put_booleans(out: &mut [u8], at: usize, model: &[u8], b: u8) -> usize
     ensures appended { Appended at (booleans_text model.now b) out.old out.new result }
     ensures upper_bound { result ≤ at + booleans_room b }
 {
-    let next = put_count(out, at, b"marks", b as u64);
+    let next = put_count(out, at, b"marks", u64::from(b));
     put_flags(out, next, model, b)
 }
 
@@ -59,13 +56,10 @@ fn put_numerators(out: &mut [u8], at: usize, model: &[u8], b: u8, r: u8) -> usiz
 {
     let denominator = u32_at(model, model_denominator(b));
     let numerators = model_numerators(b);
-    let count = r as usize;
     let mut next = at;
-    let mut i: usize = 0;
-    while i < count {
+    for i in 0..usize::from(r) {
         let numerator = amount_at(model, numerators + 4 * i);
         next = put_rational(out, next, numerator, denominator);
-        i += 1;
     }
     next
 }
@@ -76,7 +70,7 @@ fn put_rationals(out: &mut [u8], at: usize, model: &[u8], b: u8, r: u8) -> usize
     ensures appended { Appended at (rationals_text model.now b r) out.old out.new result }
     ensures upper_bound { result ≤ at + rationals_room r }
 {
-    let next = put_count(out, at, b"figures", r as u64);
+    let next = put_count(out, at, b"figures", u64::from(r));
     put_numerators(out, next, model, b, r)
 }
 

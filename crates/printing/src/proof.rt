@@ -16,8 +16,8 @@ fn put_origin(out: &mut [u8], at: usize, o: Origin) -> usize
     ensures appended { Appended at (header_text (header_of o)) out.old out.new result }
     ensures upper_bound { result ≤ at + step_room }
 {
-    let which = put_number(out, at, o.how as u64, b' ');
-    let parents = put_number(out, which, o.which as u64, b' ');
+    let which = put_number(out, at, u64::from(o.how), b' ');
+    let parents = put_number(out, which, u64::from(o.which), b' ');
     put_pair(out, parents, o.first, o.second)
 }
 
@@ -29,11 +29,8 @@ fn put_steps(out: &mut [u8], at: usize, proof: &[u8], n: usize) -> usize
     ensures upper_bound { result ≤ at + step_room * n }
 {
     let mut next = at;
-    let mut i: usize = 0;
-    while i < n {
-        let o = origin_at(proof, i);
-        next = put_origin(out, next, o);
-        i += 1;
+    for i in 0..n {
+        next = put_origin(out, next, origin_at(proof, i));
     }
     next
 }

@@ -5,7 +5,6 @@ ghost use Rattle.printing.specs.Appended.{Appended, ended};
 ghost use Rattle.printing.specs.Room.{number_room, signed_room};
 
 use fields::put_bytes;
-use machine::sign::size;
 
 pub fn put_word(out: &mut [u8], at: usize, word: &[u8], end: u8) -> usize
     requires { at + length word.now + 1 ≤ length out.old }
@@ -34,10 +33,11 @@ pub fn put_signed(out: &mut [u8], at: usize, z: i64, end: u8) -> usize
     ensures appended { Appended at (ended (signed_decimal z) end) out.old out.new result }
     ensures upper_bound { result ≤ at + signed_room }
 {
-    let n = size(z);
+    let size = z.unsigned_abs();
     if z < 0 {
         out[at] = b'-';
-        return put_number(out, at + 1, n, end);
+        put_number(out, at + 1, size, end)
+    } else {
+        put_number(out, at, size, end)
     }
-    put_number(out, at, n, end)
 }

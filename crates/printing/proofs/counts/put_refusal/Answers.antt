@@ -5,12 +5,9 @@ use Rattle.rules.specs.Print.{ascii, print_line, print_refusal}
 use Rattle.printing.specs.Appended.{appended-++}
 use Rattle.printing.proofs.counts.put_refusal.Goals as goal
 
-pub returns : goal.returns
+pub returns-clause-appended : goal.returns-clause-appended
 unfolding print_refusal print_line ascii
-returns c =
+returns-clause-appended c =
     let two = appended-++ (omega (arith, c.requires)) c.put_word-first.ensures.appended
-    (rw c.number-number.ensures at c.put_number-second.ensures.appended) in
-    record {
-      appended = rw append_assoc at (appended-++ (omega (arith, c.requires)) two c.put_pair.ensures.appended);
-      upper_bound = omega (arith, c.put_word-first.ensures.value, c.put_number-second.ensures.upper_bound, c.put_pair.ensures.upper_bound);
-    }
+    (rw (c.from.ensures, c.number-number.ensures) at c.put_number-second.ensures.appended) in
+    rw append_assoc at (appended-++ (omega (arith, c.requires)) two c.put_pair.ensures.appended)

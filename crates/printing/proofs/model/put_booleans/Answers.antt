@@ -4,12 +4,6 @@ use Rattle.rules.specs.Print.{ascii}
 use Rattle.printing.specs.Appended.{appended-++}
 use Rattle.printing.proofs.model.put_booleans.Goals as goal
 
-pub returns : goal.returns
+pub returns-clause-appended : goal.returns-clause-appended
 unfolding ascii
-returns c =
-    record {
-      appended = appended-++
-          (omega (arith, c.requires.b_in_bounds_2)) c.put_count-next.ensures.appended c.put_flags.ensures.appended;
-      upper_bound =
-          omega (arith, c.put_count-next.ensures.upper_bound, c.put_flags.ensures.upper_bound);
-    }
+returns-clause-appended c = appended-++ (omega (arith, c.requires.b_in_bounds_2)) (rw c.from.ensures at c.put_count-next.ensures.appended) c.put_flags.ensures.appended

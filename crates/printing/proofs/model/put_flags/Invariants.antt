@@ -1,11 +1,7 @@
 -- `put_flags` meets its contract. Assumes nothing.
-use Prim.Native.Nat.{◌-◌, ◌≤◌}
 use Rattle.printing.specs.Room.{number_room}
 use Rattle.printing.specs.Texts.{flag_text, Making}
 use Rattle.printing.proofs.model.put_flags.Given as goal
 
 abbrev pub invariant-loop-i : goal.invariant-loop-i
-invariant-loop-i l = (l.i ≤ l.b) × Making l.at number_room (flag_text l.model) l.initial.out l.out l.next l.i
-
-abbrev pub decreases-loop-i : goal.decreases-loop-i
-decreases-loop-i l = l.count - l.i
+invariant-loop-i l = Making l.at number_room (flag_text l.model) l.initial.out l.out l.next l.i

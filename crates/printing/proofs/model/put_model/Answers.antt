@@ -1,9 +1,8 @@
 -- `put_model` meets its contract. Assumes nothing.
 use mathlib.Core.Path.{◌≡◌, ap, ◌∙◌}
 use mathlib.Core.List.{[], ◌∷◌, append_assoc}
-use Prim.Native.Nat.{ℕ, ◌≤◌}
+use Prim.Native.Nat.{ℕ}
 use native.Mathlib.Omega.{arith}
-use Rattle.rules_types.specs.Limits as limit
 use Rattle.rules_types.specs.Layout as layout
 use Rattle.rules.specs.Bytes.{field_at}
 use Rattle.rules.specs.Print.{ascii, decimal, print_line, print_model}
@@ -11,9 +10,6 @@ use Rattle.printing.specs.Appended.{appended-++}
 use Rattle.printing.specs.Texts.{booleans_text, numerators_text}
 use Rattle.printing.proofs.model.put_model.Goals as goal
 use Rattle.printing.proofs.model.put_model.Goals.{After-u8_at-b, After-u8_at-r}
-
-few-b : (c : After-u8_at-b) → c.u8_at-b.result ≤ limit.booleans
-few-b c = omega (arith, c.u8_at-b.ensures, c.requires.printable.booleans)
 
 r-is : (c : After-u8_at-r)
     → let model = c.args.model.now in
@@ -23,46 +19,15 @@ r-is c =
     c.u8_at-r.ensures
     ∙ ap (λ (k : ℕ). field_at k 1 model) (c.model_rationals.ensures ∙ ap layout.model_rationals c.u8_at-b.ensures)
 
-few-r : (c : After-u8_at-r) → c.u8_at-r.result ≤ limit.rationals
-few-r c = omega (arith, r-is c, c.requires.printable.rationals)
-
-pub put_rationals-requires : goal.put_rationals-requires
-put_rationals-requires c = record {
-  r_in_bounds = omega (
-    arith,
-    few-b (goal.at.put_rationals-requires c).After-u8_at-b,
-    few-r (goal.at.put_rationals-requires c).After-u8_at-r,
-    c.requires.printable.whole,
-  );
-  r_in_bounds_2 =
-      omega (
-        arith,
-        few-b (goal.at.put_rationals-requires c).After-u8_at-b,
-        few-r (goal.at.put_rationals-requires c).After-u8_at-r,
-        c.requires.model_room_in_bounds,
-        c.put_booleans-next.ensures.upper_bound,
-        c.put_booleans-next.auto.out,
-      );
-}
-
-pub returns : goal.returns
+pub returns-clause-appended : goal.returns-clause-appended
 unfolding print_model
-returns c =
+returns-clause-appended c =
     let a = c.args in
     let b = field_at layout.model_booleans 1 a.model.now in
     let r = field_at (layout.model_rationals b) 1 a.model.now in
     let front = rw c.u8_at-b.ensures at c.put_booleans-next.ensures.appended in
-    let back = rw (r-is (goal.at.returns c).After-u8_at-r, c.u8_at-b.ensures) at c.put_rationals.ensures.appended in
+    let back = rw (r-is (goal.at.returns-clause-appended c).After-u8_at-r, c.u8_at-b.ensures) at c.put_rationals.ensures.appended in
     let all = appended-++ (omega (arith, c.requires.model_room_in_bounds)) front back in
     let assoc = append_assoc (booleans_text a.model.now b) (print_line (ascii "figures") (decimal r ∷ []))
     (numerators_text a.model.now b r) in
-    record {
-      appended = rw assoc all;
-      upper_bound = omega (
-        arith,
-        few-b (goal.at.returns c).After-u8_at-b,
-        few-r (goal.at.returns c).After-u8_at-r,
-        c.put_booleans-next.ensures.upper_bound,
-        c.put_rationals.ensures.upper_bound,
-      );
-    }
+    rw assoc all

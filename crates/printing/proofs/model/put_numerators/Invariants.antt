@@ -1,12 +1,7 @@
 -- `put_numerators` meets its contract. Assumes nothing.
-use Prim.Native.Nat.{◌-◌, ◌≤◌}
 use Rattle.printing.specs.Room.{rational_room}
 use Rattle.printing.specs.Texts.{numerator_text, Making}
 use Rattle.printing.proofs.model.put_numerators.Given as goal
 
 abbrev pub invariant-loop-i : goal.invariant-loop-i
-invariant-loop-i l =
-    (l.i ≤ l.r) × Making l.at rational_room (numerator_text l.model l.b) l.initial.out l.out l.next l.i
-
-abbrev pub decreases-loop-i : goal.decreases-loop-i
-decreases-loop-i l = l.count - l.i
+invariant-loop-i l = Making l.at rational_room (numerator_text l.model l.b) l.initial.out l.out l.next l.i

@@ -5,11 +5,6 @@ use Rattle.rules.specs.Print.{ascii, print_line}
 use Rattle.printing.specs.Appended.{appended-++}
 use Rattle.printing.proofs.model.put_rational.Goals as goal
 
-pub returns : goal.returns
+pub returns-clause-appended : goal.returns-clause-appended
 unfolding print_line ascii
-returns c =
-    let t = rw (to_z-of_z c.ranges.numerator) at c.put_signed-next.ensures.appended in
-    record {
-      appended = appended-++ (omega (arith, c.requires)) t c.put_number.ensures.appended;
-      upper_bound = omega (arith, c.put_signed-next.ensures.upper_bound, c.put_number.ensures.upper_bound);
-    }
+returns-clause-appended c = appended-++ (omega (arith, c.requires)) (rw (to_z-of_z c.ranges.numerator) at c.put_signed-next.ensures.appended) c.put_number.ensures.appended

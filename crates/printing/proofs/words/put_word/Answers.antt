@@ -1,9 +1,0 @@
--- `put_word` meets its contract. Assumes nothing.
-use mathlib.Core.Path.{refl}
-use Rattle.printing.specs.Appended.{appended-word}
-use Rattle.printing.proofs.words.put_word.Goals as goal
-
-pub returns : goal.returns
-returns c =
-    let a = c.args in
-    record { appended = appended-word a.at a.end a.word.now a.out.now c.put_bytes.new.s c.requires c.put_bytes.ensures; value = refl }
