@@ -22,14 +22,12 @@ pub fn choose(proof: &[u8], m: usize, order: Order, t: usize, r: usize) -> Order
     let counts = counted(proof, m, order, t);
     let mut best = t;
     let mut least = counts.cost(order.rational(t));
-    let mut j = t + 1;
-    while j < r {
+    for j in t + 1..r {
         let cost = counts.cost(order.rational(j));
         if cost < least {
             best = j;
             least = cost;
         }
-        j += 1;
     }
     order.moved(best, t)
 }

@@ -6,7 +6,7 @@ ghost use Rattle.theory_saturation.specs.Order.{Ordered};
 ghost use Rattle.lines.specs.Order.{variables_of};
 ghost use Rattle.lines.specs.Line.{meaning, Shaped};
 ghost use Rattle.steps.specs.Held.{Held, steps_in};
-ghost use Rattle.choosing.specs.Counts.{one, cost_at, Within, CountedOne, Counted};
+ghost use Rattle.choosing.specs.Counts.{cost_at, Within, CountedOne, Counted};
 
 use lines::line::Line;
 use lines::order::Order;
@@ -20,24 +20,14 @@ pub struct Counts {
     pub lowers: [u32; Limits::RATIONALS],
 }
 
-// 1 where a test passes.
-fn one(b: bool) -> u32
-    ensures { result ≡ one b }
-{
-    if b {
-        return 1;
-    }
-    0
-}
-
 // "U × L - U - L", which may be below 0.
 fn cost_of(u: u32, l: u32) -> i64
     requires u_le_most_steps { u ≤ most_steps }
     requires l_le_most_steps { l ≤ most_steps }
     ensures { result ≡ cost_of u l }
 {
-    let a = u as i64;
-    let b = l as i64;
+    let a = i64::from(u);
+    let b = i64::from(l);
     a * b - a - b
 }
 
@@ -57,20 +47,16 @@ impl Counts {
         requires within { Within most_steps self }
         ensures { CountedOne (meaning line) self result }
     {
-        let row = line.coefficients;
-        let mut uppers = self.uppers;
-        let mut lowers = self.lowers;
-        let mut f = 0;
-        while f < Limits::RATIONALS {
-            let z = row[f];
-            uppers[f] += one(is_positive(z));
-            lowers[f] += one(is_negative(z));
-            f += 1;
+        let Counts {
+            mut uppers,
+            mut lowers,
+        } = self;
+        for f in 0..Limits::RATIONALS {
+            let z = line.coefficients[f];
+            uppers[f] += u32::from(is_positive(z));
+            lowers[f] += u32::from(is_negative(z));
         }
-        Counts {
-            uppers: uppers,
-            lowers: lowers,
-        }
+        Counts { uppers, lowers }
     }
 }
 
@@ -84,16 +70,14 @@ pub fn counted(proof: &[u8], m: usize, order: Order, t: usize) -> Counts
     ensures counted { Counted (take t order.rationals) (steps_in proof.now m) result }
 {
     let mut counts = Counts {
-        uppers: [0 as u32; Limits::RATIONALS],
-        lowers: [0 as u32; Limits::RATIONALS],
+        uppers: [0; Limits::RATIONALS],
+        lowers: [0; Limits::RATIONALS],
     };
-    let mut i = 0;
-    while i < m {
+    for i in 0..m {
         let line = line_at(proof, i);
         if line.round(order) >= t {
             counts = counts.with(line);
         }
-        i += 1;
     }
     counts
 }

@@ -31,13 +31,8 @@ ordered s =
     subst⁻¹ (λ (fs : List ℕ). Ordered (order_by fs)) s.requires.rationals_value
     (taken-ordered taken (taken_more s.args.r limit.rationals taken s.requires.r_le_rationals s.requires.taken))
 
-pub counted-counts-requires : goal.counted-counts-requires
-counted-counts-requires c = record {
-  held = c.requires.held;
-  m_le_most_steps = c.requires.m_le_most_steps;
-  t_le_rationals = omega arith;
-  ordered = ordered (goal.at.counted-counts-requires c).Start;
-}
+pub counted-counts-requires-clause-ordered : goal.counted-counts-requires-clause-ordered
+counted-counts-requires-clause-ordered c = ordered (goal.at.counted-counts-requires-clause-ordered c).Start
 
 -- the counts are small
 few : (c : After-counted-counts) → Within limit.most_steps c.counted-counts.result
@@ -60,14 +55,8 @@ module _ (c : After-counted-counts) where
       let steps = steps_in c.args.proof.now c.args.m in
       h ∙ counted-cost taken steps c.counted-counts.result c.counted-counts.ensures.counted f k ∙ ap (cost taken steps) e
 
-pub rational-requires : goal.rational-requires
-rational-requires c = record { ordered = ordered (goal.at.rational-requires c).Start; t_lt_rationals = omega arith }
-
-pub cost-least-requires : goal.cost-least-requires
-cost-least-requires c = record {
-  f_lt_rationals = c.rational.ensures.upper_bound;
-  within = few (goal.at.cost-least-requires c).After-counted-counts;
-}
+pub rational-requires-clause-ordered : goal.rational-requires-clause-ordered
+rational-requires-clause-ordered c = ordered (goal.at.rational-requires-clause-ordered c).Start
 
 pub loop-j-init : goal.loop-j-init
 loop-j-init c = (
@@ -82,14 +71,8 @@ loop-j-init c = (
       c.cost-least.ensures,
 )
 
-pub rational-requires-in-loop-j : goal.rational-requires-in-loop-j
-rational-requires-in-loop-j c = record { ordered = ordered (goal.at.rational-requires-in-loop-j c).Start; t_lt_rationals = omega arith }
-
-pub cost-cost-requires : goal.cost-cost-requires
-cost-cost-requires c = record {
-  f_lt_rationals = c.rational-in-loop-j.ensures.upper_bound;
-  within = few (goal.at.cost-cost-requires c).After-counted-counts;
-}
+pub rational-requires-in-loop-j-clause-ordered : goal.rational-requires-in-loop-j-clause-ordered
+rational-requires-in-loop-j-clause-ordered c = ordered (goal.at.rational-requires-in-loop-j-clause-ordered c).Start
 
 -- the comparison of the two words, as one of costs
 module _ (c : After-cost-cost) where
@@ -135,13 +118,6 @@ loop-j-preserved c =
         w.least-is ∙ l.invariant.1 ∙ ap costs (sym w.best-is),
       )
     ]
-
-pub moved-requires : goal.moved-requires
-moved-requires c =
-    let l = c.loop-j in record {
-      to_le_from = l.invariant.0.from;
-      from_lt_rationals = omega (arith, l.invariant.0.before, l.invariant.0.within);
-    }
 
 pub returns : goal.returns
 returns c =

@@ -1,6 +1,5 @@
 -- `choose::choose` meets its contract. Invariant: the cheapest of the places before j is at `best`. Assumes nothing.
 use mathlib.Core.Path.{◌≡◌}
-use Prim.Native.Nat.{◌-◌}
 use lib.ListN.{get_or, take}
 use Rattle.rules.specs.Elimination.{cost}
 use Rattle.steps.specs.Held.{steps_in}
@@ -11,6 +10,3 @@ abbrev pub invariant-loop-j : goal.invariant-loop-j
 invariant-loop-j l =
     Looked l.order.rationals l.t l.r (steps_in l.proof l.m) l.best l.j
     × (l.least ≡ cost (take l.t l.order.rationals) (steps_in l.proof l.m) (get_or l.order.rationals l.best 0))
-
-abbrev pub decreases-loop-j : goal.decreases-loop-j
-decreases-loop-j l = l.r - l.j

@@ -21,15 +21,10 @@ row s = search (rules, s.well_formed)
 
 pub loop-i-init : goal.loop-i-init
 loop-i-init c =
-    let a = c.args in (
-      omega arith,
-      counted_none (take a.t a.order.rationals) a.proof.now
-          (record { uppers = replicate limit.rationals 0; lowers = replicate limit.rationals 0 })
-          (λ f. (get_or-replicate-same limit.rationals f 0, get_or-replicate-same limit.rationals f 0)),
-    )
-
-pub line_at-line-requires : goal.line_at-line-requires
-line_at-line-requires c = omega (arith, c.requires.held.room)
+    let a = c.args in
+    counted_none (take a.t a.order.rationals) a.proof.now
+    (record { uppers = replicate limit.rationals 0; lowers = replicate limit.rationals 0 })
+    (λ f. (get_or-replicate-same limit.rationals f 0, get_or-replicate-same limit.rationals f 0))
 
 -- the line is one that the code keeps
 shaped : (c : After-line_at-line) → Shaped c.line_at-line.result
@@ -37,17 +32,16 @@ unfolding line_at
 shaped c =
     rw c.line_at-line.ensures (c.requires.held.steps c.loop-i.i (omega arith)).ready.shaped
 
-pub round-requires : goal.round-requires
-round-requires c = record { shaped = shaped c; ordered = c.requires.ordered }
+pub round-requires-clause-shaped : goal.round-requires-clause-shaped
+round-requires-clause-shaped c = shaped c
 
-pub with-counts-requires : goal.with-counts-requires
-with-counts-requires c =
-    let taken = take c.args.t c.args.order.rationals in
-    let few = counted-within taken c.args.proof.now c.loop-i.i c.loop-i.counts c.loop-i.invariant.1 in
-    record {
-      shaped = shaped (goal.at.with-counts-requires c).After-line_at-line;
-      within = λ f k. (omega (arith, (few f k).0, c.requires.m_le_most_steps), omega (arith, (few f k).1, c.requires.m_le_most_steps));
-    }
+pub with-counts-requires-clause-shaped : goal.with-counts-requires-clause-shaped
+with-counts-requires-clause-shaped c = shaped (goal.at.with-counts-requires-clause-shaped c).After-line_at-line
+
+pub with-counts-requires-clause-within : goal.with-counts-requires-clause-within
+with-counts-requires-clause-within c =
+    let few = counted-within (take c.args.t c.args.order.rationals) c.args.proof.now c.loop-i.i c.loop-i.counts c.loop-i.invariant in
+    λ f k. (omega (arith, (few f k).0), omega (arith, (few f k).1))
 
 -- the line's round, and that of what it stands for
 line-round : (c : After-round) → let a = c.args in
@@ -64,31 +58,28 @@ loop-i-preserved c =
     let proof = c.args.proof.now in
     let i = c.loop-i.i in
     let m = meaning (line_at proof i) in
-    let few : t ≤ length fs = omega (arith, row (goal.at.loop-i-preserved c).Start) in (
-      omega arith,
-      elim c.if-round-t.branch [
-        | then-round-t w ↦ subst⁻¹ (Counted (take t fs) (steps_in proof (i + 1))) w.counts-is (rw (add-one i)
-            (counted-line (take t fs) proof i c.loop-i.counts w.with-counts.result
-            (untaken-yes fs t m few (omega (
-              arith,
-              w.if-round-t.true,
-              line-round (goal.at.loop-i-preserved c).After-round,
-            ))) c.loop-i.invariant.1
-            (rw c.line_at-line.ensures at w.with-counts.ensures)))
-        | else-round-t w ↦ subst⁻¹ (Counted (take t fs) (steps_in proof (i + 1))) w.counts-is (rw (add-one i)
-            (counted-past (take t fs) proof i c.loop-i.counts
-            (untaken-no fs t m few (omega (
-              arith,
-              w.if-round-t.false,
-              line-round (goal.at.loop-i-preserved c).After-round,
-            ))) c.loop-i.invariant.1))
-      ],
-    )
+    let few : t ≤ length fs = omega (arith, row (goal.at.loop-i-preserved c).Start) in
+    elim c.if-round-t.branch [
+      | then-round-t w ↦ subst⁻¹ (Counted (take t fs) (steps_in proof (i + 1))) w.counts-is (rw (add-one i)
+          (counted-line (take t fs) proof i c.loop-i.counts w.with-counts.result
+          (untaken-yes fs t m few (omega (
+            arith,
+            w.if-round-t.true,
+            line-round (goal.at.loop-i-preserved c).After-round,
+          ))) c.loop-i.invariant
+          (rw c.line_at-line.ensures at w.with-counts.ensures)))
+      | else-round-t w ↦ subst⁻¹ (Counted (take t fs) (steps_in proof (i + 1))) w.counts-is (rw (add-one i)
+          (counted-past (take t fs) proof i c.loop-i.counts
+          (untaken-no fs t m few (omega (
+            arith,
+            w.if-round-t.false,
+            line-round (goal.at.loop-i-preserved c).After-round,
+          ))) c.loop-i.invariant))
+    ]
 
-pub returns : goal.returns
-returns c =
+pub returns-clause-within : goal.returns-clause-within
+returns-clause-within c =
     let l = c.loop-i in
     let e : l.i ≡ c.args.m = omega arith in
     let taken = take c.args.t c.args.order.rationals in
-    let all : Counted taken (steps_in c.args.proof.now c.args.m) l.counts = rw e at l.invariant.1 in
-    record { within = counted-within taken c.args.proof.now c.args.m l.counts all; counted = all }
+    counted-within taken c.args.proof.now c.args.m l.counts (rw e at l.invariant)

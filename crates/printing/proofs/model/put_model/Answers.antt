@@ -9,7 +9,7 @@ use Rattle.rules.specs.Print.{ascii, decimal, print_line, print_model}
 use Rattle.printing.specs.Appended.{appended-++}
 use Rattle.printing.specs.Texts.{booleans_text, numerators_text}
 use Rattle.printing.proofs.model.put_model.Goals as goal
-use Rattle.printing.proofs.model.put_model.Goals.{After-u8_at-b, After-u8_at-r}
+use Rattle.printing.proofs.model.put_model.Goals.{After-u8_at-r}
 
 r-is : (c : After-u8_at-r)
     → let model = c.args.model.now in

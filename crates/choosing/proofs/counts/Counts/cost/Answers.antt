@@ -5,12 +5,6 @@ use Rattle.rules.specs.Elimination.{cost_of}
 use Rattle.choosing.specs.Counts.{cost_at, cost-fits}
 use Rattle.choosing.proofs.counts.Counts.cost.Goals as goal
 
-pub cost_of-requires : goal.cost_of-requires
-cost_of-requires c = record {
-  u_le_most_steps = (c.requires.within c.args.f c.requires.f_lt_rationals).0;
-  l_le_most_steps = (c.requires.within c.args.f c.requires.f_lt_rationals).1;
-}
-
 pub returns : goal.returns
 unfolding cost_at cost_of
 returns c =

@@ -6,33 +6,10 @@ use Rattle.rules.specs.Arithmetic.{is_positive, is_negative}
 use lib.IntN.{pos}
 use lib.ListN.{get_or}
 use Rattle.lines.specs.Scan.{told}
-use Rattle.choosing.specs.Counts.{one, one_more, through-none, through-next, counted-one}
+use Rattle.choosing.specs.Counts.{one, through-next, counted-one}
 use borrow.Author.Rules.{rules}
 use Rattle.choosing.proofs.counts.Counts.with.Goals as goal
 use Rattle.choosing.proofs.counts.Counts.with.Goals.{After-is_negative, After-is_positive}
-
-pub loop-f-init : goal.loop-f-init
-loop-f-init c = (
-  omega arith,
-  through-none is_positive c.args.line.coefficients c.args.self.uppers (search (rules, c.well_formed)),
-  through-none is_negative c.args.line.coefficients c.args.self.lowers (search (rules, c.well_formed)),
-)
-
-pub overflow_add-uppers : goal.overflow_add-uppers
-overflow_add-uppers c =
-    let f = c.loop-f.f in
-    record {
-      fits = one_more _ _ _ c.is_positive.result c.one.ensures (c.loop-f.invariant.1.left f (omega arith))
-          (c.requires.within f (omega arith)).0;
-    }
-
-pub overflow_add-lowers : goal.overflow_add-lowers
-overflow_add-lowers c =
-    let f = c.loop-f.f in
-    record {
-      fits = one_more _ _ _ c.is_negative.result c.one-in-loop-f.ensures (c.loop-f.invariant.2.left f (omega arith))
-          (c.requires.within f (omega arith)).1;
-    }
 
 -- the tests of the coefficient
 above : (c : After-is_positive) → c.is_positive.result ≡ is_positive (get_or c.args.line.coefficients c.loop-f.f (pos 0))
@@ -46,14 +23,14 @@ below c =
     (search (rules, c)) c.is_negative.ensures)
 
 pub loop-f-preserved : goal.loop-f-preserved
+unfolding one
 loop-f-preserved c =
     let row = c.args.line.coefficients in
     let f = c.loop-f.f in (
-      omega arith,
-      through-next is_positive row c.args.self.uppers c.loop-f.uppers f _ (omega arith) c.loop-f.invariant.1
-          (ap (λ (n : ℕ). get_or c.loop-f.uppers f 0 + n) (c.one.ensures ∙ ap one (above (goal.at.loop-f-preserved c).After-is_positive))),
-      through-next is_negative row c.args.self.lowers c.loop-f.lowers f _ (omega arith) c.loop-f.invariant.2
-          (ap (λ (n : ℕ). get_or c.loop-f.lowers f 0 + n) (c.one-in-loop-f.ensures
+      through-next is_positive row c.args.self.uppers c.loop-f.uppers f _ (omega arith) c.loop-f.invariant.0
+          (ap (λ (n : ℕ). get_or c.loop-f.uppers f 0 + n) (c.from.ensures ∙ ap one (above (goal.at.loop-f-preserved c).After-is_positive))),
+      through-next is_negative row c.args.self.lowers c.loop-f.lowers f _ (omega arith) c.loop-f.invariant.1
+          (ap (λ (n : ℕ). get_or c.loop-f.lowers f 0 + n) (c.from-in-loop-f.ensures
           ∙ ap one (below (goal.at.loop-f-preserved c).After-is_negative))),
     )
 
@@ -62,4 +39,4 @@ returns c =
     let l = c.loop-f in
     let e : l.f ≡ limit.rationals = omega arith in
     counted-one c.args.line c.requires.shaped c.args.self (record { uppers = l.uppers; lowers = l.lowers })
-    (rw e at l.invariant.1) (rw e at l.invariant.2)
+    (rw e at l.invariant.0) (rw e at l.invariant.1)
