@@ -42,21 +42,17 @@ impl Counts {
     }
 
     // With one line more.
-    fn with(self, line: Line) -> Counts
+    fn with(mut self, line: Line) -> Counts
         requires shaped { Shaped line }
         requires within { Within most_steps self }
         ensures { CountedOne (meaning line) self result }
     {
-        let Counts {
-            mut uppers,
-            mut lowers,
-        } = self;
         for f in 0..Limits::RATIONALS {
             let z = line.coefficients[f];
-            uppers[f] += u32::from(is_positive(z));
-            lowers[f] += u32::from(is_negative(z));
+            self.uppers[f] += u32::from(is_positive(z));
+            self.lowers[f] += u32::from(is_negative(z));
         }
-        Counts { uppers, lowers }
+        self
     }
 }
 

@@ -27,10 +27,10 @@ unfolding one
 loop-f-preserved c =
     let row = c.args.line.coefficients in
     let f = c.loop-f.f in (
-      through-next is_positive row c.args.self.uppers c.loop-f.uppers f _ (omega arith) c.loop-f.invariant.0
-          (ap (λ (n : ℕ). get_or c.loop-f.uppers f 0 + n) (c.from.ensures ∙ ap one (above (goal.at.loop-f-preserved c).After-is_positive))),
-      through-next is_negative row c.args.self.lowers c.loop-f.lowers f _ (omega arith) c.loop-f.invariant.1
-          (ap (λ (n : ℕ). get_or c.loop-f.lowers f 0 + n) (c.from-in-loop-f.ensures
+      through-next is_positive row c.args.self.uppers c.loop-f.self.uppers f _ (omega arith) c.loop-f.invariant.0
+          (ap (λ (n : ℕ). get_or c.loop-f.self.uppers f 0 + n) (c.from.ensures ∙ ap one (above (goal.at.loop-f-preserved c).After-is_positive))),
+      through-next is_negative row c.args.self.lowers c.loop-f.self.lowers f _ (omega arith) c.loop-f.invariant.1
+          (ap (λ (n : ℕ). get_or c.loop-f.self.lowers f 0 + n) (c.from-in-loop-f.ensures
           ∙ ap one (below (goal.at.loop-f-preserved c).After-is_negative))),
     )
 
@@ -38,5 +38,5 @@ pub returns : goal.returns
 returns c =
     let l = c.loop-f in
     let e : l.f ≡ limit.rationals = omega arith in
-    counted-one c.args.line c.requires.shaped c.args.self (record { uppers = l.uppers; lowers = l.lowers })
+    counted-one c.args.line c.requires.shaped c.args.self l.self
     (rw e at l.invariant.0) (rw e at l.invariant.1)

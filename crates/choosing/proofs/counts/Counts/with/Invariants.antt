@@ -4,5 +4,5 @@ use Rattle.choosing.specs.Counts.{Through}
 use Rattle.choosing.proofs.counts.Counts.with.Given as goal
 
 abbrev pub invariant-loop-f : goal.invariant-loop-f
-invariant-loop-f l = Through is_positive l.line.coefficients l.initial.uppers l.uppers l.f
-    × Through is_negative l.line.coefficients l.initial.lowers l.lowers l.f
+invariant-loop-f l = Through is_positive l.line.coefficients l.initial.self.uppers l.self.uppers l.f
+    × Through is_negative l.line.coefficients l.initial.self.lowers l.self.lowers l.f
