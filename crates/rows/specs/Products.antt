@@ -1,5 +1,5 @@
--- Products of amounts: 64 bits hold a sum of eight of them.
-use Rattle.std.specs.Prelude.{◌≡◌, List, ℕ, ◌≤◌, ℤ, pos, nat_abs, ◌+ℤ◌, ◌*ℤ◌, get_or}
+-- Products of amounts: 64 bits hold a sum of eight of them, and a product of an amount and 32 bits.
+use Rattle.std.specs.Prelude.{◌≡◌, List, ℕ, ◌^◌, ◌≤◌, ◌<◌, ℤ, pos, nat_abs, ◌+ℤ◌, ◌*ℤ◌, get_or}
 use Rattle.std.proofs.Common.{arith, SFits, of_z, to_z, to_z-of_z}
 use Rattle.std.specs.Int.{w64}
 use Rattle.theory_integers.specs.Size.{abs-+-≤, abs-*-≤}
@@ -22,6 +22,11 @@ module _ (c x : ℤ) (hc : Small c) (hx : Small x) where
 module _ (t z x : ℤ) (ht : nat_abs t ≤ 7000000000000000000) (hz : Small z) (hx : Small x) where
   pub plus-product-fits : SFits w64 (t +ℤ z *ℤ x)
   plus-product-fits = fits-size (t +ℤ z *ℤ x) (omega (arith, abs-+-≤ t (z *ℤ x) ht (product-≤ z x hz hx)))
+
+pub scaled_fits : (z : ℤ) (n : ℕ) → Small z → n < 2 ^ 32 → SFits w64 (z *ℤ pos n)
+scaled_fits z n hz hn =
+    let hx : nat_abs (pos n) ≤ 4294967296 = omega arith in
+    fits-size (z *ℤ pos n) (omega (arith, abs-*-≤ z (pos n) hz hx))
 
 module _ (c x a y : ℤ) (hc : Small c) (hx : Small x) (ha : Small a) (hy : Small y) where
   pub combination-≤ : nat_abs (c *ℤ x +ℤ a *ℤ y) ≤ 2000000000000000000
