@@ -1,5 +1,6 @@
 -- What is stored at a place of bytes: it is read back, and joins what is stored next to it; and amounts as words of 32 bits.
-use Rattle.std.specs.Prelude.{◌≡◌, refl, Bool, cond, ltb, true, false, List, [], ◌∷◌, ◌++◌, ℤ, pos, negsuc, nat_abs, length, set, take, drop}
+use Rattle.std.specs.Prelude.{◌≡◌, refl, Bool, cond, ltb, true, false, List, [], ◌∷◌, ◌++◌, ℤ, pos, negsuc}
+use Rattle.std.specs.Prelude.{nat_abs, length, set, take, drop}
 use Rattle.std.proofs.Common.{sym, ap, ◌∙◌, append_assoc, append-nil, add_assoc, length-append, length-take}
 use Rattle.std.proofs.Common.{length-drop, take-append-drop, length-set, drop-drop, take_at, drop_at, length-take-le, SFits}
 use Prim.Native.Nat.{ℕ, suc, ◌+◌, ◌-◌, ◌/◌, ◌^◌, ◌≤◌, ◌<◌}

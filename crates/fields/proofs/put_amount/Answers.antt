@@ -9,5 +9,6 @@ use Rattle.fields.proofs.put_amount.Goals as goal
 pub returns : goal.returns
 returns c =
     let z = c.args.z in
-    let e = rw (to_z-of_z c.ranges.z, to_z-of_z (amount-fits z c.requires.z_bound), unsigned-is z c.requires.z_bound) at c.to_le_bytes.ensures in
+    let h = c.requires.z_bound in
+    let e = rw (to_z-of_z c.ranges.z, to_z-of_z (amount-fits z h), unsigned-is z h) at c.to_le_bytes.ensures in
     c.put_bytes.ensures ∙ ap (λ (bytes : List ℕ). stored c.args.at bytes c.args.s.now) (e ∙ le_bytes-4 _)

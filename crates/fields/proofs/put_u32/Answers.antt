@@ -8,4 +8,5 @@ use Rattle.fields.proofs.put_u32.Goals as goal
 
 pub returns : goal.returns
 returns c =
-    c.put_bytes.ensures ∙ ap (λ (bytes : List ℕ). stored c.args.at bytes c.args.s.now) (ap (take 4) c.to_le_bytes.ensures ∙ le_bytes-4 c.args.n)
+    c.put_bytes.ensures
+    ∙ ap (λ (bytes : List ℕ). stored c.args.at bytes c.args.s.now) (ap (take 4) c.to_le_bytes.ensures ∙ le_bytes-4 c.args.n)

@@ -6,4 +6,7 @@ use Rattle.printing.proofs.model.put_booleans.Goals as goal
 
 pub returns-clause-appended : goal.returns-clause-appended
 unfolding ascii
-returns-clause-appended c = appended-++ (omega (arith, c.requires.b_in_bounds_2)) (rw c.from.ensures at c.put_count-next.ensures.appended) c.put_flags.ensures.appended
+returns-clause-appended c =
+    appended-++ (omega (arith, c.requires.b_in_bounds_2))
+    (rw c.from.ensures at c.put_count-next.ensures.appended)
+    c.put_flags.ensures.appended

@@ -28,7 +28,8 @@ loop-f-preserved c =
     let row = c.args.line.coefficients in
     let f = c.loop-f.f in (
       through-next is_positive row c.args.self.uppers c.loop-f.self.uppers f _ (omega arith) c.loop-f.invariant.0
-          (ap (λ (n : ℕ). get_or c.loop-f.self.uppers f 0 + n) (c.from.ensures ∙ ap one (above (goal.at.loop-f-preserved c).After-is_positive))),
+          (ap (λ (n : ℕ). get_or c.loop-f.self.uppers f 0 + n) (c.from.ensures
+          ∙ ap one (above (goal.at.loop-f-preserved c).After-is_positive))),
       through-next is_negative row c.args.self.lowers c.loop-f.self.lowers f _ (omega arith) c.loop-f.invariant.1
           (ap (λ (n : ℕ). get_or c.loop-f.self.lowers f 0 + n) (c.from-in-loop-f.ensures
           ∙ ap one (below (goal.at.loop-f-preserved c).After-is_negative))),
