@@ -1,10 +1,10 @@
--- Signed needs, stated of plain integers: `search (needs, signed)` takes the bits off.
-use mathlib.Core.Path.{◌≡◌, ◌∙◌}
-use Prim.Native.Nat.{ℕ, ◌*◌, ◌^◌, ◌≤◌, ◌<◌}
+-- Signed needs, stated of plain integers, and what the bits of a word hold.
+use mathlib.Core.Path.{◌≡◌}
+use Prim.Native.Nat.{ℕ, ◌*◌, ◌≤◌}
 use native.Mathlib.Nat.{lt_of_le_of_lt, mul-le-mul}
 use native.Mathlib.Omega.{arith}
-use lib.IntN.{ℤ, pos, neg_ℤ, nat_abs, ◌+ℤ◌, ◌*ℤ◌}
-use lib.Signed.{mag, quot_z}
+use lib.IntN.{ℤ, pos, neg_ℤ, nat_abs, ◌+ℤ◌, ◌-ℤ◌, ◌*ℤ◌}
+use lib.Signed.{quot_z}
 use lib.Dec.{lit<}
 use mir.Syntax.{w64}
 use mir.Val.{Fits, SFits, to_z, of_z}
@@ -49,11 +49,13 @@ same z h = to_z-of_z (fits-size z (omega arith))
 
 pub ruleset signed = (product-fits, sum_fits, quotient_fits, negation-fits, zero_minus, denominators-fit, twice-fits, natural, denominator)
 
--- what a call returned, or a field, by the range that comes with it
-pub returned : (z : ℤ) → mag z < 2 ^ 63 → to_z w64 (of_z w64 z) ≡ z
-returned z h = to_z-of_z {w = w64} {z = z} (record { sfits = h })
+-- a product of a numerator and a denominator
+pub crossed : (n : ℤ) (d : ℕ) → nat_abs n ≤ amount → d ≤ amount → to_z w64 (of_z w64 (to_z w64 (of_z w64 n) *ℤ to_z w64 d)) ≡ n *ℤ pos d
+crossed n d h k = rw (same n (omega arith), denominator d k) (to_z-of_z (product-fits n d h k))
 
--- the product that `cross` returns
-pub crossed : (r n : ℤ) (d : ℕ) → mag r < 2 ^ 63 → nat_abs n ≤ amount → r ≡ to_z w64 (of_z w64 n) *ℤ pos d
-    → to_z w64 (of_z w64 r) ≡ n *ℤ pos d
-crossed r n d k h e = returned r k ∙ (rw (same n (omega arith)) at e)
+-- the sum of two such
+pub summed : (a b : ℤ) → nat_abs a ≤ amount * amount → nat_abs b ≤ amount * amount → to_z w64 (of_z w64 (a +ℤ b)) ≡ a +ℤ b
+summed a b h k = to_z-of_z (sum_fits a b h k)
+
+pub negated : (n : ℤ) → nat_abs n ≤ word → to_z w64 (of_z w64 (pos 0 -ℤ to_z w64 (of_z w64 n))) ≡ neg_ℤ n
+negated n h = rw (same n h, zero_minus n) (to_z-of_z (negation-fits n h))

@@ -1,95 +1,72 @@
 // The tightest of the bounds gathered on one side of a rational variable, and the value rule between the two sides.
-ghost use Rattle.std.specs.Prelude.{◌≡◌};
-ghost use Rattle.rules.specs.Values.{less, tighter, value, absent};
+ghost use Rattle.std.specs.Prelude.{◌≡◌, Some};
+ghost use Rattle.rules.specs.Values.{tighter, value};
 ghost use Rattle.fractions.specs.Meaning.{meaning, bound_meaning, precedes};
 ghost use Rattle.fractions.specs.Range.{Small, Within};
 
 use crate::fraction::Fraction;
 
-// "There may be no bound on either side": none, or a fraction with whether the bound is strict.
+// A bound of a rational variable. "There may be no bound on either side": there it is None.
 #[derive(Clone, Copy)]
-pub enum Bound {
-    Absent,
-    Present(Fraction, bool),
+pub struct Bound {
+    pub at: Fraction,
+    pub strict: bool,
+}
+
+#[derive(Clone, Copy)]
+pub enum Side {
+    Lower,
+    Upper,
 }
 
 // Whether x is the tighter bound: the lesser of two uppers, the greater of two lowers.
-fn precedes(upper: bool, x: Fraction, y: Fraction) -> bool
+fn precedes(side: Side, x: Fraction, y: Fraction) -> bool
     requires { Small (meaning x) × Small (meaning y) }
-    ensures { result ≡ precedes upper (meaning x) (meaning y) }
+    ensures { result ≡ precedes side (meaning x) (meaning y) }
 {
-    if upper { x.less(y) } else { y.less(x) }
-}
-
-impl Bound {
-    // With one gathered bound more: "strict if any at that value is".
-    fn tighter(self, x: Fraction, strict: bool, upper: bool) -> Bound
-        requires { Within (bound_meaning self) × Small (meaning x) }
-        ensures { bound_meaning result ≡ tighter (precedes upper) (meaning x) strict (bound_meaning self) }
-    {
-        let Bound::Present(y, other) = self else {
-            return Bound::Present(x, strict);
-        };
-        if precedes(upper, x, y) {
-            return Bound::Present(x, strict);
-        }
-        if precedes(upper, y, x) {
-            return Bound::Present(y, other);
-        }
-        Bound::Present(y, strict | other)
-    }
-
-    // The least upper bound so far, with one upper more.
-    pub fn or_upper(self, x: Fraction, strict: bool) -> Bound
-        requires { Within (bound_meaning self) × Small (meaning x) }
-        ensures { bound_meaning result ≡ tighter less (meaning x) strict (bound_meaning self) }
-    {
-        self.tighter(x, strict, true)
-    }
-
-    // The greatest lower bound so far, with one lower more.
-    pub fn or_lower(self, x: Fraction, strict: bool) -> Bound
-        requires { Within (bound_meaning self) × Small (meaning x) }
-        ensures { bound_meaning result ≡ tighter (λ x y. less y x) (meaning x) strict (bound_meaning self) }
-    {
-        self.tighter(x, strict, false)
+    match side {
+        Side::Lower => y.less(x),
+        Side::Upper => x.less(y),
     }
 }
 
-// The value where there is no lower bound.
-fn below(upper: Bound) -> Fraction
-    requires { Within (bound_meaning upper) }
-    ensures { meaning result ≡ value absent (bound_meaning upper) }
+// The tightest bound so far on a side, with one gathered bound more: "strict if any at that value is".
+#[tactic(auto, unfolding(rules::specs::Values::tighter))]
+pub fn tighter(side: Side, next: Bound, earlier: Option<Bound>) -> Bound
+    requires { Within (bound_meaning earlier) × Small (meaning next.at) }
+    ensures { bound_meaning (Some result) ≡ tighter (precedes side) (meaning next.at) next.strict (bound_meaning earlier) }
 {
-    let Bound::Present(u, strict) = upper else {
-        return Fraction {
-            numerator: 0,
-            denominator: 1,
-        };
+    let Some(other) = earlier else {
+        return next;
     };
-    if strict {
-        return u.minus_one();
+    if precedes(side, next.at, other.at) {
+        return next;
     }
-    u
+    if precedes(side, other.at, next.at) {
+        return other;
+    }
+    Bound {
+        at: other.at,
+        strict: next.strict | other.strict,
+    }
 }
 
 // "0 with neither; L if L exists and is not strict; else U if U exists and is not strict; else the midpoint with both; else
 // L + 1 or U - 1."
-pub fn value(lower: Bound, upper: Bound) -> Fraction
+#[tactic(auto, unfolding(rules::specs::Values::value))]
+pub fn value(lower: Option<Bound>, upper: Option<Bound>) -> Fraction
     requires { Within (bound_meaning lower) × Within (bound_meaning upper) }
     ensures { meaning result ≡ value (bound_meaning lower) (bound_meaning upper) }
 {
-    let Bound::Present(l, lower_strict) = lower else {
-        return below(upper);
-    };
-    if lower_strict {
-        if let Bound::Present(u, upper_strict) = upper {
-            if upper_strict {
-                return l.midpoint(u);
-            }
-            return u;
-        }
-        return l.plus_one();
+    match (lower, upper) {
+        (None, None) => Fraction {
+            numerator: 0,
+            denominator: 1,
+        },
+        (Some(Bound { at, strict }), _) if !strict => at,
+        (_, Some(Bound { at, strict })) if !strict => at,
+        (Some(l), Some(u)) => l.at.midpoint(u.at),
+        (Some(l), None) => l.at.plus_one(),
+        (None, Some(u)) => u.at.minus_one(),
     }
-    l
 }

@@ -4,7 +4,6 @@ ghost use Rattle.rules.specs.Values.{reduce, quotient, less, midpoint, plus, bey
 ghost use Rattle.fractions.specs.Meaning.{meaning};
 ghost use Rattle.fractions.specs.Range.{Small, Ratio, Scaled};
 
-use crate::product::{cross, divided, negated, sum, twice};
 use machine::gcd::gcd;
 use machine::sign::size;
 use rules_types::limits::Limits;
@@ -15,6 +14,7 @@ pub struct Fraction {
     pub denominator: u64,
 }
 
+#[tactic(auto, using(crate::proofs::Signed::signed))]
 impl Fraction {
     // In lowest terms.
     fn reduce(self) -> Fraction
@@ -23,7 +23,7 @@ impl Fraction {
     {
         let g = gcd(size(self.numerator), self.denominator);
         Fraction {
-            numerator: divided(self.numerator, g),
+            numerator: self.numerator / g as i64,
             denominator: self.denominator / g,
         }
     }
@@ -33,40 +33,34 @@ impl Fraction {
         requires { Scaled n a d }
         ensures { meaning result ≡ quotient n a d }
     {
-        let e = size(a) * d;
-        if a < 0 {
-            let turned = Fraction {
-                numerator: negated(n),
-                denominator: e,
-            };
-            return turned.reduce();
+        let numerator = if a < 0 { -n } else { n };
+        let denominator = size(a) * d;
+        Fraction {
+            numerator,
+            denominator,
         }
-        let x = Fraction {
-            numerator: n,
-            denominator: e,
-        };
-        x.reduce()
+        .reduce()
     }
 
     pub fn less(self, other: Fraction) -> bool
         requires { Small (meaning self) × Small (meaning other) }
         ensures { result ≡ less (meaning self) (meaning other) }
     {
-        cross(self.numerator, other.denominator) < cross(other.numerator, self.denominator)
+        self.numerator * (other.denominator as i64) < other.numerator * (self.denominator as i64)
     }
 
     pub fn midpoint(self, other: Fraction) -> Fraction
         requires { Small (meaning self) × Small (meaning other) }
         ensures { meaning result ≡ midpoint (meaning self) (meaning other) }
     {
-        let x = Fraction {
-            numerator: sum(
-                cross(self.numerator, other.denominator),
-                cross(other.numerator, self.denominator),
-            ),
-            denominator: twice(self.denominator, other.denominator),
-        };
-        x.reduce()
+        let numerator = self.numerator * (other.denominator as i64)
+            + other.numerator * (self.denominator as i64);
+        let denominator = 2 * (self.denominator * other.denominator);
+        Fraction {
+            numerator,
+            denominator,
+        }
+        .reduce()
     }
 
     // With 1, 0 or -1 added.
@@ -75,8 +69,8 @@ impl Fraction {
         ensures { meaning result ≡ plus (meaning self) z }
     {
         let x = Fraction {
-            numerator: sum(self.numerator, cross(z, self.denominator)),
-            denominator: self.denominator,
+            numerator: self.numerator + z * (self.denominator as i64),
+            ..self
         };
         x.reduce()
     }

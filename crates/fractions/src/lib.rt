@@ -3,4 +3,3 @@
 
 pub mod bound;
 pub mod fraction;
-mod product;
