@@ -7,17 +7,15 @@ use Rattle.std.proofs.Math.ListN.{get_or}
 use Rattle.std.proofs.Math.Seq.{get_or-set_same, get_or-set_other}
 use Rattle.rules_types.specs.Limits as limit
 use Rattle.rules_types.specs.declared.answers.Refusal.TheVariants as refusal
-use Rattle.rules.specs.Problem.{Reader, each, field}
+use Rattle.rules.specs.Problem.{fault, Reader, each, field}
 use Rattle.rules.specs.Lines.{Booleans, including}
 use Rattle.rules.specs.Model.{is_boolean_byte}
-use Rattle.theory_lists.specs.Tests.{clash, of-false}
 use Rattle.theory_lists.specs.All.{get_or-replicate-same}
 use Rattle.theory_bytes.specs.Fields.{field_at-1}
 use Rattle.masks.specs.Mask.{bits, length-bits}
 use Rattle.problem_scan.specs.Fields.{field-good, field-bad}
 use Rattle.problem_scan.specs.Values.{values_at}
-use Rattle.models.specs.declared.booleans.Flags.{Flags}
-use Rattle.models.specs.Fields.{reading, Tested, each-good, each-bad, Filled, filled_none, filled_more, filled-values}
+use Rattle.models.specs.Fields.{read_to, Tested, each-good, each-bad, Filled, filled_none, filled_more, filled-values}
 
 -- "mark not 0 or 1", and 2 of an open one
 unfoldable pub flag : (ℕ → Bool) → ℕ → Reader ℕ
@@ -30,10 +28,12 @@ joined i byte s = cond (eqb byte 1) (including i s) s
 abbrev pub bytes_at : List ℕ → ℕ → ℕ → List ℕ
 bytes_at s count from = values_at (λ at. get_or s at 0) 1 count from
 
-pub record ReadBooleans (s : List ℕ) (from count : ℕ) (opens : ℕ → Bool) (f : Flags) : Type 0 where
-  pub same : each 0 count (flag opens) (drop from s) from ≡ reading s f.sound f.place (bytes_at s count from)
-  pub end : f.sound ≡ true → f.place ≡ from + count
-  pub members : f.sound ≡ true → (j : ℕ) → get_or (bits limit.all_booleans f.mask) j false ≡ eqb (get_or (bytes_at s count from) j 0) 1
+pub record ReadBooleans (s : List ℕ) (from count : ℕ) (opens : ℕ → Bool) (mask : ℕ) : Type 0 where
+  pub same : each 0 count (flag opens) (drop from s) from ≡ read_to s (from + count) (bytes_at s count from)
+  pub members : (j : ℕ) → get_or (bits limit.all_booleans mask) j false ≡ eqb (get_or (bytes_at s count from) j 0) 1
+
+pub record RefusedBooleans (s : List ℕ) (from count : ℕ) (opens : ℕ → Bool) (place : ℕ) : Type 0 where
+  pub same : each 0 count (flag opens) (drop from s) from ≡ fault refusal.BadModel place
 
 flag-tested : (s : List ℕ) (opens : ℕ → Bool) → Tested s (flag opens) 1 (λ i at. is_boolean_byte (opens i) (get_or s at 0))
     (λ at. get_or s at 0)
@@ -91,27 +91,20 @@ module _ {s : List ℕ} {from : ℕ} {opens : ℕ → Bool} where
 
   pub flags-bad : {i mask count : ℕ} → FlagsTo s from opens i mask → i < count → from + count ≤ length s
       → is_boolean_byte (opens i) (get_or s (from + i) 0) ≡ false
-      → ReadBooleans s from count opens (record { sound = false; place = from + i; mask = mask })
+      → RefusedBooleans s from count opens (from + i)
   flags-bad {i} {mask} {count} f l h t =
       let p : from + i ≡ from + i * 1 = omega arith in
       record {
         same = each-bad (flag-tested s opens) i count 0 from l (omega arith) (passes f)
             (let z : 0 + i ≡ i = omega arith in rw (sym p, z) t) ∙ rw (sym p);
-        end = λ e. absurd (clash true tt (of-false true (sym e)));
-        members = λ e. absurd (clash true tt (of-false true (sym e)));
       }
 
   pub flags-done : {i mask count : ℕ} → FlagsTo s from opens i mask → i ≡ count → from + count ≤ length s
-      → ReadBooleans s from count opens (record {
-        sound = true;
-        place = from + count;
-        mask = mask;
-      })
+      → ReadBooleans s from count opens mask
   flags-done {i} {mask} {count} f e h =
       let p : from + count * 1 ≡ from + count = omega arith in
       let g : FlagsTo s from opens count mask = rw e at f in
       record {
         same = each-good (flag-tested s opens) count 0 from (omega arith) (passes g) ∙ rw p;
-        end = λ t. refl;
-        members = λ t. filled-values (λ at. get_or s at 0) 1 0 (λ n. eqb n 1) count from g.filled;
+        members = filled-values (λ at. get_or s at 0) 1 0 (λ n. eqb n 1) count from g.filled;
       }

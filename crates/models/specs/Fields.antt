@@ -9,10 +9,9 @@ use Rattle.rules_types.specs.declared.answers.Refusal.TheVariants as refusal
 use Rattle.rules.specs.Problem.{Read, fault, got, Reader, after, each}
 use Rattle.problem_scan.specs.Values.{values_at}
 
--- read up to a place, or 17 at it
-unfoldable pub reading : {A : Type 0} → List ℕ → Bool → ℕ → A → Read A
-reading s true place a = got a (drop place s) place
-reading s false place a = fault refusal.BadModel place
+-- read up to a place
+abbrev pub read_to : {A : Type 0} → List ℕ → ℕ → A → Read A
+read_to s place a = got a (drop place s) place
 
 -- readers of fields by their numbers, each with its test of what stands at a place
 pub record Tested {A : Type 0} (s : List ℕ) (one : ℕ → Reader A) (size : ℕ) (test : ℕ → ℕ → Bool) (value : ℕ → A) : Type 0 where
@@ -35,16 +34,16 @@ module _ {A : Type 0} {s : List ℕ} {one : ℕ → Reader A} {size : ℕ} {test
   first i k at h = let e : at + 0 * size ≡ at = omega arith in let n : i + 0 ≡ i = omega arith in rw (e, n) at (h 0 (omega arith))
 
   pub each-good : (k i at : ℕ) → at + k * size ≤ length s → Pass i k at
-      → each i k one (drop at s) at ≡ reading s true (at + k * size) (values_at value size k at)
-  unfolding each after reading values_at
+      → each i k one (drop at s) at ≡ read_to s (at + k * size) (values_at value size k at)
+  unfolding each after values_at
   each-good zero i at h t = let e : at + 0 * size ≡ at = omega arith in rw e
   each-good (suc k) i at h t =
       let e : at + size + k * size ≡ at + suc k * size = omega (arith, suc-mul k size) in
       rw (tested.good i at (omega arith) (first i k at t), each-good k (suc i) (at + size) (omega arith) (later i k at t), e)
 
   pub each-bad : (n k i at : ℕ) → n < k → at + k * size ≤ length s → Pass i n at → test (i + n) (at + n * size) ≡ false
-      → each i k one (drop at s) at ≡ reading s false (at + n * size) (values_at value size k at)
-  unfolding each after reading
+      → each i k one (drop at s) at ≡ fault refusal.BadModel (at + n * size)
+  unfolding each after
   each-bad n zero i at l h t f = absurd (omega arith)
   each-bad zero (suc k) i at l h t f =
       let e : at + 0 * size ≡ at = omega arith in

@@ -5,21 +5,22 @@ use Rattle.std.proofs.Math.Logic.{⊎_elim}
 use Rattle.rules_types.specs.declared.answers.Refusal.TheVariants as refusal
 use Rattle.rules_types.specs.Limits as limit
 use Rattle.rules.specs.Bytes.{from_unsigned}
-use Rattle.rules.specs.Problem.{after, repeat, amount, in_range}
-use Rattle.theory_lists.specs.Tests.{clash, of-false}
+use Rattle.rules.specs.Problem.{fault, after, repeat, amount, in_range}
 use Rattle.theory_lists.specs.All.{get_or-replicate-same}
 use Rattle.theory_vectors.specs.Amounts.{Amounts}
 use Rattle.theory_bytes.specs.ReadBack.{repeat-each}
 use Rattle.problem_scan.specs.Fields.{field-good, field-bad}
 use Rattle.problem_scan.specs.Values.{values_at, amount_at}
-use Rattle.models.specs.declared.numerators.Row.{Row}
-use Rattle.models.specs.Fields.{reading, Tested, each-good, each-bad, Filled, filled_none, filled_more, filled-values}
+use Rattle.models.specs.Fields.{read_to, Tested, each-good, each-bad, Filled, filled_none, filled_more, filled-values}
 
-pub record ReadNumerators (s : List ℕ) (from count : ℕ) (row : Row) : Type 0 where
+pub record ReadNumerators (s : List ℕ) (from count : ℕ) (numerators : List ℤ) : Type 0 where
   pub same : repeat count (amount refusal.BadModel) (drop from s) from
-      ≡ reading s row.sound row.place (values_at (amount_at s) 4 count from)
-  pub small : Amounts row.numerators
-  pub values : row.sound ≡ true → (j : ℕ) → get_or row.numerators j (pos 0) ≡ get_or (values_at (amount_at s) 4 count from) j (pos 0)
+      ≡ read_to s (from + count * 4) (values_at (amount_at s) 4 count from)
+  pub small : Amounts numerators
+  pub values : (j : ℕ) → get_or numerators j (pos 0) ≡ get_or (values_at (amount_at s) 4 count from) j (pos 0)
+
+pub record RefusedNumerators (s : List ℕ) (from count place : ℕ) : Type 0 where
+  pub same : repeat count (amount refusal.BadModel) (drop from s) from ≡ fault refusal.BadModel place
 
 amount-tested : (s : List ℕ) → Tested s (λ i. amount refusal.BadModel) 4 (λ i at. in_range (amount_at s at)) (amount_at s)
 unfolding amount amount_at after
@@ -58,25 +59,19 @@ module _ {s : List ℕ} {from : ℕ} where
 
   pub row-bad : {i count : ℕ} {out : List ℤ} → RowTo s from i out → i < count → from + count * 4 ≤ length s → (z : ℤ)
       → z ≡ amount_at s (from + i * 4) → in_range z ≡ false
-      → ReadNumerators s from count (record { sound = false; place = from + i * 4; numerators = out })
+      → RefusedNumerators s from count (from + i * 4)
   row-bad {i} {count} {out} f l h z e t =
       record {
         same = rw (repeat-each (amount refusal.BadModel) count 0)
             (each-bad (amount-tested s) i count 0 from l h f.filled.passed (ap in_range (sym e) ∙ t));
-        small = amounts f;
-        values = λ e. absurd (clash true tt (of-false true (sym e)));
       }
 
   pub row_done : {i count : ℕ} {out : List ℤ} → RowTo s from i out → i ≡ count → from + count * 4 ≤ length s
-      → ReadNumerators s from count (record {
-        sound = true;
-        place = from + count * 4;
-        numerators = out;
-      })
+      → ReadNumerators s from count out
   row_done {i} {count} {out} f e h =
       let g : RowTo s from count out = rw e at f in
       record {
         same = rw (repeat-each (amount refusal.BadModel) count 0) (each-good (amount-tested s) count 0 from h g.filled.passed);
-        small = amounts f;
-        values = λ t. filled-values (amount_at s) 4 (pos 0) (λ z. z) count from g.filled;
+        small = amounts g;
+        values = filled-values (amount_at s) 4 (pos 0) (λ z. z) count from g.filled;
       }

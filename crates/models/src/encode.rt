@@ -20,6 +20,7 @@ use rules_types::layout::{
 };
 use rules_types::limits::Limits;
 
+#[tactic(auto, unfolding(rules::specs::Model::boolean_byte, masks::specs::Mask::outside))]
 fn boolean_byte(mask: u32, occurring: u32, i: usize) -> u8
     requires { i < all_booleans }
     ensures { result ≡ boolean_byte (outside occurring i) (get_or (bits all_booleans mask) i false) }
@@ -38,11 +39,8 @@ fn put_booleans(s: &mut [u8], b: u8, mask: u32, occurring: u32)
     requires booleans_in_bounds { model_flags + booleans ≤ length s.old }
     ensures { s.new ≡ stored model_flags (flag_bytes b mask occurring) s.old }
 {
-    let count = b as usize;
-    let mut i: usize = 0;
-    while i < count {
+    for i in 0..b as usize {
         s[MODEL_FLAGS + i] = boolean_byte(mask, occurring, i);
-        i += 1;
     }
 }
 
@@ -53,12 +51,8 @@ fn put_numerators(s: &mut [u8], at: usize, r: u8, numerators: [i64; Limits::RATI
     requires amounts { Amounts numerators }
     ensures { s.new ≡ stored at (amount_bytes (tabulate r (value numerators))) s.old }
 {
-    let count = r as usize;
-    let mut i: usize = 0;
-    while i < count {
-        let z = numerators[i];
-        put_amount(s, at + 4 * i, z);
-        i += 1;
+    for i in 0..r as usize {
+        put_amount(s, at + 4 * i, numerators[i]);
     }
 }
 
@@ -69,12 +63,11 @@ fn encode_model(b: u8, r: u8, occurring: u32, model: Model) -> [u8; Limits::MODE
     ensures { result ≡ encode_model b r (outside occurring) (assignment model) }
 {
     let mut bytes = [0u8; Limits::MODEL_BYTES];
-    let numerators = model.numerators;
     bytes[MODEL_BOOLEANS] = b;
     put_booleans(&mut bytes, b, model.booleans, occurring);
     bytes[model_rationals(b)] = r;
     put_u32(&mut bytes, model_denominator(b), model.denominator as u64);
-    put_numerators(&mut bytes, model_numerators(b), r, numerators);
+    put_numerators(&mut bytes, model_numerators(b), r, model.numerators);
     bytes
 }
 

@@ -1,11 +1,7 @@
 -- `booleans::booleans` meets its contract. Invariant: the first i bytes are as they must be, and those that are 1 are members.
-use Prim.Native.Nat.{◌-◌, ◌≤◌}
 use Rattle.masks.specs.Mask.{outside}
 use Rattle.models.specs.Booleans.{FlagsTo}
 use Rattle.models.proofs.booleans.booleans.Given as goal
 
 abbrev pub invariant-loop-i : goal.invariant-loop-i
-invariant-loop-i l = (l.i ≤ l.count) × FlagsTo l.s l.from (outside l.occurring) l.i l.mask
-
-abbrev pub decreases-loop-i : goal.decreases-loop-i
-decreases-loop-i l = l.count - l.i
+invariant-loop-i l = FlagsTo l.s l.from (outside l.occurring) l.i l.mask
