@@ -2,9 +2,10 @@
 -- beyond; or that one of them is beyond.
 use Rattle.std.proofs.Math.Path.{◌≡◌, refl, ap}
 use Rattle.std.proofs.Common.{◌∙◌, arith}
-use Rattle.std.specs.Prelude.{Bool, not, ◌&&◌, ◌||◌, List, [], ◌∷◌, ℕ, zero, suc, drop}
+use Rattle.std.specs.Prelude.{Bool, not, ◌&&◌, ◌||◌, List, [], ◌∷◌, ℕ, zero, suc, drop, Option, None, Some}
 use Rattle.std.proofs.Math.Bool.{true, false, or-true}
-use Rattle.std.proofs.Math.Option.{Option, none, some}
+use Rattle.std.proofs.Math.Option as math
+use Rattle.std.proofs.Math.Option.{none, some}
 use Rattle.rules.specs.Lists.{any, filter}
 use Rattle.rules.specs.Problem.{Constraint}
 use Rattle.rules.specs.Meaning.{Assignment}
@@ -64,7 +65,7 @@ module _ (side : Variable → rules.Line → Bool) (χ : Assignment) (f : ℕ) (
   unfolding gather filter bounds_of any
   beyond-kept h = by (gives l) l.constraint refl
     where
-      by : (t : Bool) (k : Option Constraint) → l.constraint ≡ k
+      by : (t : Bool) (k : math.Option Constraint) → l.constraint ≡ k
           → any_beyond (bounds_of χ f (elim t [ true ↦ l ∷ filter gives ls | false ↦ filter gives ls ])) ≡ true
       by false k e = h
       by true none e = rw e h
@@ -88,19 +89,16 @@ unfoldable pub exceeding : Assignment → RationalRound → List rules.Line → 
 exceeding χ current ls = any_beyond (gather negatively χ current.rational (own_of current ls))
     || any_beyond (gather positively χ current.rational (own_of current ls))
 
-abbrev pub Gathering : Bool → Assignment → RationalRound → List rules.Line → Bound → Bound → Type 0
-Gathering true χ current ls L U = exceeding χ current ls ≡ true
-Gathering false χ current ls L U = Collected χ current ls L U
-
 -- ---- in machine words
 abbrev pub CollectedIn : Bounds → Assignment → RationalRound → List rules.Line → Type 0
 CollectedIn b χ current ls = Collected χ current ls (bound_meaning b.lower) (bound_meaning b.upper)
 
-abbrev pub GatheredIn : Bounds → Assignment → RationalRound → List rules.Line → Type 0
-GatheredIn b χ current ls = Gathering b.beyond χ current ls (bound_meaning b.lower) (bound_meaning b.upper)
+abbrev pub GatheredIn : Option Bounds → Assignment → RationalRound → List rules.Line → Type 0
+GatheredIn None χ current ls = exceeding χ current ls ≡ true
+GatheredIn (Some b) χ current ls = CollectedIn b χ current ls
 
 -- with this line more, whichever lines gave the bounds so far
-abbrev pub WithLine : Bounds → Bounds → Assignment → RationalRound → rules.Line → Type 0
+abbrev pub WithLine : Bounds → Option Bounds → Assignment → RationalRound → rules.Line → Type 0
 WithLine earlier b χ current l = (ls : List rules.Line) → CollectedIn earlier χ current ls → GatheredIn b χ current (l ∷ ls)
 
 pub collected-none : (χ : Assignment) (current : RationalRound) → Collected χ current [] absent absent

@@ -23,10 +23,11 @@ fn without_boolean(line: Line, i: usize) -> Line
     requires ready { Ready line }
     ensures { (meaning result ≡ without_boolean i (meaning line)) × Ready result }
 {
-    let mut rest = line;
-    rest.positive = without(line.positive, i);
-    rest.negative = without(line.negative, i);
-    rest
+    Line {
+        positive: without(line.positive, i),
+        negative: without(line.negative, i),
+        ..line
+    }
 }
 
 // A line of the variable's round makes it yes. The variable is asked for first: few lines have it.
@@ -55,13 +56,10 @@ pub fn boolean_value(proof: &[u8], n: usize, order: Order, i: usize, model: Mode
     requires in_range { InRange model }
     ensures { result ≡ boolean_value (assignment model) i (own (variables_of order) (boolean_round i) (lines_in proof.now n)) }
 {
-    let mut j: usize = 0;
-    while j < n {
-        let line = line_at(proof, j);
-        if forces(line, order, i, model) {
+    for j in 0..n {
+        if forces(line_at(proof, j), order, i, model) {
             return true;
         }
-        j += 1;
     }
     false
 }

@@ -7,7 +7,7 @@ ghost use Rattle.values.specs.Range.{InRange};
 
 use crate::sum::sum;
 use lines::line::Line;
-use masks::{ALL, meets};
+use masks::meets;
 use models::model::Model;
 use rows::product::scaled;
 
@@ -16,10 +16,7 @@ pub fn literal_holds(line: Line, model: Model) -> bool
     ensures { result ≡ a_literal_holds (assignment model) (meaning line) }
 {
     let yes = model.booleans;
-    if meets(line.positive, yes) {
-        return true;
-    }
-    meets(line.negative, ALL - yes)
+    meets(line.positive, yes) || meets(line.negative, !yes)
 }
 
 fn constraint_holds(line: Line, model: Model) -> bool
@@ -27,27 +24,19 @@ fn constraint_holds(line: Line, model: Model) -> bool
     requires in_range { InRange model }
     ensures { result ≡ the_constraint_holds (assignment model) (meaning line).constraint }
 {
-    let relation = line.relation;
-    if relation == 0 {
+    if line.relation == 0 {
         return false;
     }
-    let row = line.coefficients;
-    let numerators = model.numerators;
-    let s = sum(row, numerators);
+    let s = sum(line.coefficients, model.numerators);
     let b = scaled(line.bound, model.denominator);
-    if relation == 2 {
-        return s < b;
-    }
-    s <= b
+    if line.relation == 2 { s < b } else { s <= b }
 }
 
+#[tactic(auto, unfolding(rules::specs::Lines::line_holds))]
 pub fn line_holds(line: Line, model: Model) -> bool
     requires ready { Ready line }
     requires in_range { InRange model }
     ensures { result ≡ line_holds (assignment model) (meaning line) }
 {
-    if literal_holds(line, model) {
-        return true;
-    }
-    constraint_holds(line, model)
+    literal_holds(line, model) || constraint_holds(line, model)
 }

@@ -1,7 +1,6 @@
-// A rational variable's value in its round, or that a gathered bound or the value is beyond the range of amounts.
+// A rational variable's value in its round: none, where a gathered bound or the value is beyond the range of amounts.
 ghost use Rattle.std.specs.Prelude.{◌*◌, ◌≤◌, length};
 ghost use Rattle.rules_types.specs.Limits.{step_bytes};
-ghost use Rattle.fractions.specs.Meaning.{meaning};
 ghost use Rattle.lines.specs.Order.{ScheduledRational};
 ghost use Rattle.steps.specs.Lines.{lines_in, ReadyLines};
 ghost use Rattle.models.specs.Model.{assignment};
@@ -14,34 +13,22 @@ use fractions::fraction::Fraction;
 use lines::order::RationalRound;
 use models::model::Model;
 
-#[derive(Clone, Copy)]
-pub struct RationalValue {
-    pub beyond: bool,
-    pub value: Fraction,
-}
-
-pub fn rational_value(proof: &[u8], n: usize, current: RationalRound, model: Model) -> RationalValue
+pub fn rational_value(
+    proof: &[u8],
+    n: usize,
+    current: RationalRound,
+    model: Model,
+) -> Option<Fraction>
     requires n_in_bounds { step_bytes * n ≤ length proof.now }
     requires ready_lines { ReadyLines proof.now n }
     requires scheduled_rational { ScheduledRational current }
     requires in_range { InRange model }
-    ensures { Chosen result.beyond (assignment model) current (lines_in proof.now n) (meaning result.value) }
+    ensures { Chosen result (assignment model) current (lines_in proof.now n) }
 {
-    let b = gathered(proof, n, current, model);
-    if b.beyond {
-        return RationalValue {
-            beyond: true,
-            value: Fraction {
-                numerator: 0,
-                denominator: 1,
-            },
-        };
+    let bounds = gathered(proof, n, current, model)?;
+    let x = value(bounds.lower, bounds.upper);
+    if x.beyond() {
+        return None;
     }
-    let lower = b.lower;
-    let upper = b.upper;
-    let x = value(lower, upper);
-    RationalValue {
-        beyond: x.beyond(),
-        value: x,
-    }
+    Some(x)
 }

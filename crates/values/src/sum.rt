@@ -7,19 +7,14 @@ ghost use Rattle.models.specs.Model.{value};
 use rows::product::plus_product;
 use rules_types::limits::Limits;
 
-// From the last term to the first.
 pub fn sum(row: [i64; Limits::RATIONALS], numerators: [i64; Limits::RATIONALS]) -> i64
     requires amounts { Amounts row }
     requires amounts_2 { Amounts numerators }
     ensures { result ≡ sum row (value numerators) }
 {
-    let mut total = 0 as i64;
-    let mut i = Limits::RATIONALS;
-    while 0 < i {
-        i -= 1;
-        let z = row[i];
-        let x = numerators[i];
-        total = plus_product(total, z, x);
+    let mut total = 0;
+    for i in 0..Limits::RATIONALS {
+        total = plus_product(total, row[i], numerators[i]);
     }
     total
 }

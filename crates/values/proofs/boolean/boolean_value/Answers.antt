@@ -1,8 +1,4 @@
-use mathlib.Core.Path.{◌≡◌, refl, sym, ap, ◌∙◌}
-use mathlib.Core.Bool.{◌||◌}
-use Prim.Native.Nat.{ℕ, ◌+◌}
-use native.Mathlib.Omega.{arith}
-use lib.ListN.{drop}
+use Rattle.std.proofs.Common.{◌≡◌, sym, ap, ◌∙◌, ◌||◌, ℕ, ◌+◌, arith, drop}
 use Rattle.rules.specs.Lists.{any}
 use Rattle.lines.specs.declared.line.Line.{Line}
 use Rattle.lines.specs.Order.{variables_of}
@@ -14,20 +10,6 @@ use Rattle.values.specs.Round.{lines_next, lines_end}
 use Rattle.values.proofs.boolean.boolean_value.Goals as goal
 use Rattle.values.proofs.boolean.boolean_value.Goals.{After-forces}
 
-pub loop-j-init : goal.loop-j-init
-loop-j-init c = (omega arith, refl)
-
-pub forces-requires : goal.forces-requires
-forces-requires c =
-    let l = c.loop-j in
-    let ready = c.requires.ready_lines l.j c.loop-j-test.true in
-    record {
-      ordered = c.requires.ordered;
-      i_lt_all_booleans = c.requires.i_lt_all_booleans;
-      ready = rw c.line_at-line.ensures ready;
-      in_range = c.requires.in_range;
-    }
-
 -- the line that was read decides, or those behind it
 decided : (c : After-forces) → let l = c.loop-j in let test = forces (variables_of c.args.order) (assignment c.args.model) c.args.i in
     any test (lines_in c.args.proof.now c.args.n) ≡ c.forces.result
@@ -36,8 +18,8 @@ unfolding any
 decided c =
     let l = c.loop-j in
     let test = forces (variables_of c.args.order) (assignment c.args.model) c.args.i in
-    let e = c.forces.ensures ∙ ap (λ (x : Line). test (meaning x)) c.line_at-line.ensures in
-    l.invariant.1 ∙ ap (any test) (lines_next c.args.proof.now c.args.n l.j c.loop-j-test.true) ∙ rw e
+    let e = c.forces.ensures ∙ ap (λ (x : Line). test (meaning x)) c.line_at.ensures in
+    l.invariant ∙ ap (any test) (lines_next c.args.proof.now c.args.n l.j c.loop-j-test.true) ∙ rw e
 
 pub returns-then-forces : goal.returns-then-forces
 returns-then-forces c =
@@ -46,7 +28,7 @@ returns-then-forces c =
     ∙ decided (goal.at.returns-then-forces c).After-forces ∙ rw c.if-forces.true)
 
 pub loop-j-preserved : goal.loop-j-preserved
-loop-j-preserved c = (omega arith, decided (goal.at.loop-j-preserved c).After-forces ∙ rw c.if-forces.false)
+loop-j-preserved c = decided (goal.at.loop-j-preserved c).After-forces ∙ rw c.if-forces.false
 
 pub returns : goal.returns
 unfolding any
@@ -54,7 +36,7 @@ returns c =
     let l = c.loop-j in
     let test = forces (variables_of c.args.order) (assignment c.args.model) c.args.i in
     let ls = lines_in c.args.proof.now c.args.n in
-    let z : l.j ≡ c.args.n = omega (arith, l.invariant.0, c.loop-j-test.false) in
-    sym (sym (value-is (variables_of c.args.order) (assignment c.args.model) c.args.i ls) ∙ l.invariant.1
+    let z : l.j ≡ c.args.n = omega arith in
+    sym (sym (value-is (variables_of c.args.order) (assignment c.args.model) c.args.i ls) ∙ l.invariant
     ∙ ap (λ (k : ℕ). any test (drop k ls)) z
     ∙ ap (any test) (lines_end c.args.proof.now c.args.n))

@@ -1,7 +1,5 @@
 -- `boolean::boolean_value` meets its contract. Invariant: the lines that are left decide. Assumes nothing.
-use mathlib.Core.Path.{◌≡◌}
-use Prim.Native.Nat.{◌-◌, ◌≤◌}
-use lib.ListN.{drop}
+use Rattle.std.proofs.Common.{◌≡◌, drop}
 use Rattle.rules.specs.Lists.{any}
 use Rattle.lines.specs.Order.{variables_of}
 use Rattle.steps.specs.Lines.{lines_in}
@@ -10,9 +8,5 @@ use Rattle.values.specs.Boolean.{forces}
 use Rattle.values.proofs.boolean.boolean_value.Given as goal
 
 abbrev pub invariant-loop-j : goal.invariant-loop-j
-invariant-loop-j l = (l.j ≤ l.n)
-    × (any (forces (variables_of l.order) (assignment l.model) l.i) (lines_in l.proof l.n)
-    ≡ any (forces (variables_of l.order) (assignment l.model) l.i) (drop l.j (lines_in l.proof l.n)))
-
-abbrev pub decreases-loop-j : goal.decreases-loop-j
-decreases-loop-j l = l.n - l.j
+invariant-loop-j l = any (forces (variables_of l.order) (assignment l.model) l.i) (lines_in l.proof l.n)
+    ≡ any (forces (variables_of l.order) (assignment l.model) l.i) (drop l.j (lines_in l.proof l.n))

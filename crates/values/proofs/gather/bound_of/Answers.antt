@@ -28,12 +28,14 @@ divisor s = amount-bits (get_or s.args.line.coefficients s.args.f (pos 0)) (s.re
 
 pub quotient-requires : goal.quotient-requires
 quotient-requires c =
-    rw (divided c, divisor (goal.at.quotient-requires c).Start)
+    let e : c.from.result ≡ c.args.model.denominator = search rules in
+    rw (divided (goal.at.quotient-requires c).After-rest-n, divisor (goal.at.quotient-requires c).Start, e)
     (rest-scaled c.args.line c.args.model c.args.f (row-length (goal.at.quotient-requires c).Start)
     c.requires.f_lt_rationals c.requires.ready c.requires.in_range c.requires.nonzero)
 
 pub returns : goal.returns
 returns c =
-    (rw (divided (goal.at.returns c).After-rest-n, divisor (goal.at.returns c).Start) at c.quotient.ensures)
+    let e : c.from.result ≡ c.args.model.denominator = search rules in
+    (rw (divided (goal.at.returns c).After-rest-n, divisor (goal.at.returns c).Start, e) at c.quotient.ensures)
     ∙ bound-is c.args.line c.args.model c.args.f
     (row-length (goal.at.returns c).Start) c.requires.f_lt_rationals c.requires.ready c.requires.in_range

@@ -32,8 +32,8 @@ pub returns-then-round-current : goal.returns-then-round-current
 returns-then-round-current c = λ ls h.
     let e : belongs c.args.current (meaning c.args.line) ≡ false =
     rw (← c.round.ensures) (ne_eqb c.round.result c.args.current.number c.if-round-current.true) in
-    rw c.requires.beyond_value (collected-other (assignment c.args.model) c.args.current (meaning c.args.line) ls
-    (bound_meaning c.args.earlier.lower) (bound_meaning c.args.earlier.upper) h e)
+    collected-other (assignment c.args.model) c.args.current (meaning c.args.line) ls (bound_meaning c.args.earlier.lower)
+    (bound_meaning c.args.earlier.upper) h e
 
 -- ---- a line of the variable's round
 row-length : (s : Start) → length s.args.line.coefficients ≡ limit.rationals
@@ -58,21 +58,15 @@ one_side c = round-sides c.args.line c.requires.ready.shaped c.args.current c.re
 
 pub returns-then-literal_holds : goal.returns-then-literal_holds
 returns-then-literal_holds c = λ ls h.
-    rw c.requires.beyond_value
-    (collected-held (assignment c.args.model) c.args.current (meaning c.args.line) ls (bound_meaning c.args.earlier.lower)
+    collected-held (assignment c.args.model) c.args.current (meaning c.args.line) ls (bound_meaning c.args.earlier.lower)
     (bound_meaning c.args.earlier.upper) h (own-round (goal.at.returns-then-literal_holds c).Else-round-current)
-    (sym c.literal_holds.ensures ∙ c.if-literal_holds.true))
+    (sym c.literal_holds.ensures ∙ c.if-literal_holds.true)
 
 free : (c : Else-literal_holds) → a_literal_holds (assignment c.args.model) (meaning c.args.line) ≡ false
 free c = sym c.literal_holds.ensures ∙ c.if-literal_holds.false
 
-pub bound_of-x-requires : goal.bound_of-x-requires
-bound_of-x-requires c = record {
-  f_lt_rationals = c.requires.scheduled_rational.ranged;
-  ready = c.requires.ready;
-  nonzero = bounded (goal.at.bound_of-x-requires c).Else-round-current;
-  in_range = c.requires.in_range;
-}
+pub bound_of-at-requires-clause-nonzero : goal.bound_of-at-requires-clause-nonzero
+bound_of-at-requires-clause-nonzero c = bounded (goal.at.bound_of-at-requires-clause-nonzero c).Else-round-current
 
 pub returns-then-beyond : goal.returns-then-beyond
 returns-then-beyond c = λ ls h.
@@ -82,7 +76,7 @@ returns-then-beyond c = λ ls h.
     (constrained (goal.at.returns-then-beyond c).Else-round-current)
     (rw (one_side (goal.at.returns-then-beyond c).Else-round-current)
     (or-not_self (positively (rational c.args.current.rational) (meaning c.args.line))))
-    (rw (← c.bound_of-x.ensures, ← c.beyond.ensures) c.if-beyond.true)
+    (rw (← c.bound_of-at.ensures, ← c.beyond.ensures) c.if-beyond.true)
 
 -- the bound is in range
 small : (c : Else-beyond) → Small (bound_of (assignment c.args.model) c.args.current.rational (constraint_in c.args.line))
@@ -90,7 +84,7 @@ small c =
     bound-small c.args.line c.args.model c.args.current.rational
     (row-length (goal.at.Else-beyond c).Start) c.requires.scheduled_rational.ranged
     c.requires.ready c.requires.in_range
-    (bounded (goal.at.Else-beyond c).Else-round-current) (rw (← c.bound_of-x.ensures, ← c.beyond.ensures) c.if-beyond.false)
+    (bounded (goal.at.Else-beyond c).Else-round-current) (rw (← c.bound_of-at.ensures, ← c.beyond.ensures) c.if-beyond.false)
 
 -- the bounds with the line's on its side
 more : (c : After-has_positive_rational) (t : Bool) → c.has_positive_rational.result ≡ t
@@ -98,11 +92,11 @@ more : (c : After-has_positive_rational) (t : Bool) → c.has_positive_rational.
     let strict = eqb c.args.line.relation 2 in
     (ls : List rules.Line) → CollectedIn e (assignment c.args.model) c.args.current ls
     → Collected (assignment c.args.model) c.args.current (meaning c.args.line ∷ ls)
-    (with_lower t (fraction_meaning c.bound_of-x.result) strict (bound_meaning e.lower))
-    (with_upper t (fraction_meaning c.bound_of-x.result) strict (bound_meaning e.upper))
+    (with_lower t (fraction_meaning c.bound_of-at.result) strict (bound_meaning e.lower))
+    (with_upper t (fraction_meaning c.bound_of-at.result) strict (bound_meaning e.upper))
 more c t e = λ ls h.
     let p = sym c.has_positive_rational.ensures ∙ e in
-    rw c.bound_of-x.ensures
+    rw c.bound_of-at.ensures
     (collected-more (assignment c.args.model) c.args.current (meaning c.args.line) ls (bound_meaning c.args.earlier.lower)
     (bound_meaning c.args.earlier.upper) h (own-round (goal.at.After-has_positive_rational c).Else-round-current)
     (free (goal.at.After-has_positive_rational c).Else-literal_holds) (constraint_in c.args.line)
@@ -110,17 +104,16 @@ more c t e = λ ls h.
     t p (one_side (goal.at.After-has_positive_rational c).Else-round-current ∙ ap not p)
     (small (goal.at.After-has_positive_rational c).Else-beyond))
 
-pub or_upper-requires : goal.or_upper-requires
-or_upper-requires c =
-    (c.requires.within.1, rw c.bound_of-x.ensures (small (goal.at.or_upper-requires c).Else-beyond))
+pub tighter-requires : goal.tighter-requires
+tighter-requires c = (c.requires.within.1, rw c.bound_of-at.ensures (small (goal.at.tighter-requires c).Else-beyond))
 
 pub returns-then-has_positive_rational : goal.returns-then-has_positive_rational
-returns-then-has_positive_rational c = λ ls h. rw c.or_upper.ensures
+returns-then-has_positive_rational c = λ ls h. rw c.tighter.ensures
     (more (goal.at.returns-then-has_positive_rational c).After-has_positive_rational true c.if-has_positive_rational.true ls h)
 
-pub or_lower-requires : goal.or_lower-requires
-or_lower-requires c =
-    (c.requires.within.0, rw c.bound_of-x.ensures (small (goal.at.or_lower-requires c).Else-beyond))
+pub tighter-requires-2 : goal.tighter-requires-2
+tighter-requires-2 c = (c.requires.within.0, rw c.bound_of-at.ensures (small (goal.at.tighter-requires-2 c).Else-beyond))
 
 pub returns : goal.returns
-returns c = λ ls h. rw c.or_lower.ensures (more (goal.at.returns c).After-has_positive_rational false c.if-has_positive_rational.false ls h)
+returns c = λ ls h. rw c.tighter-2.ensures
+    (more (goal.at.returns c).After-has_positive_rational false c.if-has_positive_rational.false ls h)

@@ -17,8 +17,8 @@ use Rattle.values.specs.Constraint.{none-holds, some_holds}
 use Rattle.values.proofs.holds.constraint_holds.Goals as goal
 use Rattle.values.proofs.holds.constraint_holds.Goals.{After-scaled-b}
 
-pub returns-then-relation-eq0 : goal.returns-then-relation-eq0
-returns-then-relation-eq0 c = sym (none-holds c.args.line c.args.model c.if-relation-eq0.true)
+pub returns-then-line-eq0 : goal.returns-then-line-eq0
+returns-then-line-eq0 c = sym (none-holds c.args.line c.args.model c.if-line-eq0.true)
 
 -- the comparison is the definition's
 compared : (c : After-scaled-b) (t : Bool) → eqb c.args.line.relation 2 ≡ t
@@ -27,15 +27,15 @@ compared : (c : After-scaled-b) (t : Bool) → eqb c.args.line.relation 2 ≡ t
 compared c t e =
     let l = c.args.line in
     some_holds l c.args.model t (to_z w64 (of_z w64 c.sum-s.result)) (to_z w64 (of_z w64 c.scaled-b.result))
-    (omega (arith, c.if-relation-eq0.false)) e (to_z-of_z {w = w64} (sfits_of c.sum-s.type_inv) ∙ c.sum-s.ensures)
+    (omega (arith, c.if-line-eq0.false)) e (to_z-of_z {w = w64} (sfits_of c.sum-s.type_inv) ∙ c.sum-s.ensures)
     (to_z-of_z {w = w64} (sfits_of c.scaled-b.type_inv) ∙ (rw (amount-bits l.bound c.requires.ready.bound) at c.scaled-b.ensures))
 
-pub returns-then-relation-eq2 : goal.returns-then-relation-eq2
+pub returns-then-line-eq2 : goal.returns-then-line-eq2
 unfolding related
-returns-then-relation-eq2 c =
-    compared (goal.at.returns-then-relation-eq2 c).After-scaled-b _ (eq-eqb c.args.line.relation 2 c.if-relation-eq2.true)
+returns-then-line-eq2 c =
+    compared (goal.at.returns-then-line-eq2 c).After-scaled-b _ (eq-eqb c.args.line.relation 2 c.if-line-eq2.true)
 
-pub returns : goal.returns
+pub returns-else-line-eq2 : goal.returns-else-line-eq2
 unfolding related
-returns c =
-    compared (goal.at.returns c).After-scaled-b _ (ne_eqb c.args.line.relation 2 c.if-relation-eq2.false)
+returns-else-line-eq2 c =
+    compared (goal.at.returns-else-line-eq2 c).After-scaled-b _ (ne_eqb c.args.line.relation 2 c.if-line-eq2.false)

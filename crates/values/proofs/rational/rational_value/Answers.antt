@@ -1,30 +1,24 @@
 -- `rational::rational_value` meets its contract. Assumes nothing.
-use borrow.Author.Rules.{rules}
-use lib.IntN.{pos}
-use Rattle.fractions.specs.Meaning.{meaning as fraction_meaning, bound_meaning}
+use Rattle.std.proofs.Common.{sym, ◌∙◌}
+use Rattle.fractions.specs.Meaning.{meaning, bound_meaning}
 use Rattle.steps.specs.Lines.{lines_in}
 use Rattle.models.specs.Model.{assignment}
-use Rattle.values.specs.Gather.{Collected}
-use Rattle.values.specs.Chosen.{chosen-beyond, chosen-value}
+use Rattle.values.specs.Chosen.{chosen-beyond, value-beyond, chosen-value}
 use Rattle.values.proofs.rational.rational_value.Goals as goal
-use Rattle.values.proofs.rational.rational_value.Goals.{Else-b}
 
-pub returns-then-b : goal.returns-then-b
-returns-then-b c =
-    chosen-beyond (assignment c.args.model) c.args.current (lines_in c.args.proof.now c.args.n)
-    (record { numerator = pos 0; denominator = 1 }) (rw c.if-b.true at c.gathered-b.ensures)
+pub returns-in_err-bounds : goal.returns-in_err-bounds
+returns-in_err-bounds c =
+    rw c.from_residual.ensures (chosen-beyond (assignment c.args.model) c.args.current (lines_in c.args.proof.now c.args.n)
+    c.in_err-bounds.ensures)
 
-collected : (c : Else-b) → let b = c.gathered-b.result in
-    Collected (assignment c.args.model) c.args.current (lines_in c.args.proof.now c.args.n) (bound_meaning b.lower)
-    (bound_meaning b.upper)
-collected c = rw c.if-b.false at c.gathered-b.ensures
-
-pub value-x-requires : goal.value-x-requires
-value-x-requires c = search (rules, collected c)
+pub returns-then-beyond : goal.returns-then-beyond
+returns-then-beyond c =
+    let b = c.in_ok-bounds.bounds in
+    value-beyond (assignment c.args.model) c.args.current (lines_in c.args.proof.now c.args.n) (bound_meaning b.lower)
+    (bound_meaning b.upper) (meaning c.value-x.result) c.in_ok-bounds.ensures c.value-x.ensures (sym c.beyond.ensures ∙ c.if-beyond.true)
 
 pub returns : goal.returns
 returns c =
-    let b = c.gathered-b.result in
+    let b = c.in_ok-bounds.bounds in
     chosen-value (assignment c.args.model) c.args.current (lines_in c.args.proof.now c.args.n) (bound_meaning b.lower)
-    (bound_meaning b.upper) (fraction_meaning c.value-x.result) (collected (goal.at.returns c).Else-b) c.value-x.ensures
-    c.beyond.result c.beyond.ensures
+    (bound_meaning b.upper) (meaning c.value-x.result) c.in_ok-bounds.ensures c.value-x.ensures (sym c.beyond.ensures ∙ c.if-beyond.false)
