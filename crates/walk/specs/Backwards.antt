@@ -1,5 +1,5 @@
 -- The walk in machine words, from the last round to the first: where it stands at round t, how it goes on, and how it ends.
-use Rattle.std.specs.Prelude.{◌≡◌, Bool, ◌||◌, ℕ, suc, ◌≤◌, drop, replicate}
+use Rattle.std.specs.Prelude.{◌≡◌, Bool, ◌||◌, ℕ, suc, ◌≤◌, drop, replicate, None}
 use Rattle.std.proofs.Math.Path.{sym, ap, subst}
 use Rattle.std.proofs.Common.{◌∙◌, drop_of_length-le}
 use Rattle.std.proofs.Math.Bool.{true, false}
@@ -70,11 +70,11 @@ module _ {variables : List Variable} (o : Ordered variables) (lines : List Line)
     pub walking-next : (n : Model) → WithVariable n v mine (assignment m) → Walking variables lines t n
     walking-next n k = record { same = rw goes (sym k.same); none = rw goes k.none; range = k.range }
 
-    pub walking-stop : (r : ℕ) → r ≤ limit.rationals → ((f : ℕ) → r ≤ f → Without f lines) → (n : Model)
-        → Assigned false n v mine (assignment m) → (b : ℕ) (opens : ℕ → Bool)
+    pub walking-stop : (r : ℕ) → r ≤ limit.rationals → ((f : ℕ) → r ≤ f → Without f lines)
+        → Assigned None v mine (assignment m) → (b : ℕ) (opens : ℕ → Bool)
         → written b r opens (walk variables lines) ≡ none
     unfolding written walk
-    walking-stop r l z n e b opens =
+    walking-stop r l z e b opens =
         rw (
           unwritable-end variables lines o.once r t (omega (arith, place-below (λ u. u ≡ v) variables t a)) (rw goes large),
           written,

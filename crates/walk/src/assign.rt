@@ -19,25 +19,17 @@ use models::model::Model;
 use rows::combine::combine_rows;
 use rules_types::limits::Limits;
 
-// The assignment, and whether it can still be written: amounts over a denominator that is an amount.
-#[derive(Clone, Copy)]
-pub struct Reached {
-    pub written: bool,
-    pub model: Model,
-}
-
 pub fn with_boolean(model: Model, i: usize, yes: bool) -> Model
     requires i_lt_all_booleans { i < all_booleans }
     requires in_range { InRange model }
     ensures { (assignment result ≡ with_boolean i yes (assignment model)) × InRange result }
 {
-    let mut next = model;
-    if yes {
-        next.booleans = with(model.booleans, i);
+    let booleans = if yes {
+        with(model.booleans, i)
     } else {
-        next.booleans = without(model.booleans, i);
-    }
-    next
+        without(model.booleans, i)
+    };
+    Model { booleans, ..model }
 }
 
 fn lcm(a: u64, b: u64) -> u64
@@ -46,9 +38,7 @@ fn lcm(a: u64, b: u64) -> u64
     requires b_le_amount { b ≤ amount }
     ensures { result ≡ lcm a b }
 {
-    let g = gcd(a, b);
-    let q = a / g;
-    q * b
+    a / gcd(a, b) * b
 }
 
 // Every numerator times k, but that of f is a × m.
@@ -68,40 +58,31 @@ fn over(
 {
     let mut others = numerators;
     others[f] = 0;
-    let mut own = [0 as i64; Limits::RATIONALS];
+    let mut own = [0; Limits::RATIONALS];
     own[f] = m as i64;
     combine_rows(k as i64, others, a, own)
 }
 
-pub fn with_rational(model: Model, f: usize, x: Fraction) -> Reached
+// None, where it can no longer be written: amounts over a denominator that is an amount.
+pub fn with_rational(model: Model, f: usize, x: Fraction) -> Option<Model>
     requires f_lt_rationals { f < rationals }
     requires small { Small (meaning x) }
     requires in_range { InRange model }
-    ensures { SameOrTooLarge result.written result.model (with_rational f (meaning x) (assignment model)) }
+    ensures { SameOrTooLarge result (with_rational f (meaning x) (assignment model)) }
 {
     let d = model.denominator as u64;
     let e = x.denominator;
     let common = lcm(d, e);
     if Limits::AMOUNT < common {
-        return Reached {
-            written: false,
-            model: model,
-        };
+        return None;
     }
-    let old = model.numerators;
-    let numerators = over(old, common / d, f, x.numerator, common / e);
+    let numerators = over(model.numerators, common / d, f, x.numerator, common / e);
     if overflowing_row(numerators) {
-        return Reached {
-            written: false,
-            model: model,
-        };
+        return None;
     }
-    Reached {
-        written: true,
-        model: Model {
-            booleans: model.booleans,
-            numerators: numerators,
-            denominator: common as u32,
-        },
-    }
+    Some(Model {
+        numerators,
+        denominator: common as u32,
+        ..model
+    })
 }

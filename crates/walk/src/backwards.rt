@@ -11,7 +11,6 @@ ghost use Rattle.walk.specs.Narrow.{Narrow};
 ghost use Rattle.walk.specs.Reached.{bytes_of, WrittenInRange};
 ghost use Rattle.walk.specs.Backwards.{Walking};
 
-use crate::assign::Reached;
 use crate::round::{assign_boolean, assign_rational};
 use lines::order::Order;
 use models::model::Model;
@@ -29,36 +28,26 @@ fn walk_booleans(proof: &[u8], n: usize, order: Order) -> Model
         numerators: [0; Limits::RATIONALS],
         denominator: 1,
     };
-    let mut i = Limits::ALL_BOOLEANS;
-    while 0 < i {
-        i -= 1;
+    for i in (0..Limits::ALL_BOOLEANS).rev() {
         model = assign_boolean(proof, n, order, i, model);
     }
     model
 }
 
-pub fn walk(proof: &[u8], n: usize, order: Order, r: u8) -> Reached
+// None, where the assignment can not be written.
+pub fn walk(proof: &[u8], n: usize, order: Order, r: u8) -> Option<Model>
     requires n_in_bounds { step_bytes * n ≤ length proof.now }
     requires ready_lines { ReadyLines proof.now n }
     requires ordered { Ordered (variables_of order) }
     requires r_le_rationals { r ≤ rationals }
     requires narrow { Narrow proof.now n r }
     ensures by_index { (b : ℕ) (opens : ℕ → Bool) → written b r opens (walk (variables_of order) (lines_in proof.now n))
-        ≡ bytes_of b r opens result.written result.model }
-    ensures written_in_range { WrittenInRange result.written result.model }
+        ≡ bytes_of b r opens result }
+    ensures written_in_range { WrittenInRange result }
 {
     let mut model = walk_booleans(proof, n, order);
-    let mut t = Limits::RATIONALS;
-    while 0 < t {
-        t -= 1;
-        let next = assign_rational(proof, n, order.rational_round(t), model);
-        if !next.written {
-            return next;
-        }
-        model = next.model;
+    for t in (0..Limits::RATIONALS).rev() {
+        model = assign_rational(proof, n, order.rational_round(t), model)?;
     }
-    Reached {
-        written: true,
-        model: model,
-    }
+    Some(model)
 }

@@ -10,28 +10,26 @@ ghost use Rattle.values.specs.Range.{InRange};
 ghost use Rattle.values.specs.Round.{own, own_of};
 ghost use Rattle.walk.specs.Reached.{WithVariable, Assigned};
 
-use crate::assign::{Reached, with_boolean, with_rational};
+use crate::assign::{with_boolean, with_rational};
 use lines::order::{Order, RationalRound};
 use models::model::Model;
 use values::boolean::boolean_value;
 use values::rational::rational_value;
 
-pub fn assign_rational(proof: &[u8], n: usize, current: RationalRound, model: Model) -> Reached
+pub fn assign_rational(
+    proof: &[u8],
+    n: usize,
+    current: RationalRound,
+    model: Model,
+) -> Option<Model>
     requires n_in_bounds { step_bytes * n ≤ length proof.now }
     requires ready_lines { ReadyLines proof.now n }
     requires scheduled_rational { ScheduledRational current }
     requires in_range { InRange model }
-    ensures { Assigned result.written result.model (rational current.rational) (own_of current (lines_in proof.now n))
+    ensures { Assigned result (rational current.rational) (own_of current (lines_in proof.now n))
         (assignment model) }
 {
-    let found = rational_value(proof, n, current, model);
-    if found.beyond {
-        return Reached {
-            written: false,
-            model: model,
-        };
-    }
-    let x = found.value;
+    let x = rational_value(proof, n, current, model)?;
     with_rational(model, current.rational, x)
 }
 

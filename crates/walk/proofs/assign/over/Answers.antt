@@ -4,13 +4,12 @@ use Prim.Native.Nat.{ℕ, ◌≤◌}
 use native.Mathlib.Omega.{arith}
 use borrow.Author.Rules.{rules}
 use lib.IntN.{pos}
-use lib.ListN.{length, replicate}
+use lib.ListN.{length}
 use mir.Syntax.{w64}
 use mir.Val.{to_z}
 use mir.Facts.{to_z_pos}
 use Rattle.rules_types.specs.Limits as limit
 use Rattle.rules_types.specs.Limits.{amount}
-use Rattle.theory_vectors.specs.Amounts.{zeros-amounts, amounts-set}
 use Rattle.rows.specs.Products.{amount-bits}
 use Rattle.models.specs.Model.{value}
 use Rattle.walk.specs.Words.{scaled_value}
@@ -20,18 +19,6 @@ use Rattle.walk.proofs.assign.over.Goals.{Start}
 -- an unsigned amount as a signed one
 as-signed : (n : ℕ) → n ≤ amount → to_z w64 n ≡ pos n
 as-signed n h = to_z_pos w64 (omega arith)
-
-pub combine_rows-requires : goal.combine_rows-requires
-combine_rows-requires c =
-    let a = c.args in
-    let p = c.requires in
-    record {
-      small = rw (as-signed a.k p.k_le_amount) p.k_le_amount;
-      small_2 = rw (amount-bits a.a p.a_bound) p.a_bound;
-      amounts = amounts-set a.numerators a.f (pos 0) p.amounts (omega arith);
-      amounts_2 = rw (as-signed a.m p.m_le_amount)
-          (amounts-set (replicate limit.rationals (pos 0)) a.f (pos a.m) (zeros-amounts limit.rationals) p.m_le_amount);
-    }
 
 row-length : (s : Start) → length s.args.numerators ≡ limit.rationals
 row-length s = search (rules, s.well_formed)

@@ -2,28 +2,17 @@
 use Rattle.rules.specs.Lines.{including, excluding}
 use Rattle.walk.specs.Words.{boolean-words}
 use Rattle.walk.proofs.assign.with_boolean.Goals as goal
+use Rattle.walk.proofs.assign.with_boolean.Goals.{then-yes, else-yes}
 
-pub returns-then-yes : goal.returns-then-yes
-unfolding including
-returns-then-yes c =
+pub returns : goal.returns
+unfolding including excluding
+returns c =
     let k = c.requires.in_range in (
-      rw c.if-yes.true (boolean-words c.args.model c.with.result c.args.i _ c.requires.i_lt_all_booleans c.with.ensures),
-      record {
-        amounts = k.amounts;
-        positive = k.positive;
-        small = k.small;
-      },
-    )
-
-pub returns-else-yes : goal.returns-else-yes
-unfolding excluding
-returns-else-yes c =
-    let k = c.requires.in_range in (
-      rw c.if-yes.false
-          (boolean-words c.args.model c.without.result c.args.i _ c.requires.i_lt_all_booleans c.without.ensures),
-      record {
-        amounts = k.amounts;
-        positive = k.positive;
-        small = k.small;
-      },
+      elim c.if-yes.branch [
+        | then-yes w ↦ rw (w.booleans-is, w.if-yes.true)
+            (boolean-words c.args.model w.with-booleans.result c.args.i _ c.requires.i_lt_all_booleans w.with-booleans.ensures)
+        | else-yes w ↦ rw (w.booleans-is, w.if-yes.false)
+            (boolean-words c.args.model w.without-booleans.result c.args.i _ c.requires.i_lt_all_booleans w.without-booleans.ensures)
+      ],
+      record { amounts = k.amounts; positive = k.positive; small = k.small },
     )

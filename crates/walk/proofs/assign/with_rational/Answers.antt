@@ -1,7 +1,6 @@
 -- `assign::with_rational` meets its contract. Assumes nothing.
 use mathlib.Core.Path.{◌≡◌, sym, ◌∙◌}
-use Prim.Native.Nat.{◌/◌, ◌≤◌}
-use native.Mathlib.Nat.{div-le_self}
+use Prim.Native.Nat.{◌/◌}
 use native.Mathlib.Omega.{arith}
 use borrow.Author.Rules.{rules}
 use lib.IntN.{pos, ◌*ℤ◌}
@@ -21,21 +20,6 @@ pub returns-then-common-gt-AMOUNT : goal.returns-then-common-gt-AMOUNT
 returns-then-common-gt-AMOUNT c =
     let a = c.args in
     denominator-large a.model a.f (meaning a.x) c.lcm-common.result c.lcm-common.ensures c.if-common-gt-AMOUNT.true
-
-pub over-numerators-requires : goal.over-numerators-requires
-over-numerators-requires c =
-    let D = c.lcm-common.result in
-    let x = c.args.x in
-    let h : D ≤ amount = omega (arith, c.if-common-gt-AMOUNT.false) in
-    let k = div-le_self D c.args.model.denominator in
-    let m = div-le_self D x.denominator in record {
-      amounts = c.requires.in_range.amounts;
-      k_le_amount = omega arith;
-      f_lt_rationals = c.requires.f_lt_rationals;
-      a_bound =
-          rw (amount-bits x.numerator c.requires.small.numerator) c.requires.small.numerator;
-      m_le_amount = omega arith;
-    }
 
 -- the row that was computed
 scaled : (c : After-over-numerators) → let a = c.args in let D =

@@ -1,8 +1,4 @@
-use mathlib.Core.Path.{◌≡◌, subst}
-use Prim.Native.Nat.{ℕ, suc, ◌-◌}
-use native.Mathlib.Omega.{arith}
-use borrow.Author.Rules.{rules}
-use lib.ListN.{length}
+use Rattle.std.proofs.Common.{◌≡◌, subst, ℕ, suc, ◌-◌, arith, rules, length}
 use Rattle.rules_types.specs.Limits as limit
 use Rattle.rules.specs.Lines.{boolean}
 use Rattle.lines.specs.Order.{variables_of, boolean_round, at-boolean}
@@ -11,17 +7,7 @@ use Rattle.walk.specs.Backwards.{Walking, walking_start, walking-next}
 use Rattle.walk.proofs.backwards.walk_booleans.Goals as goal
 
 pub loop-i-init : goal.loop-i-init
-loop-i-init c = (omega arith, walking_start c.requires.ordered (lines_in c.args.proof.now c.args.n))
-
-pub assign_boolean-model-requires : goal.assign_boolean-model-requires
-assign_boolean-model-requires c =
-    let l = c.loop-i in record {
-      n_in_bounds = c.requires.n_in_bounds;
-      ready_lines = c.requires.ready_lines;
-      ordered = c.requires.ordered;
-      i_lt_all_booleans = omega (arith, l.invariant.0, c.loop-i-test.true);
-      in_range = l.invariant.1.range;
-    }
+loop-i-init c = walking_start c.requires.ordered (lines_in c.args.proof.now c.args.n)
 
 pub loop-i-preserved : goal.loop-i-preserved
 loop-i-preserved c =
@@ -30,15 +16,12 @@ loop-i-preserved c =
     let e : boolean_round l.i ≡ suc (boolean_round (l.i - 1)) = omega (arith, c.loop-i-test.true) in
     let o = c.args.order in
     let n : length o.rationals ≡ limit.rationals = search (rules, c.well_formed) in
-    let w = subst (λ (t : ℕ). Walking (variables_of o) ls t l.model) e l.invariant.1 in (
-      omega (arith, l.invariant.0),
-      walking-next c.requires.ordered ls (boolean_round (l.i - 1)) (boolean (l.i - 1))
-          (at-boolean o n (l.i - 1) (omega (arith, l.invariant.0, c.loop-i-test.true))) l.model w
-          c.assign_boolean-model.result c.assign_boolean-model.ensures,
-    )
+    let w = subst (λ (t : ℕ). Walking (variables_of o) ls t l.model) e l.invariant in
+    walking-next c.requires.ordered ls (boolean_round (l.i - 1)) (boolean (l.i - 1)) (at-boolean o n (l.i - 1) (omega arith)) l.model w
+    c.assign_boolean-model.result c.assign_boolean-model.ensures
 
 pub returns : goal.returns
 returns c =
     let l = c.loop-i in
     let z : l.i ≡ 0 = omega (arith, c.loop-i-test.false) in
-    rw z at l.invariant.1
+    rw z at l.invariant
