@@ -1,5 +1,5 @@
 -- The call: what each of its tests comes to.
-use Rattle.std.specs.Prelude.{◌≡◌, true, false, List, ℕ, ◌≤◌, ◌<◌, length}
+use Rattle.std.specs.Prelude.{◌≡◌, List, ℕ, ◌≤◌, ◌<◌, length}
 use borrow.Author.Tests.{lt-ltb, le-ltb}
 use Rattle.rules_types.specs.declared.answers.Refusal.{Refusal}
 use Rattle.rules_types.specs.declared.answers.Refusal.TheVariants as refusal
@@ -17,9 +17,8 @@ use Rattle.problem_read.specs.Parsed.{problem_at}
 use Rattle.problem_read.specs.ScanOf.{scan_of, scan_of-faulty}
 use Rattle.problem_read.specs.Readable.{Readable}
 use Rattle.models.specs.Model.{assignment}
-use Rattle.models.specs.declared.read.ModelRead.{ModelRead}
-use Rattle.models.specs.Fields.{reading}
-use Rattle.models.specs.Read.{ReadModel}
+use Rattle.models.specs.declared.model.Model.{Model}
+use Rattle.models.specs.Read.{ReadModel, RefusedModel}
 
 -- ---- the problem's faults
 pub checked-fault : (terms : Terms) (q s : List ℕ) (f : Refusal) (place : ℕ) → scan_of (read q) ≡ Fault f place
@@ -33,27 +32,25 @@ module _ (terms : Terms) {q : List ℕ} {sizes : Sizes} (given : Readable q size
   unfolding model_checked
   checked-short h = rw (given.is_read, lt-ltb (length s) limit.model_bytes h, model_checked)
 
-  module _ {back : ModelRead} (long : limit.model_bytes ≤ length s)
-      (read : ReadModel s sizes.booleans sizes.rationals (is_open (problem_at q sizes)) back) where
-    pub checked-bad : back.sound ≡ false → model_checked terms q s ≡ Refused refusal.BadModel back.place
-    unfolding model_checked reading
-    checked-bad e = rw (
+  module _ (long : limit.model_bytes ≤ length s) where
+    pub checked-bad : (place : ℕ) → RefusedModel s sizes.booleans sizes.rationals (is_open (problem_at q sizes)) place
+        → model_checked terms q s ≡ Refused refusal.BadModel place
+    unfolding model_checked
+    checked-bad place read = rw (
       given.is_read,
       le-ltb (length s) limit.model_bytes long,
       open-posed terms.edition (problem_at q sizes),
       read.same,
-      e,
       model_checked,
     )
 
-    pub checked-clauses : back.sound ≡ true
-        → model_checked terms q s ≡ check_clauses (assignment back.model) 0 (in_edition terms.edition (problem_at q sizes)).clauses
-    unfolding model_checked reading
-    checked-clauses e = rw (
+    pub checked-clauses : (m : Model) → ReadModel s sizes.booleans sizes.rationals (is_open (problem_at q sizes)) m
+        → model_checked terms q s ≡ check_clauses (assignment m) 0 (in_edition terms.edition (problem_at q sizes)).clauses
+    unfolding model_checked
+    checked-clauses m read = rw (
       given.is_read,
       le-ltb (length s) limit.model_bytes long,
       open-posed terms.edition (problem_at q sizes),
       read.same,
-      e,
       model_checked,
     )

@@ -43,18 +43,11 @@ fn check_readable(input: &[u8], bytes: &[u8], sizes: Sizes, terms: Terms) -> Che
     if bytes.len() < Limits::MODEL_BYTES {
         return Checked::Refused(Refusal::ShortModel, 0);
     }
-    let s = read_model(
-        bytes,
-        sizes.booleans,
-        sizes.rationals,
-        occurring(input, sizes),
-    );
-    if !s.sound {
-        return Checked::Refused(Refusal::BadModel, s.place);
+    let occurs = occurring(input, sizes);
+    match read_model(bytes, sizes.booleans, sizes.rationals, occurs) {
+        Ok(model) => check_posed(input, sizes, model, terms.edition),
+        Err(place) => Checked::Refused(Refusal::BadModel, place),
     }
-    let model = s.model;
-    let edition = terms.edition;
-    check_posed(input, sizes, model, edition)
 }
 
 pub fn check_model(input: &[u8], bytes: &[u8], terms: Terms) -> Checked

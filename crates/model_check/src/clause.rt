@@ -20,14 +20,10 @@ fn any_literal(input: &[u8], from: usize, count: u8, model: Model) -> bool
     requires { behind 1 count from ≤ length input.now }
     ensures { result ≡ any (literal_holds (assignment model)) (values_at (literal_at input.now) 1 count from) }
 {
-    let mut at = from;
-    let mut left = count;
-    while 0 < left {
-        if literal_holds(input[at], model) {
+    for i in 0..count as usize {
+        if literal_holds(input[from + i], model) {
             return true;
         }
-        at += 1;
-        left -= 1;
     }
     false
 }
@@ -41,14 +37,10 @@ fn any_comparison(input: &[u8], from: usize, r: u8, count: u8, model: Model) -> 
     ensures { result ≡ any (comparison_holds (assignment model)) (comparisons_at input.now r count from) }
 {
     let size = comparison_bytes(r);
-    let mut at = from;
-    let mut left = count;
-    while 0 < left {
-        if comparison_holds(input, at, r, model) {
+    for i in 0..count as usize {
+        if comparison_holds(input, from + i * size, r, model) {
             return true;
         }
-        at += size;
-        left -= 1;
     }
     false
 }
@@ -60,8 +52,6 @@ pub fn clause_holds(input: &[u8], at: usize, r: u8, model: Model) -> bool
     ensures { result ≡ clause_holds (assignment model) (clause_at input.now r at) }
 {
     let place = count_place(input, at);
-    if any_literal(input, at + 1, input[at], model) {
-        return true;
-    }
-    any_comparison(input, place + 1, r, input[place], model)
+    any_literal(input, at + 1, input[at], model)
+        || any_comparison(input, place + 1, r, input[place], model)
 }

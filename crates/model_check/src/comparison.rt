@@ -24,35 +24,24 @@ fn sum(input: &[u8], from: usize, count: u8, numerators: [i64; Limits::RATIONALS
     requires amounts { Amounts numerators }
     ensures { result ≡ sum (values_at (amount_at input.now) 4 count from) (value numerators) }
 {
-    let mut at = from;
-    let mut left = count;
-    let mut i = 0;
-    let mut total = 0 as i64;
-    while 0 < left {
-        let z = amount_at(input, at);
-        let x = numerators[i];
-        total = plus_product(total, z, x);
-        at += 4;
-        left -= 1;
-        i += 1;
+    let mut total = 0;
+    for i in 0..count as usize {
+        total = plus_product(total, amount_at(input, from + i * 4), numerators[i]);
     }
     total
 }
 
 // "Relation 3 shall mean =, 4 ≥"
+#[tactic(auto, unfolding(rules::specs::Problem::relation_of, rules::specs::Meaning::compared))]
 fn compared(code: u8, a: i64, b: i64) -> bool
     ensures { result ≡ compared (relation_of code) a b }
 {
-    if code == 2 {
-        return a < b;
+    match code {
+        2 => a < b,
+        3 => a == b,
+        4 => b <= a,
+        _ => a <= b,
     }
-    if code == 3 {
-        return a == b;
-    }
-    if code == 4 {
-        return b <= a;
-    }
-    a <= b
 }
 
 pub fn comparison_holds(input: &[u8], at: usize, r: u8, model: Model) -> bool
@@ -61,8 +50,7 @@ pub fn comparison_holds(input: &[u8], at: usize, r: u8, model: Model) -> bool
     requires amounts { Amounts model.numerators }
     ensures { result ≡ comparison_holds (assignment model) (comparison_at input.now r at) }
 {
-    let numerators = model.numerators;
-    let s = sum(input, at + COMPARISON_COEFFICIENTS, r, numerators);
+    let s = sum(input, at + COMPARISON_COEFFICIENTS, r, model.numerators);
     let b = scaled(written_bound(input, at, r), model.denominator);
     compared(input[at], s, b)
 }

@@ -23,15 +23,11 @@ pub fn check_clauses(input: &[u8], from: usize, r: u8, count: u64, model: Model)
     ensures { result ≡ check_clauses (assignment model) 0 (clauses_at input.now r count from) }
 {
     let mut at = from;
-    let mut left = count;
-    let mut k: usize = 0;
-    while 0 < left {
+    for k in 0..count as usize {
         if !clause_holds(input, at, r, model) {
             return Checked::Fails(k);
         }
         at = next(input, at, r);
-        left -= 1;
-        k += 1;
     }
     Checked::Accepted
 }
@@ -43,13 +39,10 @@ pub fn check_added(n: u64, count: u8, model: Model) -> Checked
     requires amounts { Amounts model.numerators }
     ensures { result ≡ check_clauses (assignment model) n (tabulate count non_negative) }
 {
-    let numerators = model.numerators;
-    let mut f: u8 = 0;
-    while f < count {
-        if is_negative(numerators[f as usize]) {
-            return Checked::Fails(n as usize + f as usize);
+    for f in 0..count as usize {
+        if is_negative(model.numerators[f]) {
+            return Checked::Fails(n as usize + f);
         }
-        f += 1;
     }
     Checked::Accepted
 }

@@ -14,10 +14,7 @@ use rules_types::limits::Limits;
 fn is_yes(mask: u32, i: usize) -> bool
     ensures { result ≡ get_or (bits all_booleans mask) i false }
 {
-    if Limits::ALL_BOOLEANS <= i {
-        return false;
-    }
-    member(mask, i)
+    i < Limits::ALL_BOOLEANS && member(mask, i)
 }
 
 // "the mark's number, plus 128 if negated"
@@ -25,8 +22,5 @@ pub fn literal_holds(code: u8, model: Model) -> bool
     ensures { result ≡ literal_holds (assignment model) (literal_of code) }
 {
     let yes = is_yes(model.booleans, (code % 128) as usize);
-    if 128 <= code {
-        return !yes;
-    }
-    yes
+    if 128 <= code { !yes } else { yes }
 }

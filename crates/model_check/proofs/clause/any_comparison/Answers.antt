@@ -1,45 +1,36 @@
-use mathlib.Core.Path.{refl}
-use native.Mathlib.Omega.{arith}
+use Rattle.std.proofs.Common.{arith}
 use Rattle.rules_types.specs.Layout.{comparison_bytes}
-use Rattle.problem_scan.specs.Sound.{SoundComparison, each_first, each-rest}
-use Rattle.model_check.specs.Any.{asking-done, asking-within, asking-passed, asking-next}
+use Rattle.problem_scan.specs.Sound.{SoundComparison}
+use Rattle.model_check.specs.Any.{value-within, each_at, asking_start, asking-done, asking-passed, asking-next}
 use Rattle.model_check.proofs.clause.any_comparison.Goals as goal
 
-pub loop-left-init : goal.loop-left-init
-loop-left-init c = (record { end = refl; same = refl }, c.requires.each)
+pub loop-i-init : goal.loop-i-init
+loop-i-init c = asking_start
 
-pub comparison_holds-requires : goal.comparison_holds-requires
-comparison_holds-requires c =
-    let l = c.loop-left in record {
-      r_le_rationals = c.requires.r_le_rationals;
-      sound_comparison = each_first (SoundComparison c.args.input.now c.args.r) (comparison_bytes c.args.r) l.left l.at
-          c.loop-left-test.true l.invariant.1;
-      amounts = c.requires.amounts;
-    }
+pub overflow_add-from : goal.overflow_add-from
+overflow_add-from c =
+    rw c.comparison_bytes-size.ensures (omega (
+      arith,
+      value-within (comparison_bytes c.args.r) c.args.from c.args.count c.loop-i.i c.loop-i-test.true,
+      c.requires.from_in_bounds,
+      c.well_formed,
+    ))
+
+pub comparison_holds-requires-clause-sound_comparison : goal.comparison_holds-requires-clause-sound_comparison
+comparison_holds-requires-clause-sound_comparison c =
+    rw c.comparison_bytes-size.ensures
+    (each_at (SoundComparison c.args.input.now c.args.r) (comparison_bytes c.args.r) c.args.count c.args.from c.loop-i.i
+    c.loop-i-test.true c.requires.each)
 
 pub returns-then-comparison_holds : goal.returns-then-comparison_holds
 returns-then-comparison_holds c =
-    asking-passed c.loop-left.invariant.0 c.loop-left-test.true c.comparison_holds.result
-    c.comparison_holds.ensures c.if-comparison_holds.true
+    asking-passed c.loop-i.invariant c.loop-i-test.true c.comparison_holds.result
+    (rw c.comparison_bytes-size.ensures at c.comparison_holds.ensures) c.if-comparison_holds.true
 
-pub overflow_add-at : goal.overflow_add-at
-overflow_add-at c =
-    omega (
-      arith,
-      c.comparison_bytes-size.ensures,
-      asking-within c.loop-left.invariant.0 c.loop-left-test.true,
-      c.requires.from_in_bounds,
-      c.well_formed,
-    )
-
-pub loop-left-preserved : goal.loop-left-preserved
-loop-left-preserved c =
-    let t = c.loop-left-test.true in
-    let l = c.loop-left in
-    rw c.comparison_bytes-size.ensures (
-      asking-next l.invariant.0 t c.comparison_holds.result c.comparison_holds.ensures c.if-comparison_holds.false,
-      each-rest (SoundComparison c.args.input.now c.args.r) (comparison_bytes c.args.r) l.left l.at t l.invariant.1,
-    )
+pub loop-i-preserved : goal.loop-i-preserved
+loop-i-preserved c =
+    asking-next c.loop-i.invariant c.loop-i-test.true c.comparison_holds.result
+    (rw c.comparison_bytes-size.ensures at c.comparison_holds.ensures) c.if-comparison_holds.false
 
 pub returns : goal.returns
-returns c = asking-done c.loop-left.invariant.0 c.loop-left-test.false
+returns c = asking-done c.loop-i.invariant c.loop-i-test.false

@@ -5,8 +5,5 @@ use Rattle.models.specs.Model.{assignment}
 use Rattle.model_check.specs.Any.{Asking}
 use Rattle.model_check.proofs.clause.any_literal.Given as goal
 
-abbrev pub invariant-loop-left : goal.invariant-loop-left
-invariant-loop-left l = Asking (literal_holds (assignment l.model)) (literal_at l.input) 1 l.from l.count l.at l.left
-
-abbrev pub decreases-loop-left : goal.decreases-loop-left
-decreases-loop-left l = l.left
+abbrev pub invariant-loop-i : goal.invariant-loop-i
+invariant-loop-i l = Asking (literal_holds (assignment l.model)) (literal_at l.input) 1 l.from l.count l.i

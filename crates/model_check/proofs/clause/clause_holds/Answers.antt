@@ -31,7 +31,7 @@ any_literal-requires c = omega (arith, counted (goal.at.any_literal-requires c).
 
 pub returns-then-any_literal : goal.returns-then-any_literal
 unfolding clause_holds clause_at
-returns-then-any_literal c = rw (sym c.any_literal.ensures ∙ c.if-any_literal.true)
+returns-then-any_literal c = c.if-any_literal.true ∙ sym (rw (sym c.any_literal.ensures ∙ c.if-any_literal.true))
 
 pub overflow_add-place : goal.overflow_add-place
 overflow_add-place c = omega (arith, c.count_place-place.ensures, counted (goal.at.overflow_add-place c).Start, c.well_formed)
@@ -39,18 +39,12 @@ overflow_add-place c = omega (arith, c.count_place-place.ensures, counted (goal.
 pub bounds-input-place : goal.bounds-input-place
 bounds-input-place c = omega (arith, c.count_place-place.ensures, counted (goal.at.bounds-input-place c).Start)
 
-pub any_comparison-requires : goal.any_comparison-requires
+pub any_comparison-requires-clause-from_in_bounds : goal.any_comparison-requires-clause-from_in_bounds
 unfolding clause_end
-any_comparison-requires c =
-    record {
-      r_le_rationals = c.requires.r_le_rationals;
-      from_in_bounds = rw c.count_place-place.ensures c.requires.sound_clause.within;
-      each = rw c.count_place-place.ensures c.requires.sound_clause.comparisons;
-      amounts = c.requires.amounts;
-    }
+any_comparison-requires-clause-from_in_bounds c = rw c.count_place-place.ensures c.requires.sound_clause.within
 
-pub returns : goal.returns
+pub returns-else-any_literal : goal.returns-else-any_literal
 unfolding clause_holds clause_at
-returns c =
+returns-else-any_literal c =
     rw (sym c.any_literal.ensures ∙ c.if-any_literal.false, ← c.count_place-place.ensures)
     c.any_comparison.ensures

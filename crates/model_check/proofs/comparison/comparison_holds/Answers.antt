@@ -12,13 +12,9 @@ use Rattle.model_check.specs.Sum.{holds-is}
 use Rattle.model_check.proofs.comparison.comparison_holds.Goals as goal
 use Rattle.model_check.proofs.comparison.comparison_holds.Goals.{After-written_bound}
 
-pub sum-s-requires : goal.sum-s-requires
-sum-s-requires c = record {
-  count_le_rationals = c.requires.r_le_rationals;
-  from_in_bounds = omega (arith, behind-is 4 c.args.r (c.args.at + layout.comparison_coefficients), c.requires.sound_comparison.within);
-  each = c.requires.sound_comparison.coefficients;
-  amounts = c.requires.amounts;
-}
+pub sum-s-requires-clause-from_in_bounds : goal.sum-s-requires-clause-from_in_bounds
+sum-s-requires-clause-from_in_bounds c =
+    omega (arith, behind-is 4 c.args.r (c.args.at + layout.comparison_coefficients), c.requires.sound_comparison.within)
 
 -- the bound that was read
 read_is : (c : After-written_bound) → let a = c.args in

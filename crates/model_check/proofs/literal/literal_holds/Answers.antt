@@ -11,6 +11,6 @@ pub returns-then-code-ge128 : goal.returns-then-code-ge128
 unfolding literal_holds assignment literal_of
 returns-then-code-ge128 c = rw (le-leb 128 c.args.code c.if-code-ge128.true) (ap not c.is_yes-yes.ensures)
 
-pub returns : goal.returns
+pub returns-else-code-ge128 : goal.returns-else-code-ge128
 unfolding literal_holds assignment literal_of
-returns c = rw (lt-leb 128 c.args.code c.if-code-ge128.false) c.is_yes-yes.ensures
+returns-else-code-ge128 c = rw (lt-leb 128 c.args.code c.if-code-ge128.false) c.is_yes-yes.ensures
