@@ -1,5 +1,5 @@
 -- The call: what each of its tests comes to.
-use Rattle.std.specs.Prelude.{◌≡◌, Bool, true, false, List, ◌++◌, ℕ, ◌≤◌, ◌<◌, ℤ, ltb, length, drop}
+use Rattle.std.specs.Prelude.{◌≡◌, Bool, List, ◌++◌, ℕ, ◌≤◌, ◌<◌, ℤ, ltb, length, drop}
 use Rattle.std.proofs.Common.{sym, ◌∙◌}
 use Rattle.std.proofs.Math.Path.{ap}
 use borrow.Author.Tests.{lt-ltb, le-ltb}
@@ -24,12 +24,9 @@ use Rattle.problem_read.specs.Parsed.{problem_at}
 use Rattle.problem_read.specs.ScanOf.{scan_of, scan_of-faulty}
 use Rattle.problem_read.specs.Readable.{Readable}
 use Rattle.models.specs.declared.model.Model.{Model}
-use Rattle.models.specs.declared.read.ModelRead.{ModelRead}
 use Rattle.models.specs.Model.{assignment, value}
-use Rattle.models.specs.Fields.{reading}
-use Rattle.models.specs.Read.{ReadModel}
-use Rattle.carrying_back.specs.declared.numerators.Row.{Row}
-use Rattle.carrying_back.specs.Numerators.{CarriedRow}
+use Rattle.models.specs.Read.{ReadModel, RefusedModel}
+use Rattle.carrying_back.specs.Numerators.{CarriedRow, Beyond}
 
 -- ---- what a call answers, and what it leaves in the target
 pub record Gives (carrying : Carrying) (carried : Carried) (target : List ℕ) : Type 0 where
@@ -95,74 +92,73 @@ module _ {q : List ℕ} {sizes : Sizes} {keeps : ℕ → Bool} {n : ℕ} (new : 
         );
       }
 
--- ---- 17, of a model that was read with the old problem's Boolean variables and n rational ones
-pub record NewModel (q bytes target : List ℕ) (sizes : Sizes) (keeps opens : ℕ → Bool) (n : ℕ) (back : ModelRead) : Type 0 where
+-- ---- 17, of a model that is read with the old problem's Boolean variables and n rational ones
+pub record NewModel (q bytes target : List ℕ) (sizes : Sizes) (keeps opens : ℕ → Bool) (n : ℕ) : Type 0 where
   pub rationals : NewRationals q sizes keeps n
   pub all : AllBytes q
   pub few : n ≤ limit.rationals
   pub size : limit.model_bytes ≤ length bytes
   pub room : limit.model_bytes ≤ length target
   pub opened : opens ≡ is_open (problem_at q sizes)
-  pub read : ReadModel bytes sizes.booleans n opens back
 
-module _ {q bytes target : List ℕ} {sizes : Sizes} {keeps opens : ℕ → Bool} {n : ℕ} {back : ModelRead}
-    (new : NewModel q bytes target sizes keeps opens n back) where
-  abbrev old : Problem
-  old = problem_at q sizes
+module _ {q bytes target : List ℕ} {sizes : Sizes} {keeps opens : ℕ → Bool} {n : ℕ} (new : NewModel q bytes target sizes keeps opens n)
+  where
+    abbrev old : Problem
+    old = problem_at q sizes
 
-  reads : carry_back q bytes target ≡ read_carried old bytes target
-  unfolding carry_back
-  reads = rw (
-    new.rationals.given.is_read,
-    carry_back,
-    over new.rationals ∙ le-ltb limit.rationals n new.few,
-    le-ltb (length bytes) limit.model_bytes new.size,
-    le-ltb (length target) limit.model_bytes new.room,
-  )
+    reads : carry_back q bytes target ≡ read_carried old bytes target
+    unfolding carry_back
+    reads = rw (
+      new.rationals.given.is_read,
+      carry_back,
+      over new.rationals ∙ le-ltb limit.rationals n new.few,
+      le-ltb (length bytes) limit.model_bytes new.size,
+      le-ltb (length target) limit.model_bytes new.room,
+    )
 
-  same-model : let m = meaning (carried_over old) in
-      model m.booleans m.rationals (is_open m) bytes 0 ≡ reading bytes back.sound back.place (assignment back.model)
-  same-model =
-      (λ i. model (carried-booleans old i) ((carried-rationals old ∙ sym (counted new.rationals)) i)
-      ((carried-open q new.all old new.rationals.given.is_read ∙ sym new.opened) i) bytes 0)
-      ∙ new.read.same
+    same-model : let m = meaning (carried_over old) in
+        model m.booleans m.rationals (is_open m) bytes 0 ≡ model sizes.booleans n opens bytes 0
+    same-model = λ i. model (carried-booleans old i) ((carried-rationals old ∙ sym (counted new.rationals)) i)
+        ((carried-open q new.all old new.rationals.given.is_read ∙ sym new.opened) i) bytes 0
 
-  pub gives-bad : back.sound ≡ false → Gives (carry_back q bytes target) (Refused refusal.BadModel back.place) target
-  unfolding read_carried reading
-  gives-bad e = record { same = reads ∙ rw (same-model, e, read_carried) }
+    pub gives-bad : (place : ℕ) → RefusedModel bytes sizes.booleans n opens place
+        → Gives (carry_back q bytes target) (Refused refusal.BadModel place) target
+    unfolding read_carried
+    gives-bad place k = record { same = reads ∙ rw (same-model ∙ k.same, read_carried) }
 
-  -- ---- 22, and the model written
-  module _ (sound : back.sound ≡ true) {row : Row} (carried : CarriedRow keeps (value back.model.numerators) sizes.rationals row)
-    where
+    -- ---- 22, and the model written
+    module _ (m : Model) (read : ReadModel bytes sizes.booleans n opens m) where
       abbrev χ : Assignment
-      χ = carried_back (kept old) (assignment back.model)
+      χ = carried_back (kept old) (assignment m)
 
       goes : carry_back q bytes target ≡ carried_into old χ target
-      unfolding read_carried reading
-      goes = reads ∙ rw (same-model, sound, read_carried)
+      unfolding read_carried
+      goes = reads ∙ rw (same-model ∙ read.same, read_carried)
 
       beyond-is : first_beyond 0 sizes.rationals χ.numerators
-          ≡ first_beyond 0 sizes.rationals (carried_numerator keeps (value back.model.numerators))
+          ≡ first_beyond 0 sizes.rationals (carried_numerator keeps (value m.numerators))
       unfolding carried_back assignment
       beyond-is = rw new.rationals.masked
 
-      pub gives-beyond : row.sound ≡ false → Gives (carry_back q bytes target) (Refused refusal.CarriedRange row.place) target
+      pub gives-beyond : (variable : ℕ) → Beyond keeps (value m.numerators) sizes.rationals variable
+          → Gives (carry_back q bytes target) (Refused refusal.CarriedRange variable) target
       unfolding carried_into
-      gives-beyond e = record { same = goes ∙ rw (beyond-is ∙ carried.beyond e, carried_into) }
+      gives-beyond variable k = record { same = goes ∙ rw (beyond-is ∙ k.first, carried_into) }
 
       -- the model of the numerators carried back
-      abbrev result : Model
-      result = record { booleans = back.model.booleans; numerators = row.numerators; denominator = back.model.denominator }
+      module _ (numerators : List ℤ) (carried : CarriedRow keeps (value m.numerators) sizes.rationals numerators) where
+        abbrev result : Model
+        result = record { booleans = m.booleans; numerators = numerators; denominator = m.denominator }
 
-      pub gives-done : row.sound ≡ true → (written : List ℕ)
-          → written ≡ encode_model sizes.booleans sizes.rationals opens (assignment result) ++ drop limit.model_bytes target
-          → Gives (carry_back q bytes target) Done written
-      unfolding carried_into carried_back assignment
-      gives-done e written w =
-          let same : encode_model sizes.booleans sizes.rationals opens (assignment result)
-          ≡ encode_model sizes.booleans sizes.rationals (is_open old) χ =
-          rw (← new.opened, ← new.rationals.masked)
-          (encode_same sizes.booleans sizes.rationals opens _ _ _ _ (carried.same e)) in
-          record {
-            same = goes ∙ rw (beyond-is ∙ carried.within e, carried_into, ← same, ← w);
-          }
+        pub gives-done : (written : List ℕ)
+            → written ≡ encode_model sizes.booleans sizes.rationals opens (assignment result) ++ drop limit.model_bytes target
+            → Gives (carry_back q bytes target) Done written
+        unfolding carried_into carried_back assignment
+        gives-done written w =
+            let same : encode_model sizes.booleans sizes.rationals opens (assignment result)
+            ≡ encode_model sizes.booleans sizes.rationals (is_open old) χ =
+            rw (← new.opened, ← new.rationals.masked)
+            (encode_same sizes.booleans sizes.rationals opens _ _ _ _ carried.same) in
+            record {
+              same = goes ∙ rw (beyond-is ∙ carried.within, carried_into, ← same, ← w);
+            }

@@ -11,7 +11,6 @@ use Rattle.rules_types.specs.Limits as limit
 use Rattle.rules.specs.Problem.{in_range}
 use Rattle.rules.specs.Convert.{place_of, carried_numerator, first_beyond}
 use Rattle.theory_lists.specs.All.{get_or-replicate-same}
-use Rattle.theory_lists.specs.Tests.{clash, of-false}
 use Rattle.theory_integers.specs.Size.{abs-minus-≤}
 use Rattle.theory_vectors.specs.Amounts.{Small, Amounts}
 use Rattle.theory_conversion.specs.Halves.{place_mono}
@@ -19,15 +18,17 @@ use Rattle.machine.specs.Signed.{fits-size}
 use Rattle.models.specs.Model.{value}
 use Rattle.models.specs.Fields.{Filled, filled_none, filled_more}
 use Rattle.kept_rationals.specs.Kept.{place-next}
-use Rattle.carrying_back.specs.declared.numerators.Row.{Row}
 
--- r numerators within the range; or 22 at the first that is not
-pub record CarriedRow (keeps : ℕ → Bool) (x : ℕ → ℤ) (r : ℕ) (row : Row) : Type 0 where
-  pub small : Amounts row.numerators
-  pub within : row.sound ≡ true → first_beyond 0 r (carried_numerator keeps x) ≡ none
-  pub same : row.sound ≡ true → (f : ℕ) → f < r → value row.numerators f ≡ carried_numerator keeps x f
-  pub zeros : (f : ℕ) → r ≤ f → value row.numerators f ≡ pos 0
-  pub beyond : row.sound ≡ false → first_beyond 0 r (carried_numerator keeps x) ≡ some row.place
+-- r numerators within the range
+pub record CarriedRow (keeps : ℕ → Bool) (x : ℕ → ℤ) (r : ℕ) (numerators : List ℤ) : Type 0 where
+  pub small : Amounts numerators
+  pub within : first_beyond 0 r (carried_numerator keeps x) ≡ none
+  pub same : (f : ℕ) → f < r → value numerators f ≡ carried_numerator keeps x f
+  pub zeros : (f : ℕ) → r ≤ f → value numerators f ≡ pos 0
+
+-- or 22 at the first that is not
+pub record Beyond (keeps : ℕ → Bool) (x : ℕ → ℤ) (r variable : ℕ) : Type 0 where
+  pub first : first_beyond 0 r (carried_numerator keeps x) ≡ some variable
 
 -- ---- one numerator
 pub half-least : (t : Bool) → 1 ≤ cond t 1 2
@@ -74,15 +75,14 @@ module _ {keeps : ℕ → Bool} {x : ℕ → ℤ} where
               (eq-zero-or-pos (f - j));
         }
 
-    pub carried-done : (r : ℕ) → f ≡ r → CarriedRow keeps x r (record { sound = true; place = f; numerators = out })
+    pub carried-done : (r : ℕ) → f ≡ r → CarriedRow keeps x r out
     unfolding value
     carried-done r e =
         record {
           small = amounts;
-          within = λ t. all-within 0 r (carried_numerator keeps x) (λ g l. run.filled.passed g (omega arith));
-          same = λ t g l. run.filled.here g (omega arith);
+          within = all-within 0 r (carried_numerator keeps x) (λ g l. run.filled.passed g (omega arith));
+          same = λ g l. run.filled.here g (omega arith);
           zeros = λ g l. run.filled.beyond g (omega arith);
-          beyond = λ t. absurd (clash true tt (of-false true t));
         }
 
     -- with the next variable
@@ -95,15 +95,10 @@ module _ {keeps : ℕ → Bool} {x : ℕ → ℤ} where
         unfolding carried_numerator
         numerator-is = given ∙ rw (known, run.place, add-one (place_of keeps f))
 
-        pub carried-bad : in_range z ≡ false → CarriedRow keeps x r (record { sound = false; place = f; numerators = out })
-        unfolding value
+        pub carried-bad : in_range z ≡ false → Beyond keeps x r f
         carried-bad b =
             record {
-              small = amounts;
-              within = λ t. absurd (clash true tt (of-false true (sym t)));
-              same = λ t. absurd (clash true tt (of-false true (sym t)));
-              zeros = λ g l. run.filled.beyond g (omega arith);
-              beyond = λ t. first-at 0 r (carried_numerator keeps x) f (omega arith) (omega arith) run.filled.passed
+              first = first-at 0 r (carried_numerator keeps x) f (omega arith) (omega arith) run.filled.passed
                   (ap in_range (sym numerator-is) ∙ b);
             }
 

@@ -30,21 +30,15 @@ fn carry_readable(input: &[u8], bytes: &[u8], target: &mut [u8], sizes: Sizes) -
         return Carried::Refused(Refusal::ShortModel, 0);
     }
     let occurs = occurring(input, sizes);
-    let new = read_model(bytes, sizes.booleans, r, occurs);
-    if !new.sound {
-        return Carried::Refused(Refusal::BadModel, new.place);
-    }
-    let halves = new.model.numerators;
-    let back = carried(halves, mask, sizes.rationals);
-    if !back.sound {
-        return Carried::Refused(Refusal::CarriedRange, back.place);
-    }
-    let numerators = back.numerators;
-    let model = Model {
-        booleans: new.model.booleans,
-        numerators: numerators,
-        denominator: new.model.denominator,
+    let new = match read_model(bytes, sizes.booleans, r, occurs) {
+        Ok(new) => new,
+        Err(place) => return Carried::Refused(Refusal::BadModel, place),
     };
+    let numerators = match carried(new.numerators, mask, sizes.rationals) {
+        Ok(numerators) => numerators,
+        Err(variable) => return Carried::Refused(Refusal::CarriedRange, variable),
+    };
+    let model = Model { numerators, ..new };
     write_model(target, sizes.booleans, sizes.rationals, occurs, model);
     Carried::Done
 }

@@ -1,7 +1,6 @@
 -- `carry::carry_readable` meets its contract: a law for each return. Assumes nothing.
 use Prim.Native.Nat.{◌≤◌}
 use native.Mathlib.Omega.{arith}
-use borrow.Author.Tests.{not-true, not-false}
 use lib.ListN.{length}
 use Rattle.rules_types.specs.Limits as limit
 use Rattle.theory_bytes.specs.Bytes.{all-bytes}
@@ -10,7 +9,7 @@ use Rattle.kept_rationals.specs.Kept.{inside}
 use Rattle.carrying_back.specs.Carry.{gives, NewRationals, gives-many, gives-short, gives-no-room, NewModel, gives-bad, gives-beyond}
 use Rattle.carrying_back.specs.Carry.{gives-done}
 use Rattle.carrying_back.proofs.carry.carry_readable.Goals as goal
-use Rattle.carrying_back.proofs.carry.carry_readable.Goals.{After-place_of-r, After-read_model-new}
+use Rattle.carrying_back.proofs.carry.carry_readable.Goals.{After-place_of-r, After-occurring-occurs}
 
 -- how many rational variables the new problem has
 new-rationals : (p : After-place_of-r) → NewRationals p.args.input.now p.args.sizes (inside p.gather-mask.result.mask) p.place_of-r.result
@@ -37,51 +36,35 @@ returns-then-bytes-lt-MODEL_BYTES c =
           record { value = t.0; target_after = t.1 }
     ]
 
--- the model that was read for it
-module _ (m : After-read_model-new) where
+-- the model that is read for it
+module _ (m : After-occurring-occurs) where
   room : limit.model_bytes ≤ length m.args.target.now
   room = m.if-target-lt-MODEL_BYTES.false
 
   new-model : NewModel m.args.input.now m.args.bytes.now m.args.target.now m.args.sizes
-      (inside m.gather-mask.result.mask) (outside m.occurring-occurs.result) m.place_of-r.result m.read_model-new.result
+      (inside m.gather-mask.result.mask) (outside m.occurring-occurs.result) m.place_of-r.result
   new-model = record {
-    rationals = new-rationals (goal.at.After-read_model-new m).After-place_of-r;
-    all = all-bytes m.args.input.now (λ i. omega (arith, m.shared_slice_known-1.given i));
+    rationals = new-rationals (goal.at.After-occurring-occurs m).After-place_of-r;
+    all = all-bytes m.args.input.now (λ i. omega (arith, m.type_inv.input i));
     few = m.if-r-gt-RATIONALS.false;
     size = m.if-bytes-lt-MODEL_BYTES.false;
     room = room;
     opened = m.occurring-occurs.ensures;
-    read = m.read_model-new.ensures;
   }
 
-pub returns-then-not-new : goal.returns-then-not-new
-returns-then-not-new c =
-    let t = gives (gives-bad (new-model (goal.at.returns-then-not-new c).After-read_model-new) (not-true _ c.if-not-new.true)) in
+pub returns-in-Err : goal.returns-in-Err
+returns-in-Err c =
+    let t = gives (gives-bad (new-model (goal.at.returns-in-Err c).After-occurring-occurs) _ c.in-Err.ensures) in
     record { value = t.0; target_after = t.1 }
 
-pub carried-back-requires : goal.carried-back-requires
-carried-back-requires c = record {
-  r_le_rationals = c.requires.parsed.rationals;
-  r_bound = omega (arith, c.place_of-r.ensures, c.if-r-gt-RATIONALS.false);
-  amounts = c.read_model-new.ensures.numerators;
-}
-
-pub returns-then-not-back : goal.returns-then-not-back
-returns-then-not-back c =
-    let t = gives (gives-beyond (new-model (goal.at.returns-then-not-back c).After-read_model-new) (not-false _ c.if-not-new.false)
-    c.carried-back.ensures (not-true _ c.if-not-back.true)) in
+pub returns-in-Err-carried : goal.returns-in-Err-carried
+returns-in-Err-carried c =
+    let t = gives (gives-beyond (new-model (goal.at.returns-in-Err-carried c).After-occurring-occurs) c.in-Ok.new c.in-Ok.ensures _
+    c.in-Err-carried.ensures) in
     record { value = t.0; target_after = t.1 }
-
-pub write_model-requires : goal.write_model-requires
-write_model-requires c = record {
-  model_bytes_in_bounds = room (goal.at.write_model-requires c).After-read_model-new;
-  b_le_booleans = c.requires.parsed.booleans;
-  r_le_rationals = c.requires.parsed.rationals;
-  amounts = c.carried-back.ensures.small;
-}
 
 pub returns : goal.returns
 returns c =
-    let t = gives (gives-done (new-model (goal.at.returns c).After-read_model-new) (not-false _ c.if-not-new.false)
-    c.carried-back.ensures (not-false _ c.if-not-back.false) _ c.write_model.ensures) in
+    let t = gives (gives-done (new-model (goal.at.returns c).After-occurring-occurs) c.in-Ok.new c.in-Ok.ensures
+    c.in-Ok-carried.numerators c.in-Ok-carried.ensures _ c.write_model.ensures) in
     record { value = t.0; target_after = t.1 }

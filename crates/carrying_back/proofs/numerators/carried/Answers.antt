@@ -1,13 +1,5 @@
-use mathlib.Core.Path.{◌≡◌, refl, sym, ◌∙◌}
-use mathlib.Core.Bool.{cond}
-use Prim.Native.Nat.{◌+◌}
-use native.Mathlib.Omega.{arith}
-use borrow.Author.Rules.{sfits_of}
-use lib.IntN.{◌-ℤ◌}
-use lib.ListN.{length-set}
-use mir.Syntax.{w64}
-use mir.Val.{to_z, of_z}
-use mir.Facts.{to_z-of_z}
+use Rattle.std.proofs.Common.{◌≡◌, refl, sym, ◌∙◌, cond, ◌+◌, ◌-ℤ◌, arith, rules, length-set, to_z, of_z}
+use Rattle.std.specs.Int.{w64}
 use Rattle.models.specs.Model.{value}
 use Rattle.kept_rationals.specs.Kept.{inside}
 use Rattle.carrying_back.specs.Numerators.{carried_none, carried-done, halves-within, carried-bad, carried-more}
@@ -15,7 +7,7 @@ use Rattle.carrying_back.proofs.numerators.carried.Goals as goal
 use Rattle.carrying_back.proofs.numerators.carried.Goals.{After-member, After-numerator-z}
 
 pub loop-f-init : goal.loop-f-init
-loop-f-init c = (omega arith, refl, carried_none)
+loop-f-init c = (refl, carried_none)
 
 -- whether the variable at hand is kept, and its numerator
 is-kept : (c : After-member) → c.member.result ≡ inside c.args.mask c.loop-f.f
@@ -25,36 +17,34 @@ is-kept c = c.member.ensures
 numerator-is : (c : After-numerator-z) → to_z w64 (of_z w64 c.numerator-z.result)
     ≡ cond c.member.result (value c.args.numerators c.loop-f.at)
     (value c.args.numerators c.loop-f.at -ℤ value c.args.numerators (c.loop-f.at + 1))
-numerator-is c = to_z-of_z {w = w64} (sfits_of c.numerator-z.type_inv) ∙ c.numerator-z.ensures
+numerator-is c = search rules
 
 pub numerator-z-requires : goal.numerator-z-requires
 numerator-z-requires c = record {
-  kept_bound = halves-within c.loop-f.invariant.2 c.args.r c.loop-f-test.true _
+  kept_bound = halves-within c.loop-f.invariant.1 c.args.r c.loop-f-test.true _
       (is-kept c) c.requires.r_bound;
   amounts = c.requires.amounts;
 }
 
 pub returns-then-not-in_range : goal.returns-then-not-in_range
 returns-then-not-in_range c =
-    carried-bad c.loop-f.invariant.2 c.args.r c.loop-f-test.true _ (is-kept (goal.at.returns-then-not-in_range c).After-member) _
+    carried-bad c.loop-f.invariant.1 c.args.r c.loop-f-test.true _ (is-kept (goal.at.returns-then-not-in_range c).After-member) _
     (numerator-is (goal.at.returns-then-not-in_range c).After-numerator-z)
     (sym c.in_range.ensures ∙ c.if-not-in_range.true)
 
 pub overflow_add-at : goal.overflow_add-at
 overflow_add-at c =
     let k = inside c.args.mask c.loop-f.f in
-    omega (arith, c.halves.ensures, halves-within c.loop-f.invariant.2 c.args.r c.loop-f-test.true k refl c.requires.r_bound)
+    omega (arith, c.halves.ensures, halves-within c.loop-f.invariant.1 c.args.r c.loop-f-test.true k refl c.requires.r_bound)
 
 pub loop-f-preserved : goal.loop-f-preserved
 loop-f-preserved c = (
-  omega (arith, c.loop-f-test.true),
-  length-set c.loop-f.out c.loop-f.f (to_z w64 (of_z w64 c.numerator-z.result)) ∙ c.loop-f.invariant.1,
-  carried-more c.loop-f.invariant.2 c.args.r c.loop-f-test.true _ (is-kept (goal.at.loop-f-preserved c).After-member) _
+  length-set c.loop-f.out c.loop-f.f (to_z w64 (of_z w64 c.numerator-z.result)) ∙ c.loop-f.invariant.0,
+  carried-more c.loop-f.invariant.1 c.args.r c.loop-f-test.true _ (is-kept (goal.at.loop-f-preserved c).After-member) _
       (numerator-is (goal.at.loop-f-preserved c).After-numerator-z)
       (sym c.in_range.ensures ∙ c.if-not-in_range.false)
-      (omega (arith, c.loop-f.invariant.1, c.loop-f-test.true, c.requires.r_le_rationals)) _ c.halves.ensures,
+      (omega arith) _ c.halves.ensures,
 )
 
 pub returns : goal.returns
-returns c =
-    carried-done c.loop-f.invariant.2 c.args.r (omega (arith, c.loop-f.invariant.0, c.loop-f-test.false))
+returns c = carried-done c.loop-f.invariant.1 c.args.r (omega arith)
