@@ -83,12 +83,9 @@ pub fn saturated(
     ensures proof_after { proof.new ≡ zeroed run.end.steps limits.steps proof.old }
 {
     let c = run.end;
-    let order = run.order;
-    let w = walk(proof, c.steps, order, r);
-    if !w.written {
+    let Some(m) = walk(proof, c.steps, run.order, r) else {
         return without_model(proof, model, Verdict::Unwritten, c, limits);
-    }
-    let m = w.model;
+    };
     zero(proof, c.steps, limits.steps as usize);
     write_model(model, b, r, occurring, m);
     decided(Verdict::Satisfiable, c)
