@@ -13,6 +13,7 @@ use masks::member;
 use rules_types::limits::Limits;
 
 // Of the variable whose halves stand at a place.
+#[tactic(auto, unfolding(models::specs::Model::value))]
 fn numerator(numerators: [i64; Limits::RATIONALS], at: usize, kept: bool) -> i64
     requires kept_bound { at + cond kept 1 2 ≤ rationals }
     requires amounts { Amounts numerators }

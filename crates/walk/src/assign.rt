@@ -70,7 +70,7 @@ pub fn with_rational(model: Model, f: usize, x: Fraction) -> Option<Model>
     requires in_range { InRange model }
     ensures { SameOrTooLarge result (with_rational f (meaning x) (assignment model)) }
 {
-    let d = model.denominator as u64;
+    let d = u64::from(model.denominator);
     let e = x.denominator;
     let common = lcm(d, e);
     if Limits::AMOUNT < common {
