@@ -19,12 +19,10 @@ numerator-is : (c : After-numerator-z) → to_z w64 (of_z w64 c.numerator-z.resu
     (value c.args.numerators c.loop-f.at -ℤ value c.args.numerators (c.loop-f.at + 1))
 numerator-is c = search rules
 
-pub numerator-z-requires : goal.numerator-z-requires
-numerator-z-requires c = record {
-  kept_bound = halves-within c.loop-f.invariant.1 c.args.r c.loop-f-test.true _
-      (is-kept c) c.requires.r_bound;
-  amounts = c.requires.amounts;
-}
+pub numerator-z-requires-clause-kept_bound : goal.numerator-z-requires-clause-kept_bound
+numerator-z-requires-clause-kept_bound c =
+    halves-within c.loop-f.invariant.1 c.args.r c.loop-f-test.true _ (is-kept (goal.at.numerator-z-requires-clause-kept_bound c).After-member)
+    c.requires.r_bound
 
 pub returns-then-not-in_range : goal.returns-then-not-in_range
 returns-then-not-in_range c =

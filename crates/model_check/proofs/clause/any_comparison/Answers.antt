@@ -1,11 +1,8 @@
 use Rattle.std.proofs.Common.{arith}
 use Rattle.rules_types.specs.Layout.{comparison_bytes}
 use Rattle.problem_scan.specs.Sound.{SoundComparison}
-use Rattle.model_check.specs.Any.{value-within, each_at, asking_start, asking-done, asking-passed, asking-next}
+use Rattle.model_check.specs.Any.{value-within, each_at, asking-done, asking-passed, asking-next}
 use Rattle.model_check.proofs.clause.any_comparison.Goals as goal
-
-pub loop-i-init : goal.loop-i-init
-loop-i-init c = asking_start
 
 pub overflow_add-from : goal.overflow_add-from
 overflow_add-from c =

@@ -3,12 +3,9 @@ use Rattle.rules.specs.Meaning.{literal_holds}
 use Rattle.problem_scan.specs.Values.{behind-is, literal_at}
 use Rattle.problem_clauses.specs.Literals.{literal_of}
 use Rattle.models.specs.Model.{assignment}
-use Rattle.model_check.specs.Any.{asking_start, asking-done, asking-passed, asking-next}
+use Rattle.model_check.specs.Any.{asking-done, asking-passed, asking-next}
 use Rattle.model_check.proofs.clause.any_literal.Goals as goal
 use Rattle.model_check.proofs.clause.any_literal.Goals.{After-literal_holds, Start}
-
-pub loop-i-init : goal.loop-i-init
-loop-i-init c = asking_start
 
 -- the bytes are within the slice
 within : (s : Start) → s.args.from + s.args.count ≤ length s.args.input.now

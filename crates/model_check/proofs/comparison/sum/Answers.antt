@@ -5,12 +5,9 @@ use Rattle.problem_scan.specs.Values.{amount_at, behind-is}
 use Rattle.problem_scan.specs.Sound.{Amount}
 use Rattle.models.specs.Model.{value}
 use Rattle.model_check.specs.Any.{each_at}
-use Rattle.model_check.specs.Sum.{summing_start, summing-done, summing-next}
+use Rattle.model_check.specs.Sum.{summing-done, summing-next}
 use Rattle.model_check.proofs.comparison.sum.Goals as goal
 use Rattle.model_check.proofs.comparison.sum.Goals.{After-amount_at, In-loop-i}
-
-pub loop-i-init : goal.loop-i-init
-loop-i-init c = summing_start c.args.input.now c.args.numerators c.args.from c.args.count
 
 pub overflow_add-from : goal.overflow_add-from
 overflow_add-from c = omega (arith, behind-is 4 c.args.count c.args.from, c.requires.from_in_bounds, c.well_formed)

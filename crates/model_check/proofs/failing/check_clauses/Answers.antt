@@ -1,9 +1,6 @@
 use Rattle.std.proofs.Common.{sym, ◌∙◌}
-use Rattle.model_check.specs.Failing.{checking-start, checking-done, checking-clause, checking-fails, checking-next}
+use Rattle.model_check.specs.Failing.{checking-done, checking-clause, checking-fails, checking-next}
 use Rattle.model_check.proofs.failing.check_clauses.Goals as goal
-
-pub loop-k-init : goal.loop-k-init
-loop-k-init c = checking-start c.requires.sound_clauses
 
 pub clause_holds-requires-clause-sound_clause : goal.clause_holds-requires-clause-sound_clause
 clause_holds-requires-clause-sound_clause c = checking-clause c.loop-k.invariant c.loop-k-test.true

@@ -1,6 +1,6 @@
-use Rattle.std.proofs.Common.{◌≡◌, ap, ◌∙◌, List, ℕ, ◌+◌, ◌<◌, arith, length, set}
+use Rattle.std.proofs.Common.{ap, ◌∙◌, List, ℕ, ◌+◌, ◌<◌, arith, length, set}
 use Rattle.rules.specs.Lists.{tabulate}
-use Rattle.fields.specs.Field.{stored, stored-nothing}
+use Rattle.fields.specs.Field.{stored-nothing}
 use Rattle.models.specs.Encoded.{flag_byte, tabulate-stored}
 use Rattle.models.proofs.encode.put_booleans.Goals as goal
 
@@ -17,9 +17,3 @@ loop-i-preserved c =
     ap (λ (n : ℕ). set l.s (1 + l.i) n) c.boolean_byte.ensures
     ∙ ap (λ (x : List ℕ). set x (1 + l.i) (g l.i)) l.invariant
     ∙ tabulate-stored 1 l.i g t (rw (← l.invariant) k) (omega (arith, c.requires.booleans_in_bounds))
-
-pub returns : goal.returns
-returns c =
-    let l = c.loop-i in
-    let e : l.i ≡ c.args.b = omega arith in
-    l.invariant ∙ ap (λ (n : ℕ). stored 1 (tabulate n (flag_byte c.args.mask c.args.occurring)) c.args.s.now) e

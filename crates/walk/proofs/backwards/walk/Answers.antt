@@ -29,16 +29,13 @@ module _ (i : In-loop-t) where
       let e : l.t ≡ suc t = omega (arith, i.loop-t-test.true) in
       subst (λ (k : ℕ). Walking (variables_of i.args.order) (lines_in i.args.proof.now i.args.n) k l.model) e l.invariant
 
-pub returns-in_err-model : goal.returns-in_err-model
-returns-in_err-model c =
-    let i = (goal.at.returns-in_err-model c).In-loop-t in
+pub returns-in_err-model-clause-by_index : goal.returns-in_err-model-clause-by_index
+returns-in_err-model-clause-by_index c =
+    let i = (goal.at.returns-in_err-model-clause-by_index c).In-loop-t in
     let e = rw c.rational_round.ensures.value at c.in_err-model.ensures in
     let z = narrow-lines c.args.proof.now c.args.n c.args.r c.requires.ready_lines c.requires.narrow in
-    rw c.from_residual.ensures (record {
-      by_index = walking-stop c.requires.ordered (lines_in c.args.proof.now c.args.n) (t i) _ (place i) c.loop-t.model (walking i)
-          c.args.r c.requires.r_le_rationals z e;
-      written_in_range = tt;
-    })
+    rw c.from_residual.ensures (walking-stop c.requires.ordered (lines_in c.args.proof.now c.args.n) (t i) _ (place i) c.loop-t.model
+    (walking i) c.args.r c.requires.r_le_rationals z e)
 
 pub loop-t-preserved : goal.loop-t-preserved
 loop-t-preserved c =
@@ -47,12 +44,8 @@ loop-t-preserved c =
     walking-next c.requires.ordered (lines_in c.args.proof.now c.args.n) (t i) _ (place i) c.loop-t.model (walking i)
     c.in_ok-model.model e
 
-pub returns : goal.returns
-returns c =
+pub returns-clause-by_index : goal.returns-clause-by_index
+returns-clause-by_index c =
     let l = c.loop-t in
     let z : l.t ≡ 0 = omega (arith, c.loop-t-test.false) in
-    let w = rw z at l.invariant in
-    record {
-      by_index = walking-end c.requires.ordered (lines_in c.args.proof.now c.args.n) l.model w c.args.r;
-      written_in_range = w.range;
-    }
+    walking-end c.requires.ordered (lines_in c.args.proof.now c.args.n) l.model (rw z at l.invariant) c.args.r

@@ -19,9 +19,3 @@ loop-i-preserved c =
     let w = subst (λ (t : ℕ). Walking (variables_of o) ls t l.model) e l.invariant in
     walking-next c.requires.ordered ls (boolean_round (l.i - 1)) (boolean (l.i - 1)) (at-boolean o n (l.i - 1) (omega arith)) l.model w
     c.assign_boolean-model.result c.assign_boolean-model.ensures
-
-pub returns : goal.returns
-returns c =
-    let l = c.loop-i in
-    let z : l.i ≡ 0 = omega (arith, c.loop-i-test.false) in
-    rw z at l.invariant

@@ -6,9 +6,6 @@ use Rattle.values.specs.Round.{own_of}
 use Rattle.walk.specs.Reached.{assigned-by}
 use Rattle.walk.proofs.round.assign_rational.Goals as goal
 
-pub returns-in_err-x : goal.returns-in_err-x
-returns-in_err-x c = rw (c.from_residual.ensures, c.in_err-x.ensures)
-
 pub returns : goal.returns
 returns c =
     let v = c.in_ok-x.ensures in
