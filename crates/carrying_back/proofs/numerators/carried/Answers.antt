@@ -21,8 +21,8 @@ numerator-is c = search rules
 
 pub numerator-z-requires-clause-kept_bound : goal.numerator-z-requires-clause-kept_bound
 numerator-z-requires-clause-kept_bound c =
-    halves-within c.loop-f.invariant.1 c.args.r c.loop-f-test.true _ (is-kept (goal.at.numerator-z-requires-clause-kept_bound c).After-member)
-    c.requires.r_bound
+    let k = is-kept (goal.at.numerator-z-requires-clause-kept_bound c).After-member in
+    halves-within c.loop-f.invariant.1 c.args.r c.loop-f-test.true _ k c.requires.r_bound
 
 pub returns-then-not-in_range : goal.returns-then-not-in_range
 returns-then-not-in_range c =
