@@ -1,51 +1,54 @@
--- What is stored at a place of bytes: it is read back, and joins what is stored next to it; and amounts as words of 32 bits.
-use Rattle.std.specs.Prelude.{◌≡◌, refl, Bool, cond, ltb, true, false, List, [], ◌∷◌, ◌++◌, ℤ, pos, negsuc}
-use Rattle.std.specs.Prelude.{nat_abs, length, set, take, drop}
-use Rattle.std.proofs.Common.{sym, ap, ◌∙◌, append_assoc, append-nil, add_assoc, length-append, length-take}
-use Rattle.std.proofs.Common.{length-drop, take-append-drop, length-set, drop-drop, take_at, drop_at, length-take-le, SFits}
-use Prim.Native.Nat.{ℕ, suc, ◌+◌, ◌-◌, ◌/◌, ◌^◌, ◌≤◌, ◌<◌}
+-- What is stored at a place of bytes: it is read back, and joins what is stored next to it; and amounts by the machine's arithmetic.
+use Rattle.std.specs.Prelude.{◌≡◌, refl, true, false, List, [], ◌∷◌, ◌++◌, ℤ, pos, negsuc, nat_abs, ◌-ℤ◌, T, length, set, take, drop}
+use Rattle.std.proofs.Common.{sym, ap, ◌∙◌, subst, append_assoc, append-nil, add_assoc, add-one, ltb-true, length-append, length-take}
+use Rattle.std.proofs.Common.{length-drop, take-append-drop, length-set, drop-drop, take_at, drop_at, length-take-le}
+use Prim.Native.Nat.{ℕ, suc, ◌+◌, ◌-◌, ◌/◌, ◌%◌, ◌^◌, ◌≤◌, ◌<◌}
 use native.Mathlib.Omega.{arith}
-use Rattle.std.specs.Int.{w32, w64, to_le_bytes, cast_signed, cast_unsigned}
+use Rattle.std.specs.Int.Signed.{lt_z}
 use Rattle.std.proofs.lemmas.List.Edits.{sets-eq}
+use Rattle.theory_integers.specs.Difference.{v, #, ◌⊖◌, ≡-by}
 use Rattle.rules.specs.Bytes.{to_bytes, from_unsigned, to_unsigned}
+use Rattle.theory_bytes.specs.Amounts.{from_unsigned-high}
 
 -- the bytes written over those from a place on
 abbrev pub stored : ℕ → List ℕ → List ℕ → List ℕ
 stored at bytes s = take at s ++ bytes ++ drop (at + length bytes) s
 
--- ---- numbers by the bytes that the machine makes of them
-pub le_bytes-2 : (n : ℕ) → take 2 (to_le_bytes w64 n) ≡ to_bytes 2 n
-unfolding to_bytes
-le_bytes-2 n = refl
+-- ---- amounts, as the machine computes them
+pub from_unsigned-minus : (n : ℕ) → 2147483648 ≤ n → n < 2 ^ 32 → pos n -ℤ pos 4294967296 ≡ from_unsigned n
+from_unsigned-minus n h l = ≡-by (# n ⊖ # 4294967296) (v (negsuc (4294967295 - n))) (omega arith) ∙ sym (from_unsigned-high n h)
 
-pub le_bytes-4 : (n : ℕ) → take 4 (to_le_bytes w64 n) ≡ to_bytes 4 n
-unfolding to_bytes
-le_bytes-4 n =
-    let n₂ : n / 65536 ≡ n / 256 / 256 = omega arith in
-    let n₃ : n / 16777216 ≡ n / 256 / 256 / 256 = omega arith in
-    rw (n₂, n₃)
-
--- an amount is a signed word of 32 bits
-pub amount-is : (n : ℕ) → cast_signed w32 n ≡ from_unsigned n
-unfolding from_unsigned
-amount-is n = by (ltb n 2147483648)
-  where
-    by : (b : Bool) → cond b (pos n) (negsuc (4294967296 - suc n)) ≡ cond b (pos n) (negsuc (4294967295 - n))
-    by true = refl
-    by false = let e : 4294967296 - suc n ≡ 4294967295 - n = omega arith in ap negsuc e
-
-pub unsigned-is : (z : ℤ) → nat_abs z < 2 ^ 31 → cast_unsigned w32 z ≡ to_unsigned z
+pub to_unsigned-positive : (z : ℤ) → lt_z z (pos 0) ≡ false → to_unsigned z ≡ nat_abs z
 unfolding to_unsigned
-unsigned-is (pos n) h = refl
-unsigned-is (negsuc n) h = omega arith
+to_unsigned-positive (pos n) t = refl
+to_unsigned-positive (negsuc n) t = absurd (subst T t tt)
 
-pub amount-fits : (z : ℤ) → nat_abs z < 2 ^ 31 → SFits w32 z
-amount-fits (pos n) h = record { sfits = h }
-amount-fits (negsuc n) h = record { sfits = omega arith }
+pub to_unsigned-negative : (z : ℤ) → lt_z z (pos 0) ≡ true → to_unsigned z ≡ 4294967296 - nat_abs z
+unfolding to_unsigned
+to_unsigned-negative (pos n) t = absurd (omega (arith, ltb-true n 0 t))
+to_unsigned-negative (negsuc n) t = omega arith
 
 -- two bytes set leave the length
 pub length-sets : (s : List ℕ) (i x j y : ℕ) → length (set (set s i x) j y) ≡ length s
 length-sets s i x j y = length-set (set s i x) j y ∙ length-set s i x
+
+-- ---- the stores, one byte each
+module _ (at n : ℕ) (s : List ℕ) where
+  pub stored-2 : at + 2 ≤ length s → set (set s at (n % 256)) (at + 1) (n / 256 % 256) ≡ stored at (to_bytes 2 n) s
+  unfolding to_bytes
+  stored-2 h = rw (add-one at) (sets-eq (to_bytes 2 n) s at h)
+
+  pub stored-4 : at + 4 ≤ length s
+      → set (set (set (set s at (n % 256)) (at + 1) (n / 256 % 256)) (at + 2) (n / 65536 % 256)) (at + 3) (n / 16777216 % 256)
+      ≡ stored at (to_bytes 4 n) s
+  unfolding to_bytes
+  stored-4 h =
+      let i₁ : at + 1 ≡ suc at = omega arith in
+      let i₂ : at + 2 ≡ suc (suc at) = omega arith in
+      let i₃ : at + 3 ≡ suc (suc (suc at)) = omega arith in
+      let n₂ : n / 65536 ≡ n / 256 / 256 = omega arith in
+      let n₃ : n / 16777216 ≡ n / 256 / 256 / 256 = omega arith in
+      rw (i₁, i₂, i₃, n₂, n₃) (sets-eq (to_bytes 4 n) s at h)
 
 -- ---- what was stored: as long as before, read at its place, and joined with what is stored next to it
 pub length-stored : (at : ℕ) (bytes s : List ℕ) → at + length bytes ≤ length s → length (stored at bytes s) ≡ length s

@@ -1,7 +1,7 @@
 -- The odd part of a number of 64 bits, and what it leaves of a greatest common divisor.
-use Rattle.std.specs.Prelude.{◌≡◌, refl, ℕ, zero, suc, ◌+◌, ◌*◌, ◌-◌, ◌/◌, ◌%◌, ◌^◌, ◌≤◌, ◌<◌, min}
+use Rattle.std.specs.Prelude.{◌≡◌, refl, ℕ, zero, suc, ◌+◌, ◌*◌, ◌-◌, ◌/◌, ◌%◌, ◌^◌, ◌≤◌, ◌<◌, min, max}
 use Rattle.std.proofs.Common.{sym, ap, ◌∙◌, ⊎_elim, div-one, mul_assoc, mul_comm, mod-eq_of_lt, eq-zero-or-pos, arith, pow-add, pow_mono}
-use Rattle.std.specs.Int.{◌∣◌, abs_diff}
+use Rattle.std.specs.Int.{◌∣◌}
 use Rattle.std.proofs.Math.Nat.{div-div-eq-div-mul, pow-succ', dvd_antisymm, dvd-mul_left_of_dvd, mul-div_cancel', dvd-mul_right, dvd-sub}
 use Rattle.std.proofs.Math.Nat.{dvd-add, le_of_dvd}
 use Rattle.std.specs.Int.Count.{count_trailing_zeros, under}
@@ -126,10 +126,10 @@ pub gcd-shifted : (a b : ℕ) → 0 < a → a < 2 ^ 64 → 0 < b → b < 2 ^ 64 
 gcd-shifted a b h l k m = rw (gcd-twos a b h l k m) (mod-eq_of_lt (omega (arith, le_of_dvd h (gcd-dvdˡ a b))))
 
 -- ---- a difference
-pub gcd-distance : (x y : ℕ) → gcd (min x y) (abs_diff x y) ≡ gcd x y
+pub gcd-distance : (x y : ℕ) → gcd (min x y) (max x y - min x y) ≡ gcd x y
 gcd-distance x y = ⊎_elim
-    (λ h. let e : min x y ≡ x = omega arith in let f : abs_diff x y ≡ y - x = omega arith in rw (f, e) (less x y (omega arith)))
-    (λ h. let e : min x y ≡ y = omega arith in let f : abs_diff x y ≡ x - y = omega arith in
+    (λ h. let e : min x y ≡ x = omega arith in let f : max x y - min x y ≡ y - x = omega arith in rw (f, e) (less x y (omega arith)))
+    (λ h. let e : min x y ≡ y = omega arith in let f : max x y - min x y ≡ x - y = omega arith in
     rw (f, e) (less y x (omega arith) ∙ gcd-comm y x))
     (eq-zero-or-pos (x - y))
   where
@@ -149,8 +149,8 @@ module _ (x y : ℕ) (odd : x % 2 ≡ 1) where
       (λ k. let e : min x (odd_part y) ≡ odd_part y = omega arith in rw e (odd_part-odd y h l))
       (eq-zero-or-pos (x - (odd_part y)))
 
-  pub pass-gcd : gcd (min x (odd_part y)) (abs_diff x (odd_part y)) ≡ gcd x y
+  pub pass-gcd : gcd (min x (odd_part y)) (max x (odd_part y) - min x (odd_part y)) ≡ gcd x y
   pass-gcd = gcd-distance x (odd_part y) ∙ gcd-odd_part x y odd
 
-  pub pass-less : 0 < y → min x (odd_part y) + abs_diff x (odd_part y) < x + y
+  pub pass-less : 0 < y → min x (odd_part y) + (max x (odd_part y) - min x (odd_part y)) < x + y
   pass-less h = omega (arith, odd_part-≤ y)

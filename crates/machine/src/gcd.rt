@@ -1,15 +1,32 @@
 // Greatest common divisors by Stein's binary algorithm: shifts and differences in place of remainders, which cost most.
-ghost use Rattle.std.specs.Prelude.{◌≡◌, ◌%◌, ◌<◌};
+ghost use Rattle.std.specs.Prelude.{◌≡◌, ◌%◌, ◌<◌, ◌-◌, min, max};
 ghost use Rattle.rules.specs.Arithmetic.{gcd};
-ghost use Rattle.machine.specs.Odd.{odd_part};
+ghost use Rattle.machine.specs.Odd.{twos, odd_part};
 
-// The number without its factors 2.
-#[tactic(auto, unfolding(crate::specs::Odd::twos, crate::specs::Odd::odd_part))]
+// How many factors 2 it has, and the number without them.
+fn twos(n: u64) -> u64
+    ensures { result ≡ twos n }
+{
+    u64::trailing_zeros(n) as u64
+}
+
 fn odd_part(n: u64) -> u64
     requires { 0 < n }
     ensures { result ≡ odd_part n }
 {
-    n >> n.trailing_zeros()
+    n >> twos(n)
+}
+
+fn lesser(x: u64, y: u64) -> u64
+    ensures { result ≡ min x y }
+{
+    if x < y { x } else { y }
+}
+
+fn distance(x: u64, y: u64) -> u64
+    ensures { result ≡ max x y - min x y }
+{
+    if x < y { y - x } else { x - y }
 }
 
 // Of an odd number and any other: the other's factors 2 count for nothing, and the difference of two odd numbers is even.
@@ -21,8 +38,8 @@ fn gcd_odd(a: u64, b: u64) -> u64
     let mut y = b;
     while y != 0 {
         let z = odd_part(y);
-        y = x.abs_diff(z);
-        x = x.min(z);
+        y = distance(x, z);
+        x = lesser(x, z);
     }
     x
 }
@@ -37,5 +54,5 @@ pub fn gcd(a: u64, b: u64) -> u64
         return a;
     }
     let odd = gcd_odd(odd_part(a), b);
-    odd << a.trailing_zeros().min(b.trailing_zeros())
+    odd << lesser(twos(a), twos(b))
 }

@@ -6,10 +6,16 @@ ghost use Rattle.rules.specs.Readings.{signed};
 
 use rules_types::limits::Limits;
 
+// The least number has no negation of its width, its successor has.
 pub fn size(z: i64) -> u64
     ensures { result ≡ nat_abs z }
 {
-    z.unsigned_abs()
+    if z < 0 {
+        let next = z + 1;
+        let below = 0 - next;
+        return below as u64 + 1;
+    }
+    z as u64
 }
 
 pub fn is_positive(z: i64) -> bool
@@ -35,10 +41,9 @@ pub fn zero_related(strict: bool, bound: i64) -> bool
     ensures { result ≡ related strict (pos 0) bound }
 {
     if strict {
-        is_positive(bound)
-    } else {
-        !is_negative(bound)
+        return is_positive(bound);
     }
+    !is_negative(bound)
 }
 
 // With its sign turned, or as it is.
@@ -46,13 +51,16 @@ pub fn signed(turned: bool, z: i64) -> i64
     requires { nat_abs z < 2 ^ 63 }
     ensures { result ≡ signed turned z }
 {
-    if turned { -z } else { z }
+    if turned {
+        return 0 - z;
+    }
+    z
 }
 
 // Whether it is an amount.
-#[tactic(auto, unfolding(rules::specs::Problem::in_range))]
 pub fn in_range(z: i64) -> bool
     ensures { result ≡ in_range z }
 {
-    z.unsigned_abs() <= Limits::AMOUNT
+    let limit = Limits::AMOUNT as i64;
+    0 - limit <= z && z <= limit
 }

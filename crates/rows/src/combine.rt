@@ -4,7 +4,6 @@ ghost use Rattle.rules.specs.Arithmetic.{combine};
 ghost use Rattle.theory_vectors.specs.Amounts.{Small, Amounts};
 
 use rules_types::limits::Limits;
-use std::array;
 
 pub fn combine(c: i64, x: i64, a: i64, y: i64) -> i64
     requires small { Small c }
@@ -28,5 +27,13 @@ pub fn combine_rows(
     requires amounts_2 { Amounts ls }
     ensures { result ≡ combine c us a ls }
 {
-    array::from_fn(|i| combine(c, us[i], a, ls[i]))
+    let mut out = [0 as i64; Limits::RATIONALS];
+    let mut i = 0;
+    while i < Limits::RATIONALS {
+        let x = us[i];
+        let y = ls[i];
+        out[i] = combine(c, x, a, y);
+        i += 1;
+    }
+    out
 }

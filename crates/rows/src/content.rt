@@ -5,18 +5,21 @@ ghost use Rattle.rules.specs.Arithmetic.{gcd_all};
 ghost use Rattle.theory_vectors.specs.Constraint.{quotients};
 
 use machine::gcd::gcd;
+use machine::sign::size;
 use rules_types::limits::Limits;
 
 // From the bound on, up to the first divisor that is 1: it stays so.
 pub fn content(row: [i64; Limits::RATIONALS], bound: i64) -> u64
     ensures { result ≡ gcd_all (bound ∷ row) }
 {
-    let mut g = bound.unsigned_abs();
-    for z in row {
+    let mut g = size(bound);
+    let mut i = 0;
+    while i < Limits::RATIONALS {
         if g == 1 {
             return 1;
         }
-        g = gcd(g, z.unsigned_abs());
+        g = gcd(g, size(row[i]));
+        i += 1;
     }
     g
 }
@@ -27,7 +30,10 @@ pub fn quotient(z: i64, g: u64) -> i64
     requires g_bound { g < 2 ^ 63 }
     ensures { result ≡ quot_z z (pos g) }
 {
-    if g == 1 { z } else { z / g as i64 }
+    if g == 1 {
+        return z;
+    }
+    z / g as i64
 }
 
 pub fn divide(row: [i64; Limits::RATIONALS], g: u64) -> [i64; Limits::RATIONALS]
@@ -38,5 +44,12 @@ pub fn divide(row: [i64; Limits::RATIONALS], g: u64) -> [i64; Limits::RATIONALS]
     if g == 1 {
         return row;
     }
-    row.map(|z| quotient(z, g))
+    let mut out = [0 as i64; Limits::RATIONALS];
+    let mut i = 0;
+    while i < Limits::RATIONALS {
+        let z = row[i];
+        out[i] = quotient(z, g);
+        i += 1;
+    }
+    out
 }

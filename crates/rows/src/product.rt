@@ -16,5 +16,5 @@ pub fn scaled(bound: i64, denominator: u32) -> i64
     requires { Small bound }
     ensures { result ≡ bound *ℤ pos denominator }
 {
-    bound * i64::from(denominator)
+    bound * (denominator as i64)
 }

@@ -10,5 +10,12 @@ pub fn turned(row: [i64; Limits::RATIONALS]) -> [i64; Limits::RATIONALS]
     requires { Amounts row }
     ensures { result ≡ map (signed true) row }
 {
-    row.map(|z| signed(true, z))
+    let mut out = [0 as i64; Limits::RATIONALS];
+    let mut i = 0;
+    while i < Limits::RATIONALS {
+        let z = row[i];
+        out[i] = signed(true, z);
+        i += 1;
+    }
+    out
 }

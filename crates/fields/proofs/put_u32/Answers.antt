@@ -1,12 +1,20 @@
 -- `fields::put_u32` meets its contract. Assumes nothing.
-use mathlib.Core.Path.{ap, ◌∙◌}
-use mathlib.Core.List.{List}
-use Prim.Native.Nat.{ℕ}
-use lib.ListN.{take}
-use Rattle.fields.specs.Field.{stored, le_bytes-4}
+use Rattle.fields.specs.Field.{stored-4}
+use native.Mathlib.Omega.{arith}
+use lib.ListN.{length-set}
+use borrow.Author.Rules.{rules}
 use Rattle.fields.proofs.put_u32.Goals as goal
+
+pub bounds-s-at-2 : goal.bounds-s-at-2
+bounds-s-at-2 c = simp length-set (omega arith)
+
+pub bounds-s-at-3 : goal.bounds-s-at-3
+bounds-s-at-3 c = simp length-set (omega arith)
+
+pub bounds-s-at-4 : goal.bounds-s-at-4
+bounds-s-at-4 c = simp length-set (omega arith)
 
 pub returns : goal.returns
 returns c =
-    c.put_bytes.ensures
-    ∙ ap (λ (bytes : List ℕ). stored c.args.at bytes c.args.s.now) (ap (take 4) c.to_le_bytes.ensures ∙ le_bytes-4 c.args.n)
+    rw (c.byte-4.ensures, c.byte-3.ensures, c.byte-2.ensures, c.byte.ensures)
+    (stored-4 c.args.at c.args.n c.args.s.now c.requires)

@@ -2,6 +2,7 @@
 use mathlib.Core.Path.{sym}
 use native.Mathlib.Omega.{arith}
 use Rattle.theory_bytes.specs.Fields.{field_at-1}
+use borrow.Author.Rules.{rules}
 use Rattle.fields.proofs.u8_at.Goals as goal
 
 pub returns : goal.returns

@@ -1,4 +1,4 @@
--- `sign::signed` meets its contract: -z is the number with its sign turned.
+-- `sign::signed` meets its contract: 0 - z is the number with its sign turned.
 use mathlib.Core.Path.{◌≡◌, sym, ap, ◌∙◌}
 use mathlib.Core.Bool.{Bool}
 use native.Mathlib.Omega.{arith}
@@ -23,11 +23,14 @@ module _ (c : Then-turned) where
   negative_fits : SFits w64 (neg_ℤ z)
   negative_fits = fits-size (neg_ℤ z) (omega (arith, abs_neg z, c.requires))
 
+pub overflow_sub-result : goal.overflow_sub-result
+overflow_sub-result c = rw (negative c) (negative_fits c)
+
 pub returns-then-turned : goal.returns-then-turned
 unfolding signed
 returns-then-turned c =
     rw (negative c, to_z-of_z {w = w64} (negative_fits c)) (ap (λ (t : Bool). signed t (z c)) (sym c.if-turned.true))
 
-pub returns-else-turned : goal.returns-else-turned
+pub returns : goal.returns
 unfolding signed
-returns-else-turned c = let z = c.args.z in to_z-of_z {w = w64} c.ranges.z ∙ ap (λ (t : Bool). signed t z) (sym c.if-turned.false)
+returns c = let z = c.args.z in to_z-of_z {w = w64} c.ranges.z ∙ ap (λ (t : Bool). signed t z) (sym c.if-turned.false)
