@@ -21,6 +21,21 @@ pub const KEYWORDS: [&str; 28] = [
     "type", "unsafe", "use", "where", "while",
 ];
 
+/// Names that Rattle gives every file.
+pub const GIVEN: [&str; 6] = ["Option", "Some", "None", "Result", "Ok", "Err"];
+
+/// What may be derived: it changes no layout.
+const DERIVED: [&str; 8] = [
+    "Clone",
+    "Copy",
+    "PartialEq",
+    "Eq",
+    "PartialOrd",
+    "Ord",
+    "Hash",
+    "Debug",
+];
+
 /// The characters of a part that are shown.
 const LONGEST: usize = 80;
 
@@ -86,6 +101,25 @@ impl File {
             parts.push(start..end);
             start = end + 1;
         }
+        parts
+    }
+
+    /// The same of types: a comma in angle brackets parts nothing.
+    pub fn listed_types(&self, part: Part) -> Vec<Part> {
+        let mut parts = Vec::new();
+        let (mut start, mut depth) = (part.start, 0);
+        for i in self.outer(part.clone()) {
+            match self.word(i) {
+                Some(Word::Sign("<")) => depth += 1,
+                Some(Word::Sign(">")) => depth -= 1,
+                Some(Word::Sign(",")) if depth == 0 => {
+                    parts.push(start..i);
+                    start = i + 1;
+                }
+                _ => {}
+            }
+        }
+        parts.extend(Some(start..part.end).filter(|last| !last.is_empty()));
         parts
     }
 
@@ -297,7 +331,8 @@ impl World {
     fn put(&mut self, file: usize, under: &str, i: usize, what: What) -> Result<(), Trouble> {
         let source = &self.files[file];
         let name = source.name(i).unwrap_or_default();
-        if name.is_empty() || KEYWORDS.contains(&name) || plain(name).is_some() {
+        let taken = KEYWORDS.contains(&name) || GIVEN.contains(&name) || plain(name).is_some();
+        if name.is_empty() || taken {
             return Err(source.trouble(i, "a declaration that is not read"));
         }
         match self
@@ -360,7 +395,7 @@ impl World {
         let source = &self.files[file];
         let mut fields = Vec::new();
         let parts = match source.is(open, "(") || source.is(open, "{") {
-            true => source.listed(source.inside(open)),
+            true => source.listed_types(source.inside(open)),
             false => Vec::new(),
         };
         for part in parts {
@@ -380,8 +415,14 @@ impl World {
         let source = &self.files[file];
         let mut variants = Vec::new();
         for part in source.listed(source.inside(open)) {
+            // A number behind it must be one that the byte can be.
+            let end = match source.find(part.clone(), "=") {
+                Some(equals) if numbered(source, equals + 1..part.end) => equals,
+                _ => part.end,
+            };
+            let bare = end == part.start + 1;
             match source.name(part.start) {
-                Some(name) if part.len() == 1 || source.after(part.start + 1) == part.end => {
+                Some(name) if bare || source.after(part.start + 1) == end => {
                     variants.push((name.to_string(), self.fields(file, part.start + 1)?));
                 }
                 _ => return Err(source.trouble(part.start, "a variant that is not read")),
@@ -410,7 +451,8 @@ impl World {
         if !source.is(open, "(") || result.is_some() && !source.is(arrow, "->") {
             return Err(source.trouble(open, "a function that is not read"));
         }
-        let parameters = source.listed(source.inside(open)).into_iter().map(|part| {
+        let parameters = source.listed_types(source.inside(open));
+        let parameters = parameters.into_iter().map(|part| {
             let colon = source.find(part.clone(), ":").unwrap_or(part.end);
             let name = part.start + usize::from(source.is(part.start, "mut"));
             Field {
@@ -461,6 +503,18 @@ impl World {
         Some((named, end))
     }
 
+    /// Whether a path is of std, or of a crate that is not known here.
+    pub fn is_foreign(&self, file: usize, start: usize) -> bool {
+        let source = &self.files[file];
+        let first = source.name(start).unwrap_or_default();
+        let own = format!("{}::{first}", source.module);
+        match self.items.get(&own).map(|item| &item.what) {
+            Some(What::Use(used)) => used[0] == "std",
+            _ if plain(first).is_some() || GIVEN.contains(&first) => false,
+            _ => self.named(file, start).is_none() || first == "std",
+        }
+    }
+
     /// What a path from a crate names.
     fn absolute(&self, krate: &str, path: &[&str]) -> Option<Named<'_>> {
         let first = if path[0] == "crate" { krate } else { path[0] };
@@ -497,9 +551,25 @@ impl World {
 fn read_attribute(attribute: &str, of_file: bool) -> bool {
     match attribute {
         "#![tactic(auto)]" => of_file,
-        "#[unsafe(no_mangle)]" | "#[repr(C)]" | "#[derive(Clone, Copy)]" => true,
-        "#[inline(always)]" => !of_file,
-        _ => attribute.starts_with("#[tactic("),
+        "#[unsafe(no_mangle)]" | "#[repr(C)]" => true,
+        "#[inline(always)]" | "#[inline(never)]" => !of_file,
+        _ => attribute.starts_with("#[tactic(") || derives(attribute),
+    }
+}
+
+fn derives(attribute: &str) -> bool {
+    let names = attribute.strip_prefix("#[derive(");
+    let names = names.and_then(|names| names.strip_suffix(")]"));
+    names.map_or(false, |names| {
+        names.split(',').all(|name| DERIVED.contains(&name.trim()))
+    })
+}
+
+/// Whether a part is a number of a byte.
+fn numbered(source: &File, part: Part) -> bool {
+    match source.word(part.start) {
+        Some(Word::Number(number, None)) => part.len() == 1 && *number < 256,
+        _ => false,
     }
 }
 

@@ -60,9 +60,10 @@ impl Judged {
                     .extend(path.split("::").next().map(str::to_string));
             }
         }
+        let lent = lent(&world, SOLVING)?;
         self.arrays = arrays(&world)?;
         self.too_large();
-        self.lent = lent(&world, SOLVING)?;
+        self.lent = lent;
         self.too_much();
         Ok(())
     }

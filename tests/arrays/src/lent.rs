@@ -1,6 +1,6 @@
 //! What solving is lent: the references that its functions take from outside.
 
-use crate::items::{Field, Function, Item, Named, What, World, KEYWORDS};
+use crate::items::{Field, Function, Item, Named, What, World, GIVEN, KEYWORDS};
 use crate::sizes::{plain, Scope};
 use crate::Trouble;
 use std::collections::BTreeSet;
@@ -49,6 +49,7 @@ fn calls(
     for i in function.body.clone() {
         let name = match source.name(i) {
             Some(name) if KEYWORDS.contains(&name) || plain(name).is_some() => continue,
+            Some(name) if GIVEN.contains(&name) => continue,
             Some(name) if !source.is(i - 1, "::") => name,
             _ => continue,
         };

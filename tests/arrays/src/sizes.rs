@@ -17,6 +17,10 @@ pub enum Kind {
     Reference(Box<Kind>),
     Slice(Box<Kind>),
     Array(Box<Kind>, usize),
+    /// Values side by side.
+    Tuple(Vec<Kind>),
+    /// One value of some, behind a byte that tells which: an Option, or a Result, its value first.
+    Choice(Vec<Kind>),
     /// A struct or an enum, by its full path.
     Declared(String),
 }
@@ -27,6 +31,7 @@ impl Kind {
         match self {
             Kind::Number => true,
             Kind::Array(of, _) => of.guessed(),
+            Kind::Tuple(of) | Kind::Choice(of) => of.iter().any(Kind::guessed),
             _ => false,
         }
     }
@@ -39,6 +44,15 @@ pub fn plain(name: &str) -> Option<usize> {
         "u16" | "i16" => Some(2),
         "u32" | "i32" | "f32" => Some(4),
         "u64" | "i64" | "f64" | "usize" | "isize" => Some(8),
+        _ => None,
+    }
+}
+
+/// How many types a type of Rattle's own is one of.
+fn choices(name: &str) -> Option<usize> {
+    match name {
+        "Option" => Some(1),
+        "Result" => Some(2),
         _ => None,
     }
 }
@@ -123,6 +137,26 @@ impl<'a> Scope<'a> {
         if let Some(bytes) = file.name(i).and_then(plain).filter(|_| part.len() == 1) {
             return Ok(Kind::Plain(bytes));
         }
+        if file.is(i, "(") && file.after(i) == part.end {
+            let of = file.listed_types(file.inside(i)).into_iter();
+            return Ok(Kind::Tuple(
+                of.map(|one| self.kind(one)).collect::<Result<_, _>>()?,
+            ));
+        }
+        if let Some(values) = file.name(i).and_then(choices) {
+            if part.len() < 4 || !file.is(i + 1, "<") || !file.is(part.end - 1, ">") {
+                return Err(unread());
+            }
+            let of = file.listed_types(i + 2..part.end - 1);
+            let of: Vec<Kind> = of
+                .into_iter()
+                .map(|one| self.kind(one))
+                .collect::<Result<_, _>>()?;
+            return match of.len() == values {
+                true => Ok(Kind::Choice(of)),
+                false => Err(unread()),
+            };
+        }
         match self.world.named(self.file, i).ok_or_else(unread)? {
             (Named::Item(path, item), end) if end == part.end || lifetimes(file, end..part.end) => {
                 match &item.what {
@@ -152,6 +186,15 @@ impl<'a> Scope<'a> {
                 let bytes = bytes.ok_or_else(|| self.trouble(i, "larger than any memory"))?;
                 Ok((bytes, alignment))
             }
+            Kind::Tuple(of) => self.beside(0, of, i),
+            Kind::Choice(of) => {
+                let mut whole = (1, 1);
+                for one in of {
+                    let (bytes, alignment) = self.beside(1, std::slice::from_ref(one), i)?;
+                    whole = (whole.0.max(bytes), whole.1.max(alignment));
+                }
+                Ok((aligned(whole.0, whole.1), whole.1))
+            }
             Kind::Declared(path) => {
                 let item = &self.world.items[path];
                 let there = self.deeper(item.file, i)?;
@@ -167,10 +210,16 @@ impl<'a> Scope<'a> {
 
     /// The bytes of fields behind some others.
     fn together(&self, before: usize, fields: &[Field]) -> Result<(usize, usize), Trouble> {
+        let start = fields.first().map_or(0, |field| field.kind.start);
+        let kinds = fields.iter().map(|field| self.kind(field.kind.clone()));
+        self.beside(before, &kinds.collect::<Result<Vec<_>, _>>()?, start)
+    }
+
+    /// The bytes of values behind some others.
+    fn beside(&self, before: usize, kinds: &[Kind], i: usize) -> Result<(usize, usize), Trouble> {
         let mut whole = (before, 1);
-        for field in fields {
-            let kind = self.kind(field.kind.clone())?;
-            let (bytes, alignment) = self.size(&kind, field.kind.start)?;
+        for kind in kinds {
+            let (bytes, alignment) = self.size(kind, i)?;
             whole = (aligned(whole.0, alignment) + bytes, whole.1.max(alignment));
         }
         Ok((aligned(whole.0, whole.1), whole.1))
@@ -182,6 +231,14 @@ impl<'a> Scope<'a> {
             Kind::Reference(_) => Ok(true),
             Kind::Array(of, _) | Kind::Slice(of) => self.refers(of, i),
             Kind::Plain(_) | Kind::Number => Ok(false),
+            Kind::Tuple(of) | Kind::Choice(of) => {
+                for one in of {
+                    if self.refers(one, i)? {
+                        return Ok(true);
+                    }
+                }
+                Ok(false)
+            }
             Kind::Declared(path) => {
                 let item = &self.world.items[path];
                 let there = self.deeper(item.file, i)?;

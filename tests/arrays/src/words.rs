@@ -33,11 +33,11 @@ pub struct Token {
     pub within: Option<usize>,
 }
 
-/// Longer ones first.
+/// Longer ones first. A shift to the right is two words, as two lists of types end by.
 const SIGNS: [&str; 38] = [
-    "..=", "::", "->", "=>", "..", "<<", ">>", "&&", "||", "==", "!=", "<=", ">=", "+=", "-=", "(",
-    ")", "[", "]", "{", "}", "<", ">", ",", ";", ":", ".", "=", "+", "-", "*", "/", "%", "&", "|",
-    "^", "!", "#",
+    "..=", "::", "->", "=>", "..", "<<", "&&", "||", "==", "!=", "<=", ">=", "+=", "-=", "(", ")",
+    "[", "]", "{", "}", "<", ">", ",", ";", ":", ".", "=", "+", "-", "*", "/", "%", "&", "|", "^",
+    "!", "#", "?",
 ];
 
 pub fn tokens(text: &str) -> Result<Vec<Token>, Trouble> {
@@ -176,9 +176,25 @@ impl<'a> Reader<'a> {
         }
     }
 
+    /// Goes behind the bracket that closes one that is open, and gives what stands before it.
+    fn clause(&mut self) -> Result<&'a str, Trouble> {
+        let start = self.at;
+        let mut depth = 1;
+        while depth > 0 {
+            self.taken(|c| c != '{' && c != '}');
+            match self.rest().chars().next() {
+                Some('{') => depth += 1,
+                Some(_) => depth -= 1,
+                None => return Err(self.trouble("what is begun is not ended")),
+            }
+            self.pass(1);
+        }
+        Ok(&self.text[start..self.at - 1])
+    }
+
     /// Passes what a name begins that is said to the prover alone, and says whether it does. It ends
-    /// with the first sign that can end it. A comment, a text or a bracket in it could hide where that
-    /// is, and is not read.
+    /// with the first sign that can end it, a clause with the bracket that closes it. A comment or a
+    /// text in it could hide where that is, and is not read.
     fn ghost(&mut self, name: &str) -> Result<bool, Trouble> {
         let (read, said) = match name {
             "ghost" => {
@@ -187,16 +203,12 @@ impl<'a> Reader<'a> {
             }
             "requires" | "ensures" => {
                 let label = self.until('{')?;
-                let clause = self.until('}')?;
-                (
-                    label.trim().chars().all(name_part) && !clause.contains('{'),
-                    clause,
-                )
+                (label.trim().chars().all(name_part), self.clause()?)
             }
             _ => return Ok(false),
         };
         match read
-            && !["--", "//", "/*", "{-", "\""]
+            && !["--", "//", "/*", "{-", "\"", "'{", "'}"]
                 .iter()
                 .any(|sign| said.contains(sign))
         {
