@@ -1,17 +1,20 @@
 -- The numerators carried back, one variable after another, up to the first that leaves the range.
 use Rattle.std.specs.Prelude.{◌≡◌, refl, Bool, false, cond, List, ℕ, zero, suc, ◌+◌, ◌-◌, ◌≤◌, ◌<◌, ℤ, pos, nat_abs, ◌-ℤ◌, length, get_or}
 use Rattle.std.specs.Prelude.{set, replicate}
-use Rattle.std.proofs.Common.{sym, ap, ◌∙◌, eq-zero-or-pos, arith, leb-true, get_or-set_same, get_or-set_other}
+use Rattle.std.proofs.Common.{sym, ap, ◌∙◌, eq-zero-or-pos, arith, leb-true, get_or-set_same, get_or-set_other, SFits}
 use Rattle.std.proofs.Math.Bool.{true}
 use Rattle.std.proofs.Math.Logic.{⊎_elim}
 use Rattle.std.proofs.Math.Option.{none, some}
 use Rattle.std.proofs.Math.Numerals.{add-one}
+use Rattle.std.specs.Int.{w64}
 use Rattle.rules_types.specs.Limits as limit
 use Rattle.rules.specs.Problem.{in_range}
 use Rattle.rules.specs.Convert.{place_of, carried_numerator, first_beyond}
 use Rattle.theory_lists.specs.All.{get_or-replicate-same}
-use Rattle.theory_vectors.specs.Amounts.{Amounts}
+use Rattle.theory_integers.specs.Size.{abs-minus-≤}
+use Rattle.theory_vectors.specs.Amounts.{Small, Amounts}
 use Rattle.theory_conversion.specs.Halves.{place_mono}
+use Rattle.machine.specs.Signed.{fits-size}
 use Rattle.models.specs.Model.{value}
 use Rattle.models.specs.Fields.{Filled, filled_none, filled_more}
 use Rattle.kept_rationals.specs.Kept.{place-next}
@@ -26,6 +29,14 @@ pub record CarriedRow (keeps : ℕ → Bool) (x : ℕ → ℤ) (r : ℕ) (numera
 -- or 22 at the first that is not
 pub record Beyond (keeps : ℕ → Bool) (x : ℕ → ℤ) (r variable : ℕ) : Type 0 where
   pub first : first_beyond 0 r (carried_numerator keeps x) ≡ some variable
+
+-- ---- one numerator
+pub half-least : (t : Bool) → 1 ≤ cond t 1 2
+half-least true = omega arith
+half-least false = omega arith
+
+pub difference-fits : (a b : ℤ) → Small a → Small b → SFits w64 (a -ℤ b)
+difference-fits a b h k = fits-size (a -ℤ b) (omega (arith, abs-minus-≤ a b h k))
 
 -- ---- the first beyond the range, of k from number f on
 all-within : (f k : ℕ) (x : ℕ → ℤ) → ((g : ℕ) → g < f + k → in_range (x g) ≡ true) → first_beyond f k x ≡ none

@@ -4,7 +4,7 @@ use Rattle.std.proofs.Math.Path.{refl, sym, ap, subst⁻¹}
 use Rattle.std.proofs.Common.{◌∙◌, subst, ⊎_elim, le-leb, length-set, get_or-set_same, get_or-set_other, SFits}
 use Rattle.std.proofs.Math.Bool.{true, false}
 use mathlib.Core.List.{List, [], ◌∷◌, ◌++◌, map}
-use Prim.Native.Nat.{ℕ, zero, suc, ◌+◌, ◌≤◌, ◌<◌}
+use Prim.Native.Nat.{ℕ, zero, suc, ◌+◌, ◌^◌, ◌≤◌, ◌<◌}
 use native.Mathlib.Omega.{arith}
 use Rattle.std.proofs.lemmas.Bool.{lt-leb}
 use Rattle.std.proofs.Math.Dec.{leb-zero, leb-suc-zero, leb-suc-suc}
@@ -34,6 +34,12 @@ use Rattle.choosing.specs.declared.counts.Counts.{Counts}
 unfoldable pub one : Bool → ℕ
 one true = 1
 one false = 0
+
+-- a count and one more are a word
+pub one_more : (n m r : ℕ) (b : Bool) → r ≡ one b → n ≡ m → m ≤ limit.most_steps → n + r < 2 ^ 32
+unfolding one
+one_more n m r true e h k = omega arith
+one_more n m r false e h k = omega arith
 
 unfoldable pub cost_at : Counts → ℕ → ℤ
 cost_at c f = cost_of (get_or c.uppers f 0) (get_or c.lowers f 0)

@@ -1,10 +1,10 @@
 -- Signed needs, stated of plain integers, and what the bits of a word hold.
 use mathlib.Core.Path.{◌≡◌}
-use Prim.Native.Nat.{ℕ, ◌*◌, ◌≤◌}
+use Prim.Native.Nat.{ℕ, ◌*◌, ◌^◌, ◌≤◌, ◌<◌}
 use native.Mathlib.Nat.{lt_of_le_of_lt, mul-le-mul}
 use native.Mathlib.Omega.{arith}
 use lib.IntN.{ℤ, pos, neg_ℤ, nat_abs, ◌+ℤ◌, ◌-ℤ◌, ◌*ℤ◌}
-use lib.Signed.{quot_z}
+use lib.Signed.{mag, quot_z}
 use lib.Dec.{lit<}
 use mir.Syntax.{w64}
 use mir.Val.{Fits, SFits, to_z, of_z}
@@ -48,6 +48,10 @@ pub same : (z : ℤ) → nat_abs z ≤ word → to_z w64 (of_z w64 z) ≡ z
 same z h = to_z-of_z (fits-size z (omega arith))
 
 pub ruleset signed = (product-fits, sum_fits, quotient_fits, negation-fits, zero_minus, denominators-fit, twice-fits, natural, denominator)
+
+-- what a call returned, or a field, by the range that comes with it
+pub returned : (z : ℤ) → mag z < 2 ^ 63 → to_z w64 (of_z w64 z) ≡ z
+returned z h = to_z-of_z {w = w64} {z = z} (record { sfits = h })
 
 -- a product of a numerator and a denominator
 pub crossed : (n : ℤ) (d : ℕ) → nat_abs n ≤ amount → d ≤ amount → to_z w64 (of_z w64 (to_z w64 (of_z w64 n) *ℤ to_z w64 d)) ≡ n *ℤ pos d

@@ -148,8 +148,35 @@ subset-bits k a b h l =
     (λ t. sym (mask-bits k (bit_or a b) m) ∙ ap mask (sym (union-bits k a b) ∙ (subset-union k a b).0 t) ∙ mask-bits k b l)
     (λ e. (subset-union k a b).1 (union-bits k a b ∙ ap (bits k) e))
 
+-- ---- without one member
 pub shifted : (n i : ℕ) → n / 2 ^ suc i ≡ n / 2 / 2 ^ i
 shifted n i = rw (pow-succ' 2 i, ← div-div-eq-div-mul n 2 (2 ^ i))
+
+-- its power is taken away, or is not there
+pub member-≤ : (n i : ℕ) → n / 2 ^ i % 2 ≡ 1 → 2 ^ i ≤ n
+member-≤ n zero e = omega (arith, div-one n)
+member-≤ n (suc i) e = omega (arith, pow-succ' 2 i, member-≤ (n / 2) i (rw (← shifted n i) e))
+
+pub excluding-member : (k n i : ℕ) → n / 2 ^ i % 2 ≡ 1 → excluding i (bits k n) ≡ bits k (n - 2 ^ i)
+unfolding bits excluding
+excluding-member zero n i e = refl
+excluding-member (suc k) n zero e =
+    let o : n % 2 ≡ 1 = omega (arith, div-one n) in
+    let d : (n - 1) % 2 ≡ 0 = omega arith in
+    let q : (n - 1) / 2 ≡ n / 2 = omega arith in
+    rw (d, q)
+excluding-member (suc k) n (suc i) e =
+    let s : n / 2 / 2 ^ i % 2 ≡ 1 = rw (← shifted n i) e in
+    let l : 2 ^ i ≤ n / 2 = member-≤ (n / 2) i s in
+    let d : (n - 2 * 2 ^ i) % 2 ≡ n % 2 = omega arith in
+    let q : (n - 2 * 2 ^ i) / 2 ≡ n / 2 - 2 ^ i = omega arith in
+    rw (pow-succ' 2 i, d, q, ← excluding-member k (n / 2) i s)
+
+pub excluding-other : (k n i : ℕ) → eqb (n / 2 ^ i % 2) 1 ≡ false → excluding i (bits k n) ≡ bits k n
+unfolding bits excluding
+excluding-other zero n i e = refl
+excluding-other (suc k) n zero e = let o : eqb (n % 2) 1 ≡ false = rw (div-one n) at e in rw o
+excluding-other (suc k) n (suc i) e = ap (λ (s : Booleans). eqb (n % 2) 1 ∷ s) (excluding-other k (n / 2) i (rw (← shifted n i) e))
 
 -- with all digits of m, which are 1
 and-ones : (k n m : ℕ) → m + 1 ≡ 2 ^ k → bits k (bit_and n m) ≡ bits k n
@@ -161,7 +188,7 @@ and-ones (suc k) n m e =
     let l : min (n % 2) 1 ≡ n % 2 = omega (arith, digit-< n) in
     rw (r.0, r.1, o, l, and-ones k (n / 2) (m / 2) (omega (arith, pow-succ' 2 k)))
 
--- without one member: all digits but its own are kept
+-- all digits but its own are kept
 pub excluding-bits : (k n i m : ℕ) → m + 2 ^ i + 1 ≡ 2 ^ k → excluding i (bits k n) ≡ bits k (bit_and n m)
 unfolding bits excluding
 excluding-bits zero n i m e = refl
@@ -176,12 +203,13 @@ excluding-bits (suc k) n (suc i) m e =
     let l : min (n % 2) 1 ≡ n % 2 = omega (arith, digit-< n) in
     rw (r.0, r.1, o, l, ← excluding-bits k (n / 2) i (m / 2) (omega (arith, pow-succ' 2 k, pow-succ' 2 i)))
 
--- a power of two of 32 bits, as a shift makes it
+-- ---- a power of two of 32 bits
 pub power-< : (i : ℕ) → i < limit.all_booleans → 2 ^ i < 2 ^ limit.all_booleans
 power-< i h =
     let p : 0 < 2 ^ i = omega (arith, pow_mono {i = 0} {j = i} (omega arith)) in
     omega (arith, pow-succ' 2 i, pow_mono {i = suc i} {j = limit.all_booleans} h)
 
+-- as a shift makes it
 pub shift_is : (i : ℕ) → i < limit.all_booleans → 1 * 2 ^ i % 4294967296 ≡ 2 ^ i
 shift_is i h = omega (arith, power-< i h)
 

@@ -1,8 +1,8 @@
 -- The digits that io spells are the decimal of the definitions.
-use Rattle.std.specs.Prelude.{◌≡◌, refl, true, false, [], ◌∷◌, ℕ, zero, suc, ◌+◌, ◌-◌, ◌/◌, ◌%◌, ◌^◌, ◌≤◌, ◌<◌, ℤ, pos, negsuc}
-use Rattle.std.specs.Prelude.{nat_abs, T}
-use Rattle.std.proofs.Common.{subst, arith, lt-ltb, le-ltb, ltb-true}
-use Rattle.std.proofs.Math.Nat.{pow-succ'}
+use Rattle.std.specs.Prelude.{◌≡◌, refl, Bool, true, false, [], ◌∷◌, ℕ, zero, suc, ◌+◌, ◌-◌, ◌/◌, ◌%◌, ◌^◌, ◌≤◌, ◌<◌, ℤ, pos, negsuc}
+use Rattle.std.specs.Prelude.{nat_abs, T, ltb}
+use Rattle.std.proofs.Common.{subst, arith, lt-ltb, le-ltb, ltb-true, ltb-false}
+use Rattle.std.proofs.Math.Nat.{pow-succ', pow-le-pow_right}
 use Rattle.std.specs.Int.Signed.{lt_z}
 use Rattle.rules.specs.Print.{ascii, digits_within, decimal, signed_decimal}
 use Rattle.io.specs.Digits.{hex_digit_ascii, last_digits, IsDigitCount}
@@ -44,6 +44,17 @@ spelled (suc (suc k)) (suc m) n h f =
 pub decimal-digits : (k n : ℕ) → IsDigitCount 10 1 n k → last_digits 10 k n ≡ decimal n
 unfolding decimal
 decimal-digits k n f = spelled k n n (omega arith) f
+
+-- a word of 64 bits has at most 20 digits
+pub few-digits : (k n : ℕ) → n < 2 ^ 64 → IsDigitCount 10 1 n k → k ≤ 20
+few-digits k n h f = by (ltb 20 k) refl
+  where
+    by : (b : Bool) → ltb 20 k ≡ b → k ≤ 20
+    by true e =
+        let l = ltb-true 20 k e in
+        let g : 10 ^ 20 ≤ 10 ^ (k - 1) = pow-le-pow_right (omega arith) {i = 20} {j = k - 1} (omega arith) in
+        absurd (omega (arith, f.2 (omega arith)))
+    by false e = ltb-false 20 k e
 
 -- ---- by the machine's sign
 pub signed-positive : (z : ℤ) → lt_z z (pos 0) ≡ false → signed_decimal z ≡ decimal (nat_abs z)

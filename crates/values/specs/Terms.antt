@@ -1,13 +1,16 @@
--- Sums of coefficient × numerator, from a term on.
-use Rattle.std.specs.Prelude.{◌≡◌, List, ℤ, pos, ◌+ℤ◌, ◌*ℤ◌, length, drop}
+-- Sums of coefficient × numerator, from a term on, and their widths.
+use Rattle.std.specs.Prelude.{◌≡◌, List, ℤ, pos, nat_abs, ◌+ℤ◌, ◌*ℤ◌, length, drop}
 use Rattle.std.proofs.Math.Path.{ap}
-use Prim.Native.Nat.{ℕ, suc, ◌+◌, ◌<◌}
+use Prim.Native.Nat.{ℕ, suc, ◌+◌, ◌*◌, ◌≤◌, ◌<◌}
 use native.Mathlib.Omega.{arith}
 use Rattle.std.proofs.Math.ListN.{get_or}
 use Rattle.std.proofs.Common.{drop-cons}
 use Rattle.std.proofs.Math.Seq.{drop-length}
+use Rattle.theory_integers.specs.Size.{abs-+-≤}
 use Rattle.rules.specs.Arithmetic.{sum}
 use Rattle.theory_vectors.specs.Dot.{sum-values}
+use Rattle.theory_vectors.specs.Amounts.{Amounts}
+use Rattle.rows.specs.Products.{product-≤}
 use Rattle.models.specs.Model.{value}
 
 -- the terms from place i on
@@ -36,3 +39,15 @@ module _ (row numerators : List ℤ) where
       where
         shift : (f : ℕ) → i + suc f ≡ suc i + f
         shift f = omega arith
+
+    -- a term is at most 10^18 in size
+    pub terms-≤ : (k : ℕ) → Amounts row → Amounts numerators → nat_abs (terms_from row numerators (suc i)) ≤ k * 1000000000000000000
+        → nat_abs (terms_from row numerators i) ≤ suc k * 1000000000000000000
+    unfolding value
+    terms-≤ k a b t =
+        rw terms-more
+        (omega (
+          arith,
+          abs-+-≤ (get_or row i (pos 0) *ℤ value numerators i) (terms_from row numerators (suc i))
+              (product-≤ (get_or row i (pos 0)) (value numerators i) (a.small i) (b.small i)) t,
+        ))

@@ -1,4 +1,4 @@
--- `masks::without` meets its contract: a member's power of two is taken away. Assumes nothing.
+-- `masks::without` meets its contract: all digits but its own are kept. Assumes nothing.
 use mathlib.Core.Path.{sym}
 use native.Mathlib.Omega.{arith}
 use Rattle.rules_types.specs.Limits as limit
