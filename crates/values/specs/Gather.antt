@@ -97,6 +97,10 @@ abbrev pub GatheredIn : Option Bounds → Assignment → RationalRound → List 
 GatheredIn None χ current ls = exceeding χ current ls ≡ true
 GatheredIn (Some b) χ current ls = CollectedIn b χ current ls
 
+-- a line of the round in which nothing else holds
+unfoldable pub counts : Assignment → RationalRound → rules.Line → Bool
+counts χ current l = belongs current l && not (a_literal_holds χ l)
+
 -- with this line more, whichever lines gave the bounds so far
 abbrev pub WithLine : Bounds → Option Bounds → Assignment → RationalRound → rules.Line → Type 0
 WithLine earlier b χ current l = (ls : List rules.Line) → CollectedIn earlier χ current ls → GatheredIn b χ current (l ∷ ls)
@@ -190,6 +194,36 @@ module _ (χ : Assignment) (current : RationalRound) (l : rules.Line) (ls : List
             by true false i j w = rw (beyond-here positively χ f l mine c (only (positively (rational f) l) ∙ i) given b)
                 (or-true (any_beyond (gather negatively χ f (l ∷ mine))))
             by false false i j w = let z : ◌≡◌ {A = ℕ} 0 1 = cc in absurd (omega arith)
+
+-- a line that counts, and one that does not
+module _ (χ : Assignment) (current : RationalRound) (l : rules.Line) where
+  pub counts-own : belongs current l ≡ true → counts χ current l ≡ not (a_literal_holds χ l)
+  unfolding counts
+  counts-own e = rw e
+
+  pub counts-other : belongs current l ≡ false → counts χ current l ≡ false
+  unfolding counts
+  counts-other e = rw e
+
+  pub counted : counts χ current l ≡ true → (belongs current l ≡ true) × (a_literal_holds χ l ≡ false)
+  unfolding counts
+  counted e = by (belongs current l) (a_literal_holds χ l) refl refl e
+    where
+      by : (a b : Bool) → belongs current l ≡ a → a_literal_holds χ l ≡ b → a && not b ≡ true
+          → (belongs current l ≡ true) × (a_literal_holds χ l ≡ false)
+      by true false i j n = (i, j)
+      by true true i j n = let z : ◌≡◌ {A = ℕ} 0 1 = cc in absurd (omega arith)
+      by false b i j n = let z : ◌≡◌ {A = ℕ} 0 1 = cc in absurd (omega arith)
+
+  pub collected-not : (ls : List rules.Line) (L U : Bound) → Collected χ current ls L U → counts χ current l ≡ false
+      → Collected χ current (l ∷ ls) L U
+  unfolding counts
+  collected-not ls L U h e = by (belongs current l) (a_literal_holds χ l) refl refl e
+    where
+      by : (a b : Bool) → belongs current l ≡ a → a_literal_holds χ l ≡ b → a && not b ≡ false → Collected χ current (l ∷ ls) L U
+      by false b i j n = collected-other χ current l ls L U h i
+      by true true i j n = collected-held χ current l ls L U h i j
+      by true false i j n = let z : ◌≡◌ {A = ℕ} 0 1 = cc in absurd (omega arith)
 
 pub exceeding-front : (χ : Assignment) (current : RationalRound) (j : ℕ) (ls : List rules.Line) → exceeding χ current (drop j ls) ≡ true
     → exceeding χ current ls ≡ true

@@ -1,6 +1,6 @@
 // "For a figure, gather the bounds of its turn's lines in which nothing else holds": the tightest on either side, up to the first
 // that is beyond the range of amounts, where there are none.
-ghost use Rattle.std.specs.Prelude.{◌≡◌, ◌*◌, ◌≤◌, ◌<◌, pos, nat_abs, length, get_or};
+ghost use Rattle.std.specs.Prelude.{◌≡◌, true, ◌*◌, ◌≤◌, ◌<◌, pos, nat_abs, length, get_or};
 ghost use Rattle.rules_types.specs.Limits.{rationals, step_bytes};
 ghost use Rattle.rules.specs.Values.{bound_of};
 ghost use Rattle.theory_bounds.specs.Meets.{rest};
@@ -11,7 +11,7 @@ ghost use Rattle.lines.specs.Line.{constraint_in, meaning, Ready};
 ghost use Rattle.steps.specs.Lines.{lines_in, ReadyLines};
 ghost use Rattle.models.specs.Model.{value, assignment};
 ghost use Rattle.values.specs.Range.{InRange};
-ghost use Rattle.values.specs.Gather.{WithLine, GatheredIn};
+ghost use Rattle.values.specs.Gather.{counts, WithLine, GatheredIn};
 
 use crate::holds::literal_holds;
 use crate::sum::sum;
@@ -53,20 +53,24 @@ fn bound_of(line: Line, f: usize, model: Model) -> Fraction
     Fraction::quotient(n, line.coefficients[f], u64::from(model.denominator))
 }
 
-// The bounds so far, with one line more; none, where its bound is beyond.
+// Whether a line bounds the variable: it is of its round, and nothing else in it holds.
+fn counts(line: Line, current: RationalRound, model: Model) -> bool
+    requires scheduled_rational { ScheduledRational current }
+    requires ready { Ready line }
+    ensures { result ≡ counts (assignment model) current (meaning line) }
+{
+    line.round(current.order) == current.number && !literal_holds(line, model)
+}
+
+// The bounds so far, with one line more that counts; none, where its bound is beyond.
 fn with_line(earlier: Bounds, line: Line, current: RationalRound, model: Model) -> Option<Bounds>
     requires within { Within (bound_meaning earlier.lower) × Within (bound_meaning earlier.upper) }
     requires scheduled_rational { ScheduledRational current }
     requires ready { Ready line }
     requires in_range { InRange model }
+    requires counted { counts (assignment model) current (meaning line) ≡ true }
     ensures { WithLine earlier result (assignment model) current (meaning line) }
 {
-    if line.round(current.order) != current.number {
-        return Some(earlier);
-    }
-    if literal_holds(line, model) {
-        return Some(earlier);
-    }
     let f = current.rational;
     let at = bound_of(line, f, model);
     if at.beyond() {
@@ -88,7 +92,7 @@ fn with_line(earlier: Bounds, line: Line, current: RationalRound, model: Model) 
     })
 }
 
-// From the last line to the first.
+// From the last line to the first. Most are of another round, and leave the bounds where they are.
 pub fn gathered(proof: &[u8], n: usize, current: RationalRound, model: Model) -> Option<Bounds>
     requires n_in_bounds { step_bytes * n ≤ length proof.now }
     requires ready_lines { ReadyLines proof.now n }
@@ -101,7 +105,10 @@ pub fn gathered(proof: &[u8], n: usize, current: RationalRound, model: Model) ->
         upper: None,
     };
     for j in (0..n).rev() {
-        bounds = with_line(bounds, line_at(proof, j), current, model)?;
+        let line = line_at(proof, j);
+        if counts(line, current, model) {
+            bounds = with_line(bounds, line, current, model)?;
+        }
     }
     Some(bounds)
 }

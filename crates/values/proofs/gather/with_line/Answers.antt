@@ -5,7 +5,7 @@ use mathlib.Core.List.{List, ◌∷◌}
 use mathlib.Core.Option.{some}
 use Prim.Native.Nat.{◌<◌}
 use borrow.Author.Rules.{rules}
-use borrow.Author.Tests.{eq-eqb, ne_eqb}
+use borrow.Author.Tests.{eqb-true}
 use lib.IntN.{pos, nat_abs}
 use lib.Dec.{eqb}
 use lib.ListN.{length, get_or}
@@ -23,58 +23,46 @@ use Rattle.models.specs.Model.{assignment}
 use Rattle.values.specs.Round.{belongs}
 use Rattle.values.specs.Constraint.{bound-small}
 use Rattle.values.specs.Leading.{round-coefficient, round-related, round-sides}
-use Rattle.values.specs.Gather.{Collected, CollectedIn, with_lower, with_upper, collected-other, collected-held, collected-more}
+use Rattle.values.specs.Gather.{Collected, CollectedIn, with_lower, with_upper, counted, collected-more}
 use Rattle.values.specs.Gather.{exceeding-here}
 use Rattle.values.proofs.gather.with_line.Goals as goal
-use Rattle.values.proofs.gather.with_line.Goals.{After-has_positive_rational, Else-beyond, Else-literal_holds, Else-round-current, Start}
-
-pub returns-then-round-current : goal.returns-then-round-current
-returns-then-round-current c = λ ls h.
-    let e : belongs c.args.current (meaning c.args.line) ≡ false =
-    rw (← c.round.ensures) (ne_eqb c.round.result c.args.current.number c.if-round-current.true) in
-    collected-other (assignment c.args.model) c.args.current (meaning c.args.line) ls (bound_meaning c.args.earlier.lower)
-    (bound_meaning c.args.earlier.upper) h e
+use Rattle.values.proofs.gather.with_line.Goals.{After-has_positive_rational, Else-beyond, Start}
 
 -- ---- a line of the variable's round
 row-length : (s : Start) → length s.args.line.coefficients ≡ limit.rationals
 row-length s = search (rules, s.well_formed.1.0)
 
-same-round : (c : Else-round-current) → round_of (variables_of c.args.current.order) (meaning c.args.line) ≡ c.args.current.number
-same-round c = sym c.round.ensures ∙ c.if-round-current.false
+own : (c : Start) → belongs c.args.current (meaning c.args.line) ≡ true
+own c = (counted (assignment c.args.model) c.args.current (meaning c.args.line) c.requires.counted).0
 
-own-round : (c : Else-round-current) → belongs c.args.current (meaning c.args.line) ≡ true
-own-round c = eq-eqb (round_of (variables_of c.args.current.order) (meaning c.args.line)) c.args.current.number (same-round c)
+free : (c : Start) → a_literal_holds (assignment c.args.model) (meaning c.args.line) ≡ false
+free c = (counted (assignment c.args.model) c.args.current (meaning c.args.line) c.requires.counted).1
 
-bounded : (c : Else-round-current) → 0 < nat_abs (get_or c.args.line.coefficients c.args.current.rational (pos 0))
+same-round : (c : Start) → round_of (variables_of c.args.current.order) (meaning c.args.line) ≡ c.args.current.number
+same-round c =
+    eqb-true (round_of (variables_of c.args.current.order) (meaning c.args.line)) c.args.current.number (own c)
+
+bounded : (c : Start) → 0 < nat_abs (get_or c.args.line.coefficients c.args.current.rational (pos 0))
 bounded c = round-coefficient c.args.line c.requires.ready.shaped c.args.current c.requires.scheduled_rational (same-round c)
 
-constrained : (c : Else-round-current) → (meaning c.args.line).constraint ≡ some (constraint_in c.args.line)
+constrained : (c : Start) → (meaning c.args.line).constraint ≡ some (constraint_in c.args.line)
 constrained c = constraint-is c.args.line
     (round-related c.args.line c.requires.ready.shaped c.args.current c.requires.scheduled_rational (same-round c))
 
-one_side : (c : Else-round-current) → let v = rational c.args.current.rational in
+one_side : (c : Start) → let v = rational c.args.current.rational in
     negatively v (meaning c.args.line) ≡ not (positively v (meaning c.args.line))
 one_side c = round-sides c.args.line c.requires.ready.shaped c.args.current c.requires.scheduled_rational (same-round c)
 
-pub returns-then-literal_holds : goal.returns-then-literal_holds
-returns-then-literal_holds c = λ ls h.
-    collected-held (assignment c.args.model) c.args.current (meaning c.args.line) ls (bound_meaning c.args.earlier.lower)
-    (bound_meaning c.args.earlier.upper) h (own-round (goal.at.returns-then-literal_holds c).Else-round-current)
-    (sym c.literal_holds.ensures ∙ c.if-literal_holds.true)
-
-free : (c : Else-literal_holds) → a_literal_holds (assignment c.args.model) (meaning c.args.line) ≡ false
-free c = sym c.literal_holds.ensures ∙ c.if-literal_holds.false
-
 pub bound_of-at-requires-clause-nonzero : goal.bound_of-at-requires-clause-nonzero
-bound_of-at-requires-clause-nonzero c = bounded (goal.at.bound_of-at-requires-clause-nonzero c).Else-round-current
+bound_of-at-requires-clause-nonzero c = bounded (goal.at.bound_of-at-requires-clause-nonzero c).Start
 
 pub returns-then-beyond : goal.returns-then-beyond
 returns-then-beyond c = λ ls h.
     exceeding-here (assignment c.args.model) c.args.current (meaning c.args.line) ls (bound_meaning c.args.earlier.lower)
-    (bound_meaning c.args.earlier.upper) h (own-round (goal.at.returns-then-beyond c).Else-round-current)
-    (free (goal.at.returns-then-beyond c).Else-literal_holds) (constraint_in c.args.line)
-    (constrained (goal.at.returns-then-beyond c).Else-round-current)
-    (rw (one_side (goal.at.returns-then-beyond c).Else-round-current)
+    (bound_meaning c.args.earlier.upper) h (own (goal.at.returns-then-beyond c).Start)
+    (free (goal.at.returns-then-beyond c).Start) (constraint_in c.args.line)
+    (constrained (goal.at.returns-then-beyond c).Start)
+    (rw (one_side (goal.at.returns-then-beyond c).Start)
     (or-not_self (positively (rational c.args.current.rational) (meaning c.args.line))))
     (rw (← c.bound_of-at.ensures, ← c.beyond.ensures) c.if-beyond.true)
 
@@ -84,7 +72,7 @@ small c =
     bound-small c.args.line c.args.model c.args.current.rational
     (row-length (goal.at.Else-beyond c).Start) c.requires.scheduled_rational.ranged
     c.requires.ready c.requires.in_range
-    (bounded (goal.at.Else-beyond c).Else-round-current) (rw (← c.bound_of-at.ensures, ← c.beyond.ensures) c.if-beyond.false)
+    (bounded (goal.at.Else-beyond c).Start) (rw (← c.bound_of-at.ensures, ← c.beyond.ensures) c.if-beyond.false)
 
 -- the bounds with the line's on its side
 more : (c : After-has_positive_rational) (t : Bool) → c.has_positive_rational.result ≡ t
@@ -98,10 +86,10 @@ more c t e = λ ls h.
     let p = sym c.has_positive_rational.ensures ∙ e in
     rw c.bound_of-at.ensures
     (collected-more (assignment c.args.model) c.args.current (meaning c.args.line) ls (bound_meaning c.args.earlier.lower)
-    (bound_meaning c.args.earlier.upper) h (own-round (goal.at.After-has_positive_rational c).Else-round-current)
-    (free (goal.at.After-has_positive_rational c).Else-literal_holds) (constraint_in c.args.line)
-    (constrained (goal.at.After-has_positive_rational c).Else-round-current)
-    t p (one_side (goal.at.After-has_positive_rational c).Else-round-current ∙ ap not p)
+    (bound_meaning c.args.earlier.upper) h (own (goal.at.After-has_positive_rational c).Start)
+    (free (goal.at.After-has_positive_rational c).Start) (constraint_in c.args.line)
+    (constrained (goal.at.After-has_positive_rational c).Start)
+    t p (one_side (goal.at.After-has_positive_rational c).Start ∙ ap not p)
     (small (goal.at.After-has_positive_rational c).Else-beyond))
 
 pub tighter-requires : goal.tighter-requires
