@@ -246,14 +246,15 @@ impl Finder<'_> {
         let mut start = semicolon.map_or(body.start, |i| i + 1);
         loop {
             match self.block_end(start..body.end) {
-                Some(end)
-                    if end < body.end && !self.file.is(end, ".") && !self.file.is(end, "?") =>
-                {
-                    start = end;
-                }
+                Some(end) if end < body.end && !self.goes_on(end) => start = end,
                 _ => return start..body.end,
             }
         }
+    }
+
+    /// Whether a method or a `?` follows the block that ends before a token.
+    fn goes_on(&self, end: usize) -> bool {
+        self.file.is(end, ".") || self.file.is(end, "?")
     }
 
     /// The token behind a statement that ends with a block.
@@ -303,10 +304,10 @@ impl Finder<'_> {
         let mut start = inside.start;
         while let Some(arrow) = file.find(start..inside.end, "=>") {
             let value = arrow + 1..inside.end;
-            start = match file.is(value.start, "{") {
-                true => file.after(value.start),
-                false => file.find(value.clone(), ",").unwrap_or(inside.end),
-            };
+            let block = file.is(value.start, "{");
+            let block = Some(file.after(value.start)).filter(|end| block && !self.goes_on(*end));
+            let comma = || file.find(value.clone(), ",").unwrap_or(inside.end);
+            start = block.unwrap_or_else(comma);
             branches.push(value.start..start);
         }
         branches
@@ -380,6 +381,10 @@ impl Finder<'_> {
                     let (bytes, _) = self.scope.size(&kind, i)?;
                     self.put(i, i..self.file.after(i), bytes, kind.guessed());
                 }
+            }
+            // A path that begins with its signs, or with a type.
+            if self.file.is(i, "::") && self.file.name(i - 1).is_none() {
+                return Err(self.file.trouble(i, "a path that is not read"));
             }
             if self.file.name(i).is_some() && !self.file.is(i - 1, "::") {
                 let method = self.file.is(i - 1, ".");
@@ -498,6 +503,12 @@ impl Finder<'_> {
             }
             _ => return Ok(()),
         };
+        // A comma of a closure parts nothing, and what is called may be a local of that name.
+        let closure = |j| file.is(j, "|") && !self.is_index(j);
+        let function = matches!(item.what, What::Function(_));
+        if file.outer(file.inside(end)).any(closure) || function && self.is_local(i) {
+            return Ok(());
+        }
         let there = Scope::new(world, item.file);
         for (number, part) in file.listed(file.inside(end)).into_iter().enumerate() {
             let (field, value) = match file.is(end, "(") {
@@ -518,23 +529,40 @@ impl Finder<'_> {
         Ok(())
     }
 
+    /// Whether a path is one name that this file may give to a local, too.
+    fn is_local(&self, i: usize) -> bool {
+        let file = self.file;
+        let name = file.name(i).unwrap_or_default();
+        let declared = |j: usize| {
+            // Not where it is called or named by a path, a declaration, a field or a use.
+            let behind = ["(", "{", "::"].iter().any(|sign| file.is(j + 1, sign));
+            let before = ["fn", "::", ".", "struct"];
+            let before = before.iter().any(|sign| file.is(j - 1, sign));
+            let group = file.tokens[j].within.filter(|open| *open > 0);
+            let used = group.map_or(false, |open| file.is(open - 1, "::"));
+            file.is(j, name) && !behind && !before && !used
+        };
+        self.path_end(i) == i + 1 && (1..file.tokens.len()).any(declared)
+    }
+
     /// A method: one of these sources, or one of Rattle's own that makes no large array.
     fn method(&mut self, i: usize) -> Result<(), Trouble> {
         let name = self.file.name(i).unwrap_or_default();
-        let own = format!("::{name}");
         let known = METHODS.contains(&name)
             || CHECKED.iter().any(|prefix| name.starts_with(prefix))
-            || self
-                .scope
-                .world
-                .items
-                .keys()
-                .any(|path| path.ends_with(&own));
+            || self.is_own(name);
         match self.file.is(i + 1, "(") {
             true if name == "map" => self.made_by(i, self.receiver(i)),
             true if known => Ok(()),
             _ => Err(self.file.trouble(i, "a method that is not read")),
         }
+    }
+
+    /// Whether a name is one of these sources.
+    fn is_own(&self, name: &str) -> bool {
+        let own = format!("::{name}");
+        let mut paths = self.scope.world.items.keys();
+        paths.any(|path| path.ends_with(&own))
     }
 
     /// Where what a method is called on begins.
@@ -592,10 +620,11 @@ impl Finder<'_> {
         let lists = file
             .name(open - 1)
             .filter(|_| file.is(open.saturating_sub(2), "."));
-        // What goes through a list is none.
-        if lists.map_or(false, |lists| LISTING.contains(&lists))
-            || !self.is_index(open) && file.outer(inside).any(range)
-        {
+        // What goes through a list is none; one of these sources may give back one.
+        let listing = |name| LISTING.contains(&name) && !self.is_own(name);
+        let pattern = file.find(inside.clone(), "let").is_some();
+        let ranges = !self.is_index(open) && !pattern && file.outer(inside).any(range);
+        if ranges || lists.map_or(false, listing) {
             return Ok(Some(Kind::Plain(0)));
         }
         let from = self.told(self.receiver(name)..close + 1)?;
@@ -603,7 +632,8 @@ impl Finder<'_> {
             (Some(Kind::Array(_, length)), Some(body)) => {
                 self.told(body)?.map(|of| Kind::Array(Box::new(of), length))
             }
-            (Some(Kind::Array(..)), None) => None,
+            // What is lent has the methods of what it refers to.
+            (Some(Kind::Array(..)), None) | (Some(Kind::Reference(_)), _) => None,
             (from, _) => from,
         })
     }
@@ -619,7 +649,9 @@ impl Finder<'_> {
                 (of, _) => of,
             };
         }
-        match of {
+        // The widest numbers are counted side by side alone.
+        let plain = |of: &Kind| !(matches!(of, Kind::Tuple(_) | Kind::Choice(_)) && of.guessed());
+        match of.filter(plain) {
             Some(of) => Ok(Kind::Array(Box::new(of), length)),
             None => {
                 let written = self.file.shown(i..self.file.after(i));
@@ -712,7 +744,9 @@ impl Finder<'_> {
                 match &item.what {
                     What::Struct(_) if made => Some(Kind::Declared(path)),
                     What::Constant { kind, .. } if whole => there.kind(kind.clone()).ok(),
-                    What::Function(function) if made => there.kind(function.result.clone()?).ok(),
+                    What::Function(function) if made && !self.is_local(part.start) => {
+                        there.kind(function.result.clone()?).ok()
+                    }
                     _ => None,
                 }
             }

@@ -354,7 +354,16 @@ impl World {
     /// The token behind lifetimes in angle brackets.
     fn past_lifetimes(&self, file: usize, i: usize) -> Result<usize, Trouble> {
         match self.files[file].is(i, "<") {
-            true => Ok(self.sign(file, i, ">")? + 1),
+            true => {
+                let end = self.sign(file, i, ">")?;
+                let source = &self.files[file];
+                // The name of a type or a number would hide one that is declared.
+                let lifetime = |j| source.is(j, ",") || source.word(j) == Some(&Word::Lifetime);
+                match (i + 1..end).all(lifetime) {
+                    true => Ok(end + 1),
+                    false => Err(source.trouble(i, "a declaration that is not read")),
+                }
+            }
             false => Ok(i),
         }
     }
@@ -414,24 +423,27 @@ impl World {
     fn variants(&self, file: usize, open: usize) -> Result<Vec<(String, Vec<Field>)>, Trouble> {
         let source = &self.files[file];
         let mut variants = Vec::new();
+        // One without a number has the next.
+        let mut next = 0;
         for part in source.listed(source.inside(open)) {
             // A number behind it must be one that the byte can be.
-            let end = match source.find(part.clone(), "=") {
-                Some(equals) if numbered(source, equals + 1..part.end) => equals,
-                _ => part.end,
+            let (end, number) = match source.find(part.clone(), "=") {
+                Some(equals) => (equals, of_a_byte(source, equals + 1..part.end)),
+                None => (part.end, Some(next)),
             };
+            if number == Some(256) {
+                return Err(source.trouble(open, "more variants than a byte tells"));
+            }
             let bare = end == part.start + 1;
-            match source.name(part.start) {
-                Some(name) if bare || source.after(part.start + 1) == end => {
+            match (source.name(part.start), number) {
+                (Some(name), Some(number)) if bare || source.after(part.start + 1) == end => {
                     variants.push((name.to_string(), self.fields(file, part.start + 1)?));
+                    next = number + 1;
                 }
                 _ => return Err(source.trouble(part.start, "a variant that is not read")),
             }
         }
-        match variants.len() <= 256 {
-            true => Ok(variants),
-            false => Err(source.trouble(open, "more variants than a byte tells")),
-        }
+        Ok(variants)
     }
 
     fn function(
@@ -565,11 +577,11 @@ fn derives(attribute: &str) -> bool {
     })
 }
 
-/// Whether a part is a number of a byte.
-fn numbered(source: &File, part: Part) -> bool {
+/// The number that a part is, if it is one of a byte.
+fn of_a_byte(source: &File, part: Part) -> Option<i128> {
     match source.word(part.start) {
-        Some(Word::Number(number, None)) => part.len() == 1 && *number < 256,
-        _ => false,
+        Some(Word::Number(number, None)) if part.len() == 1 && *number < 256 => Some(*number),
+        _ => None,
     }
 }
 

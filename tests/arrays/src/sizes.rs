@@ -174,9 +174,9 @@ impl<'a> Scope<'a> {
         match kind {
             Kind::Plain(bytes) => Ok((*bytes, *bytes)),
             Kind::Number => Ok((8, 8)),
-            // To a slice it has two words.
+            // To a slice it has two words, and one to an array may become one.
             Kind::Reference(to) => match **to {
-                Kind::Slice(_) => Ok((16, 8)),
+                Kind::Slice(_) | Kind::Array(..) => Ok((16, 8)),
                 _ => Ok((8, 8)),
             },
             Kind::Slice(_) => Err(self.trouble(i, "a slice has no size of its own")),
