@@ -622,8 +622,10 @@ impl Finder<'_> {
             .filter(|_| file.is(open.saturating_sub(2), "."));
         // What goes through a list is none; one of these sources may give back one.
         let listing = |name| LISTING.contains(&name) && !self.is_own(name);
-        let pattern = file.find(inside.clone(), "let").is_some();
-        let ranges = !self.is_index(open) && !pattern && file.outer(inside).any(range);
+        let branches = ["if", "let", "match"];
+        let branches = branches.map(|word| file.find(inside.clone(), word).is_some());
+        let alone = !self.is_index(open) && branches == [false; 3];
+        let ranges = alone && file.outer(inside).any(range);
         if ranges || lists.map_or(false, listing) {
             return Ok(Some(Kind::Plain(0)));
         }

@@ -120,6 +120,8 @@ const REFUSED: &[(&str, At, &str, &str)] = &[
         fn planted(s: &[u8; 200]) -> Option<u64> { let list = (other(s)?).map(|z| z as u64); Some(list[0]) }", "is not seen"),
     ("elements in place of others, behind a range", Items("rows"),
         "fn planted(a: [u8; 200], y: u8) { let list = (if let 0..=3 = y { a } else { a }).map(|z| z as u64); }", "is not seen"),
+    ("elements in place of others, behind a range that is matched", Items("rows"),
+        "fn planted(a: [u8; 200], y: u8) { let list = (match 0..y { _ => a }).map(|z| z as u64); }", "is not seen"),
     ("an argument behind a closure", Items("rows"),
         "fn other(f: fn(u8, u8) -> u8, list: &[u64], more: &[u8]) {} fn planted() { other(|a, b| a, &[0; 200], &[1]) }",
         "[0; 200] has 1600 bytes"),
